@@ -5,20 +5,20 @@
 //! - `RAFT_FFI_ARCHIVE`: an archive of the library.
 //! - `RATTLE_HEAP_ARCHIVE`: the toolchain's `liblibc_c.a`. It isn't read with the feature `global-allocator`.
 //!
-//! Where an archive isn't there, a warning says how to get it. What links nothing (`cargo check`, `clippy`, `doc`) goes on, on other
-//! machines than those of the library too.
+//! Where an archive isn't there, a warning says how to get it. What links nothing (`cargo check`, `clippy`, `doc`) goes on,
+//! on other machines than those of the library too.
 
 use std::env;
 use std::path::{Path, PathBuf};
 use std::process::Command;
 
-/// Where `rt lib` leaves the archive of the library.
+/// The path at which `rt lib` leaves the archive of the library.
 const LIBRARY: &str = concat!(
     env!("CARGO_MANIFEST_DIR"),
     "/../crates/raft_ffi/out/libraft_ffi.a"
 );
 
-/// What the library is compiled for, as cargo names the parts of a target.
+/// The target that the library is compiled for: the variables in which cargo names its parts, with their values.
 const TARGET: [(&str, &str); 3] = [
     ("CARGO_CFG_TARGET_OS", "linux"),
     ("CARGO_CFG_TARGET_ARCH", "x86_64"),
@@ -45,7 +45,7 @@ fn main() {
     });
     if env::var_os("CARGO_FEATURE_GLOBAL_ALLOCATOR").is_none() {
         link("RATTLE_HEAP_ARCHIVE", || {
-            of_toolchain().unwrap_or_else(|| {
+            toolchain_heap().unwrap_or_else(|| {
                 println!(
                     "cargo::warning=the toolchain's heap isn't found: put `rt` on the PATH, \
                      or take the feature `global-allocator`"
@@ -56,8 +56,8 @@ fn main() {
     }
 }
 
-/// Returns the path of the toolchain's heap, if there is a toolchain.
-fn of_toolchain() -> Option<PathBuf> {
+/// Returns the path of the toolchain's heap, `liblibc_c.a`; `None` where there is no `rt`, or no such file beside its page.
+fn toolchain_heap() -> Option<PathBuf> {
     println!("cargo::rerun-if-env-changed=PATH");
     let page = Command::new("rt").arg("doc").output().ok()?;
     let page = String::from_utf8(page.stdout).ok()?;
@@ -65,7 +65,8 @@ fn of_toolchain() -> Option<PathBuf> {
     archive.is_file().then_some(archive)
 }
 
-/// Links the archive that a variable names, or another one where it isn't set.
+/// Tells cargo to link the archive that a variable names, or, where the variable isn't set, the one that `otherwise` returns. An
+/// archive that the variable names and that isn't there is an error.
 fn link(variable: &str, otherwise: impl FnOnce() -> PathBuf) {
     println!("cargo::rerun-if-env-changed={variable}");
     let archive = match env::var_os(variable).map(PathBuf::from) {

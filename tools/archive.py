@@ -1,7 +1,8 @@
 #!/usr/bin/env python3
-"""Builds the archive of `raft_ffi` over the libraries that `rt ci` has proved and left in `out/`, where `rt lib` would prove them again:
-`tools/archive.py [libraft_ffi.a]`. The compiler proves `raft_ffi` itself anew, by one job: copies of it that share
-the work read the libraries each. It fails where a library isn't there."""
+"""Proves `raft_ffi` and builds its archive: `tools/archive.py [libraft_ffi.a]`, by default crates/raft_ffi/out/libraft_ffi.a.
+
+It uses the libraries below that `rt ci` has proved and left in `out/`; `rt lib` would prove them again. It fails where one of them isn't
+there. `raft_ffi` is proved by one job, since each of several jobs would have to read all libraries."""
 
 import os
 import pathlib
@@ -13,7 +14,7 @@ FOLDER = TOP / "crates/raft_ffi"
 
 
 def kit():
-    """The folder of the toolchain."""
+    """Returns the folder of the toolchain: the one with the page that `rt doc` prints."""
     page = subprocess.run([os.environ.get("RT", "rt"), "doc"], check=True, capture_output=True, text=True)
     return pathlib.Path(page.stdout.strip()).parent
 

@@ -1,12 +1,12 @@
 #!/usr/bin/env python3
-"""The pages of what a reader has to believe.
+"""Makes the pages of what a reader has to believe: the definitions that the proved clauses name.
 
     believe.py            writes docs/BELIEVE.md and docs/BELIEVE_ENGINE.md
     believe.py --check    fails where one of them isn't what the definitions say now
 
-Follows the names from the clauses of `recover`, and from those of the engine's theorem, to the definitions in `specs/`, from those to
-the names that they use, and so on, and lists what it meets, each definition after those that it uses. Names of std, and types of the
-code, are listed by name alone. On the engine's page some names are passed over, each for a reason that is told there (`JOINTS`, `HANDED_ON`).
+It follows the names in the clauses of `recover`, and in those of the engine's theorem, to the definitions in `specs/`, from those to the
+names that they use, and so on. The pages list what it met, each definition after those that it uses. Names of std, and types of the code,
+are listed by name alone. On the engine's page some names aren't followed, each for a reason that the page gives (`JOINTS`, `HANDED_ON`).
 """
 
 import re
@@ -87,7 +87,8 @@ SHOWN = [
 
 
 def in_order(keys, needs, place):
-    """The keys, each behind those that it needs, else as they lie."""
+    """Returns the keys so that each comes after those that it needs, and otherwise in the order of `place`. `needs` has for each key the
+    keys that it needs."""
     done, out = set(), []
 
     def put(key, above):
@@ -105,7 +106,7 @@ def in_order(keys, needs, place):
 
 
 def type_line(crate, place, name):
-    """Where a type of the code is declared."""
+    """Returns the file and the line in which the module `place` of a crate declares a type."""
     for path in sorted((TOP / "crates" / crate / "src").rglob("*.rt")):
         module = "/".join(path.relative_to(TOP / "crates" / crate / "src").with_suffix("").parts)
         if module != place:
@@ -117,11 +118,13 @@ def type_line(crate, place, name):
 
 
 def link(path, at=None):
+    """Returns the path from docs/ to a file, with the anchor of a line."""
     short = path.relative_to(TOP)
     return f"../{short}" + (f"#L{at}" if at else "")
 
 
 def wrapped(text, width=WIDTH):
+    """Returns the lines of a text that is wrapped at a width."""
     lines, line = [], ""
     for word in text.split(" "):
         if line and len(line) + 1 + len(word) > width:
@@ -133,7 +136,7 @@ def wrapped(text, width=WIDTH):
 
 
 def shown(found):
-    """The lines of a definition with their numbers, as code. A comment of one line stands behind the definition's first line, if
+    """Returns the lines of a definition with their numbers, as code. A comment of one line is put behind the definition's first line, if
     both are short."""
     first, lines = found.line, list(found.lines)
     if len(lines) - len(found.code) == 1 and lines[0].startswith("--") and len(lines[0]) + len(lines[1]) <= WIDTH:
@@ -143,7 +146,7 @@ def shown(found):
 
 
 class Listing:
-    """What a reading met, but for what another page has."""
+    """Lists what a reading met, but for what another reading, that of another page, met too."""
 
     def __init__(self, reading, besides=None):
         self.reading = reading
@@ -158,7 +161,7 @@ class Listing:
         self.modules = self.files_in_order()
 
     def files_in_order(self):
-        """The files by crate, lowest first, each behind those of its crate that it needs."""
+        """Returns the modules by crate, lowest first, each after those of its crate that it needs."""
         needs = {}
         for key, others in self.reading.needs.items():
             needs.setdefault(key[0], set()).update(other[0] for other in others if other[0] != key[0])
@@ -170,9 +173,11 @@ class Listing:
         return sorted(files, key=lambda module: place(module)[0])
 
     def size(self):
+        """Returns in words how many definitions are listed, and how many lines of code they have."""
         return f"{len(self.keys)} definitions, {sum(len(self.reading.met[key].code) for key in self.keys)} lines"
 
     def contents(self):
+        """Returns the lines of a list of contents: each crate with its files."""
         by_crate = {}
         for module in self.modules:
             file = self.files[module]
@@ -180,6 +185,7 @@ class Listing:
         return [f"- `{crate}`: " + ", ".join(named) for crate, named in by_crate.items()]
 
     def words(self, where=""):
+        """Returns the lines that name words of libraries, and types of the code. `where` is put behind the sentences that introduce them."""
         out = ["", "## Words of std and of the kit's libraries", "", f"They come with the toolchain, and are listed here by name alone{where}."]
         for given in sorted({crate for crate, _ in self.given}, key=lambda crate: (crate != "std", crate)):
             listed = sorted((name for crate, name in self.given if crate == given), key=lambda n: (n.strip("◌").lower(), n))
@@ -191,6 +197,7 @@ class Listing:
         return [*out, *(f"- of `{crate}`: " + ", ".join(types) for crate, types in named.items()), ""]
 
     def definitions(self):
+        """Returns the lines that show all definitions, file by file."""
         out = []
         for module in self.modules:
             file = self.files[module]
@@ -201,6 +208,7 @@ class Listing:
 
 
 def recovery_page(listing, root):
+    """Returns the text of the page of recovery, and its size in words."""
     size = f"{listing.size()} in {len(listing.modules)} files"
     out = [
         "# What a reader has to believe",
@@ -230,14 +238,14 @@ def recovery_page(listing, root):
 
 
 def promised(title, roots):
-    """The clauses of calls that promise something, with links to the calls."""
+    """Returns the lines for one promise: its title, links to the calls that make it, and their clauses."""
     calls = ", ".join(f"[`{root.call}`]({link(root.path, root.line)})" for root in roots)
     named = (f"// {root.call}\n{root.clauses}" if len(roots) > 1 else root.clauses for root in roots)
     return [f"**{title}**: {calls}", "", "```", *named, "```", ""]
 
 
 def passed_over(everything, page):
-    """The names that the page doesn't follow, each with its reason."""
+    """Returns the lines of a table of the names that aren't followed, each with its reason, and how large the page would be with them."""
     out = ["| not followed | why |", "|---|---|"]
     for name, call in JOINTS.items():
         root = Root(*call)
@@ -250,7 +258,7 @@ def passed_over(everything, page):
 
 
 def check_passed(page):
-    """Fails where a name that is passed over isn't met any more, or doesn't join what it should."""
+    """Ends the program where a name that isn't followed isn't met any more, or no longer joins what it should."""
     for name, call in JOINTS.items():
         module, _, last = name.rpartition(".")
         if (module, last) not in Reading(page.crates, page.files).read([Root(*call)]).met:
@@ -266,7 +274,7 @@ def check_passed(page):
 
 
 def added_by_others(page, recovery):
-    """How many definitions the clauses of other calls add to those of both pages."""
+    """Returns the rows of a table that says how many definitions the clauses of other calls add to those of both pages."""
     shown = {**recovery.met, **page.met}
     out = []
     for title, calls in OTHERS:
@@ -278,6 +286,7 @@ def added_by_others(page, recovery):
 
 
 def engine_page(crates, files, recovery):
+    """Returns the text of the page of the engine, and its size in words."""
     promises = [(title, [Root(*call) for call in calls]) for title, calls in PROMISES]
     roots = [root for _, several in promises for root in several]
     everything = Reading(crates, files).read(roots)
@@ -325,6 +334,7 @@ def engine_page(crates, files, recovery):
 
 
 def pages():
+    """Yields the path of each page, its text, and its size in words."""
     crates = [line.split(":")[0].split()[0] for line in (TOP / "crates.txt").read_text().splitlines() if line and line[0] != "#"]
     files = specs_of(crates)
     root = Root("raft_recover", "src/recovery.rt", "recover")

@@ -1,17 +1,17 @@
 #!/usr/bin/env bash
-# Times recoveries beside raft-engine's, and prints a table in markdown. Builds nothing.
+# Times recoveries by raft_bench and by raft-engine in turns, and prints a table in markdown. Builds nothing.
 #
 #   beside.sh <raft_bench> <raft-engine's program> <folder of logs> [rounds] [malloc.so]
 #
-# Each folder in the folder of logs is a log: files `1.log`, `2.log`, .. of the append queue in version 2, or of the queue and
-# version that the first two words of a file `args` name. In each round (nine, if no number is given) both programs are run in
-# turns on each log, with 1, 2 and 4 workers, each timing 15 recoveries from bytes in memory to finished tables. The best is that of
-# all rounds, the median that of the rounds' medians. With a malloc.so both have it loaded in place of glibc's.
+# Each folder in the folder of logs is a log: files `1.log`, `2.log`, .. of the append queue in version 2, or of the queue and version that
+# the first two words of a file `args` name. In each round (nine by default) both programs are run in turns on each log, with 1, 2 and 4
+# workers. Each run times 15 recoveries, from bytes in memory to finished tables. The best time is that of all rounds, the median time the
+# median of the rounds' medians. With a malloc.so, both programs have it loaded in place of glibc's malloc.
 #
-# The other program is one over raft-engine that times its recovery so:
+# The other program is one over raft-engine that is called as
 #   <program> bench-recover <queue> <version> --workers <n> --repeat 15 <seq>=<path>..
-# and prints lines `recover workers <n> .. best_ms <best> median_ms <median> ..`, and one `recover single thread ..` in the same
-# form, which is taken for one worker. `WORKERS="1 8"` in the environment asks for other numbers of workers.
+# and prints lines `recover workers <n> .. best_ms <best> median_ms <median> ..`, and one `recover single thread ..` in the same form, which
+# counts as that of one worker. Other numbers of workers are given by the environment, as in `WORKERS="1 8"`.
 set -euo pipefail
 
 if [ $# -lt 3 ] || [ $# -gt 5 ]; then
@@ -29,7 +29,7 @@ here=$(cd "$(dirname "$0")" && pwd)
 times=$(mktemp)
 trap 'rm -f "$times"' EXIT
 
-# The queue and version of a log, and a word for each of its files.
+# Prints the queue and the version of a log, and then its files, a line `<seq>=<path>` for each.
 words_of() {
     if [ -r "$1/args" ]; then cut -d ' ' -f 1,2 "$1/args"; else echo append 2; fi
     for path in "$1"/*.log; do
@@ -38,12 +38,13 @@ words_of() {
     done | sort -n
 }
 
-# Runs a program, with the malloc that was asked for.
+# Runs a program, with the malloc that the caller named, if it named one.
 run() {
     if [ -n "$malloc" ]; then LD_PRELOAD=$malloc "$@"; else "$@"; fi
 }
 
-# Keeps a line `log workers who best median` of what a program printed on standard input.
+# Reads from standard input what a program printed, and keeps a line `log workers who best median` of it. $4 is how the line with the times
+# begins.
 keep() {
     awk -v name="$1" -v workers="$2" -v who="$3" -v head="$4" '
         index($0, head) == 1 {
@@ -54,6 +55,7 @@ keep() {
         { echo "beside.sh: no time of $3 on $1 with $2 workers" >&2; exit 1; }
 }
 
+# Prints the load of the machine: over one, five and fifteen minutes.
 load() { cut -d ' ' -f 1-3 /proc/loadavg; }
 
 before=$(load)

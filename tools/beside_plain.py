@@ -1,12 +1,13 @@
 #!/usr/bin/env python3
-"""Runs `raftlog recover --plain`, the program whose contract is the definitions, beside what else says what is owed.
+"""Compares `raftlog recover --plain`, the program whose contract consists of the definitions themselves, with other answers.
 
-    tools/beside_plain.py [PROGRAM]                      over the rows of the tests of recovery, each with its lines; and what an opening
-                                                         of the same files gives, as `raftlog regions` prints it
-    tools/hostile.py --against tools/beside_plain.py     `raftlog recover` over inputs that are made, beside it
+    tools/beside_plain.py [PROGRAM]                      with the expected lines of the tests of recovery; and with what an engine has that
+                                                         is opened over the same files, as `raftlog regions` prints it
+    tools/hostile.py --against tools/beside_plain.py     with `raftlog recover`, over random inputs
 
-The rows are read from the tables of raft_recover_tests: the batches in base 16, of version 1, each with the number of its file, and the
-lines to print, or that they have to be refused. PROGRAM is crates/raftlog/out/raftlog where it isn't given.
+The rows of the tests are read from the tables of raft_recover_tests. A row has batches of version 1 in base 16, each with the number of its
+file, and the lines that recovery has to print, or that it has to refuse them. PROGRAM is crates/raftlog/out/raftlog by default. A line is
+printed for each difference; the status is 1 where there is one.
 """
 import re
 import subprocess
@@ -29,7 +30,8 @@ LIST = re.compile(r"const (\w+): \[Batch; \d+\] = \[(.*?)\];", re.S)
 
 
 def run(program, command, files, queues=None):
-    """The status of a command over files, and what it printed on both outputs. With queues each file is named behind that of its own."""
+    """Runs a command of a program over files, given as pairs of number and bytes, and returns its status and what it printed on both
+    outputs. With `queues` each file is named after an option for its queue."""
     with tempfile.TemporaryDirectory() as folder:
         words = [str(program), *command]
         for place, (seq, data) in enumerate(files):
@@ -41,24 +43,25 @@ def run(program, command, files, queues=None):
 
 
 def plainly(program, words, files):
-    """What the plain program prints over files."""
+    """Returns what the plain program answers to these arguments and files."""
     return run(program, ["recover", "--plain", *words], files)
 
 
 def opened(program, queue, files):
-    """What an engine has that is opened over files of a queue, and one empty file of the other queue."""
+    """Returns what an engine has that is opened over files of a queue and one empty file of the other queue, as `raftlog regions` answers."""
     other = {"append": "rewrite", "rewrite": "append"}[queue]
     return run(program, ["regions", "--format", "1"], [*files, (1, b"")], [queue] * len(files) + [other])
 
 
 def has_markers(files):
-    """Whether files may have group markers."""
+    """Tests whether files may have group markers."""
     return any(MARKER in data for _, data in files)
 
 
 def answer(words, _, files):
-    """What is owed of an input of tools/hostile.py: nothing where it isn't files, and nothing of rewrite files with group markers that
-    several workers read, since what they give is open where a group overlaps others on a region."""
+    """Returns what an input of tools/hostile.py has to give: the bytes to print, or the reasons one of which has to be given. None where
+    the input isn't files; or where several workers read rewrite files with group markers, since the definitions leave the result open where
+    a group overlaps others on a region."""
     if words[0] != "recover" or (words[1] == "rewrite" and words[3] != "1" and has_markers(files)):
         return None
     status, out, err = plainly(RAFTLOG, words[1:], files)
@@ -68,7 +71,7 @@ def answer(words, _, files):
 
 
 class Tables:
-    """The tables of rows in the sources of the tests."""
+    """Reads the tables of rows in the sources of the tests."""
 
     def __init__(self):
         self.texts = [path.read_text() for path in (TABLES / f"{name}.rt" for name in ("batches", "rows", "histories", "truncations"))]
@@ -78,7 +81,7 @@ class Tables:
         self.lists = {name: self.batches_in(text) for name, text in LIST.findall(every)}
 
     def batches_in(self, text):
-        """The batches that a list names or gives, each with the number of its file."""
+        """Returns the batches that a list names or spells out, each with the number of its file."""
         found = []
         for part in re.finditer(rf"{BATCH.pattern}|(\w+)", text):
             seq, named, digits, whole = part.groups()
@@ -89,7 +92,7 @@ class Tables:
         return found
 
     def rows(self):
-        """The queue of each row, its files, and its lines, if it isn't refused."""
+        """Yields for each row its queue, its files, and its lines; None in place of the lines where the files have to be refused."""
         named = {"APPEND": ("append", None, None), "REWRITE": ("rewrite", None, None)}
         for name, body, base in (row.groups() for text in self.texts for row in ROW.finditer(text)):
             queue, batches, lines = named[base]

@@ -1,11 +1,11 @@
 #!/usr/bin/env python3
-"""Has programs in Rattle and in Rust open the folders of each other.
+"""Tests that programs in Rattle and in Rust open each other's folders.
 
     tools/both_folders.py RAFTLOG RAFT_EXAMPLE RUST_EXAMPLES
 
-RUST_EXAMPLES is the folder with the examples of rust/, as cargo builds them (`look`, `ten_lines`). A folder that raft_example wrote is looked
-at and written to from Rust; one that a Rust program wrote until it was killed is checked, dumped and opened in Rattle, and then looked at from Rust. A line for
-each step that finds something else than was written, and status 1.
+RUST_EXAMPLES is the folder with the examples of rust/, as cargo builds them (`look`, `ten_lines`). A folder that raft_example wrote is looked at
+and written to from Rust. One that a Rust program wrote until it was killed is checked, dumped and opened in Rattle, and then looked at from
+Rust. A line is printed for each step that finds something else than was written; the status is 1 where there is one.
 """
 import re
 import signal
@@ -19,14 +19,18 @@ WRITTEN = 50
 
 
 class Steps:
+    """Runs programs, and counts the steps and those that went wrong."""
+
     def __init__(self):
         self.count, self.wrongs = 0, 0
 
     def run(self, *words):
+        """Runs a program, and returns how it ended, with what it printed."""
         return subprocess.run(words, stdin=subprocess.DEVNULL, capture_output=True, text=True, timeout=SECONDS)
 
     def expect(self, about, ended, wanted, statuses=(0,)):
-        """Counts a step, whose run ends well and prints all of these, each a pattern."""
+        """Counts a step. It went wrong if its program ended with a status that is none of `statuses`, or printed nothing that matches one
+        of the patterns in `wanted`; then a line says so."""
         self.count += 1
         lacking = [pattern for pattern in wanted if not re.search(pattern, ended.stdout)]
         if ended.returncode not in statuses or lacking:
@@ -35,7 +39,8 @@ class Steps:
 
 
 def written_until_killed(program, folder):
-    """Has a Rust program write entries to region 7 until it is killed; the first index that it wrote, and the last one that it said."""
+    """Has a Rust program write entries to region 7 until it is killed. Returns the first index that it wrote, and the last one that it
+    printed as written."""
     writer = subprocess.Popen([program, folder], stdin=subprocess.DEVNULL, stdout=subprocess.PIPE, text=True)
     said = []
     for line in writer.stdout:

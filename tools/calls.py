@@ -1,14 +1,14 @@
 #!/usr/bin/env python3
-"""The page of all calls: what the four crates that users import from, raft_files, raft_engine, raft_opening and raft_folder have, each with its signature and
-its first sentence, types with their public fields and their variants.
+"""Makes the page of all calls: what the four crates that users import from have, and raft_files, raft_engine, raft_opening and raft_folder.
+Each call is listed with its signature and the first sentence of its doc, each type also with its public fields or variants.
 
     calls.py            writes docs/CALLS.md
     calls.py --check    fails where that page isn't what the sources say now
 
-What a name stands for is listed once, under the first of these crates that has it, with its module where it isn't at the crate's
-root. A name that stands for two things is listed twice, as `Error` and `codec::Error` are. Of laws, which compute nothing, the names
-alone are listed: docs/DEFINITIONS.md says what they state. Short neighbors share a line. What is under `#[doc(hidden)]`, where it is defined or where its own crate
-hands it on, is left out: it is public for other crates of this repository alone.
+An item is listed once, under the first of these crates that has it, with its module where it isn't at the crate's root. Two items of one name
+are both listed, as `Error` and `codec::Error` are. Laws, which compute nothing, are listed by name alone: docs/DEFINITIONS.md says what they
+state. Short neighbors share a line. An item under `#[doc(hidden)]`, where it is defined or where its own crate re-exports it, is left out: it
+is public for other crates of this repository alone.
 """
 
 import itertools
@@ -31,7 +31,7 @@ ENDS_BLOCK = re.compile(r"^\}", re.M)
 
 
 def doc_above(text, start):
-    """The first sentence of the doc comment above a place."""
+    """Returns the first sentence of the doc comment above a position in a source."""
     lines = []
     for line in reversed(text[:start].rstrip("\n").split("\n")):
         if line.strip().startswith("///"):
@@ -44,7 +44,7 @@ def doc_above(text, start):
 
 
 def signature(text, start):
-    """A function's signature without its contract, on one line."""
+    """Returns a function's signature without its contract, on one line. `start` is a position before its `fn`."""
     depth, at = 0, text.index("fn ", start)
     begun = at
     while True:
@@ -63,7 +63,7 @@ def signature(text, start):
 
 
 def reexports(text, hidden=False):
-    """The pairs of path and name that `pub use` lines hand on, or those of the lines that are hidden from readers."""
+    """Yields the path and the name of each re-export by `pub use`: of those that readers see, or, with `hidden`, of those under `#[doc(hidden)]`."""
     for mark, use in USE.findall(text):
         if bool(mark) != hidden:
             continue
@@ -78,7 +78,7 @@ def reexports(text, hidden=False):
 
 
 class Crate:
-    """A crate's public names: what each is, by its name."""
+    """Finds the public names of a crate, and what each is."""
 
     def __init__(self, name):
         self.name = name
@@ -86,8 +86,8 @@ class Crate:
         self.files = [path.read_text(encoding="utf-8") for path in sorted(self.folder.rglob("*.rt"))]
 
     def names(self, crates, folder="", at=""):
-        """The names that users can import from the crate, or from its module of this folder, each with the crate that defines it and
-        with the path of its module in the user's crate."""
+        """Yields the names that users can import from the crate, or from its module in `folder`: the crate that defines the name, the name,
+        and the path of its module in the user's crate."""
         text = self.module(folder)
         for path, name in reexports(text):
             home = crates.get(path.split("::")[0], self)
@@ -101,12 +101,12 @@ class Crate:
                 yield self, head.group(3), at
 
     def module(self, folder):
-        """The text of the module of the crate that has this folder, of the crate's root without one; nothing where there is none."""
+        """Returns the text of the module in a folder of the crate, of the crate's root without one; an empty text where there is no such module."""
         path = self.folder / f"{folder.rstrip('/') or 'lib'}.rt"
         return path.read_text(encoding="utf-8") if path.exists() else ""
 
     def definition(self, name):
-        """The text of the file in which the crate defines a name, and where; nothing where it doesn't."""
+        """Returns the text of the file in which the crate defines a name, and the match of its head; None where the crate doesn't define it."""
         for text in self.files:
             for head in HEAD.finditer(text):
                 if head.group(3) == name and not head.group(1):
@@ -114,7 +114,7 @@ class Crate:
         return None
 
     def home_of(self, crates, name):
-        """The crate that defines a name which this one has: itself, or one whose name it hands on."""
+        """Returns the crate that defines a name which this one has: itself, or the one from which it re-exports the name."""
         if self.definition(name):
             return self
         for path, handed in itertools.chain.from_iterable(reexports(text) for text in self.files):
@@ -124,17 +124,17 @@ class Crate:
         return self
 
     def is_internal(self, name):
-        """Whether the crate hides a name that it defines from readers."""
+        """Tests whether the crate hides a name that it defines from readers."""
         text, head = self.definition(name)
         return is_hidden(text, head.start()) or any(name == hidden for _, hidden in reexports(self.module(""), hidden=True))
 
     def is_law(self, name):
-        """Whether a name that the crate defines is a law."""
+        """Tests whether a name that the crate defines is a law."""
         text, head = self.definition(name)
         return head.group(2) == "fn" and is_law(text, head.start())
 
     def lines_of(self, name, path):
-        """The lines for a name that the crate defines. Users import it by this path, if it is not at the root."""
+        """Yields the lines for a name that the crate defines. `path` is the module that users import it from, empty for the crate's root."""
         text, head = self.definition(name)
         kind, imported = head.group(2), f" (import `{path}{name}`)" if path else ""
         what = doc_above(text, head.start())
@@ -150,13 +150,14 @@ class Crate:
                     yield from self.methods(other[impl.start():ENDS_BLOCK.search(other, impl.start()).start()], HEAD)
 
     def methods(self, text, pattern):
+        """Yields a line for each method that a pattern finds in a text, but for laws and hidden ones."""
         for method in pattern.finditer(text):
             if not is_law(text, method.start()) and not is_hidden(text, method.start()):
                 yield f"  - `{signature(text, method.start())}`: {doc_above(text, method.start())}"
 
 
 def parts_of(kind, text, head):
-    """A sentence with the public fields of a struct or the variants of an enum, if there are any."""
+    """Returns a sentence with the public fields of a struct or the variants of an enum; an empty text where there are none."""
     begun = head.end()
     if kind not in ("struct", "enum") or ";" in text[begun:text.index("\n", begun)]:
         fields = re.match(r"[^\n;]*\((pub [^;]*)\);", text[begun:]) if kind == "struct" else None
@@ -180,19 +181,19 @@ def parts_of(kind, text, head):
 
 
 def is_law(text, start):
-    """Whether a function's body is empty: then its contract is a law."""
+    """Tests whether the body of a function is empty: then its contract is a law."""
     body = re.compile(r"^( *)\{\}?$|\{\}$|^( *)\{$", re.M).search(text, start)
     return bool(body) and body.group(0).strip() == "{}"
 
 
 def is_hidden(text, start):
-    """Whether the line above a place, or one of the attributes above it, hides it from readers."""
+    """Tests whether an attribute above a position hides it from readers."""
     lines = (line.strip() for line in reversed(text[:start].rstrip("\n").split("\n")))
     return "#[doc(hidden)]" in itertools.takewhile(lambda line: line.startswith("#["), lines)
 
 
 def packed(lines):
-    """The lines, of which short neighbors stand in one: functions, methods, and a type with its only line of methods."""
+    """Returns the lines, with short neighbors joined into one: functions, methods, and a type with its only line of methods."""
     lines = packed_calls(lines)
     out = []
     for line, after in zip(lines, [*lines[1:], ""]):
@@ -205,7 +206,7 @@ def packed(lines):
 
 
 def packed_calls(lines):
-    """The lines, of which neighbors that are no types with methods stand in one, as long as that isn't longer than WIDTH."""
+    """Returns the lines, with neighbors joined that aren't types with methods, as long as the line isn't longer than WIDTH."""
     out, indent = [], None
     for line in lines:
         begun = re.match(r" *- (?=`|\*\*`\w+`\*\* \((?:const|type)\))", line)
@@ -218,7 +219,7 @@ def packed_calls(lines):
 
 
 def page():
-    """The text of the page, and how many items it has."""
+    """Returns the text of the page, and how many items it has."""
     crates = {path.name: Crate(path.name) for path in (TOP / "crates").iterdir() if (path / "src/lib.rt").exists()}
     listed, lines = set(), [
         "# All calls", "",

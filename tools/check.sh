@@ -1,11 +1,18 @@
 #!/usr/bin/env bash
-# The full check: `rt ci`, then what it can't look at: words that aren't UTF-8, `recover --plain` over rows and damaged inputs, the frames
-# of `raftlog` on the stack, runs with little stack, crashes of more histories, writes of `raft_example` that fail half way, what `raftlog` says of damaged
-# folders and what an engine does with them, where there is a C compiler the rows of `raft_refusals` with memory and starts of threads
-# refused, and where there is cargo the tests of rust/, and whether programs in Rust and in Rattle open the folders of each other; first of
-# all whether docs/BELIEVE.md, docs/BELIEVE_ENGINE.md and docs/CALLS.md are what the definitions and the sources say, whether what pages name
-# is there, the declarations of the Rust crate are what the exports are, and each wrong body can be applied. Each step is said as it begins,
-# with its times as it ends, and all of them at the end. The last line is that of `rt ci`, 'N passed, M failed'.
+# The full check. Its steps are, in this order:
+#
+# - docs/BELIEVE.md, docs/BELIEVE_ENGINE.md and docs/CALLS.md are what the definitions and the sources say, what pages name is there, the
+#   declarations of the Rust crate are those of the exports, and each wrong body can be applied;
+# - `rt ci`: proofs, edits that must fail, tests and programs;
+# - arguments that aren't UTF-8, and `recover --plain` over rows and damaged inputs;
+# - the frames of `raftlog` on the stack, and runs with little stack;
+# - crashes in more histories;
+# - writes of `raft_example` that fail half way, what `raftlog` says of damaged folders, and what an engine does with them;
+# - if there is a C compiler, the rows of `raft_refusals` with memory and starts of threads refused;
+# - if there is cargo, the tests of rust/, and whether programs in Rust and in Rattle open each other's folders.
+#
+# It prints the name of a step when it begins and its times when it ends, and all of them at the end. It ends at the first step that fails.
+# The last line is that of `rt ci`, 'N passed, M failed'.
 set -euo pipefail
 cd "$(dirname "$0")/.."
 program=crates/raftlog/out/raftlog
@@ -15,7 +22,7 @@ frame_limit=16384
 room=$(mktemp -d)
 trap 'rm -rf "$room"' EXIT
 
-# Says what begins, and how long what came before it took, by the clock and of the processors.
+# Prints that a step begins, and how long the step before it took: by the clock, and in processor time.
 heading=
 begun=$SECONDS
 used=0

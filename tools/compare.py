@@ -1,13 +1,13 @@
 #!/usr/bin/env python3
-"""Runs `raftlog recover` over a folder of cases and counts those whose answer differs.
+"""Runs `raftlog recover` over a folder of cases, and counts the runs that give another answer than expected.
 
     tools/compare.py CASES [PROGRAM [WORKERS]] [--plain]
 
-A case is a folder with its log files, `args` (a queue, a version, then `<seq>=<path>` for each file) and what is
-owed: `expect`, the lines to print, or `refused`, where nothing is to be printed and the status is to be 1. PROGRAM is
-crates/raftlog/out/raftlog where it isn't given. WORKERS are numbers of workers, as `1,2,4,8`; each case is run with each
-of them, or with 1 where none is given. More than one is for cases whose effects are apart. With --plain the plain
-program runs them, as `raftlog recover --plain` does.
+A case is a folder with log files, a file `args` (a queue, a version, then `<seq>=<path>` for each file) and the expected answer: a file
+`expect` with the lines to print, or a file `refused`, where nothing may be printed and the status has to be 1. PROGRAM is
+crates/raftlog/out/raftlog by default. WORKERS are numbers of workers, such as `1,2,4,8`: each case is run with each of them; by default
+with 1. (In cases with atomic groups that overlap others on a region, more workers may give other answers.) With --plain, `raftlog recover
+--plain` is run. The first differences are printed; the status is 1 where there is one, or no case.
 """
 import os
 import subprocess
@@ -22,7 +22,7 @@ PLAIN = "--plain"
 
 
 def answer(program, workers, case):
-    """The status of the program and what it printed."""
+    """Runs the program on a case, and returns its status and what it printed; None as the status where it doesn't end in time."""
     queue, version, *files = (case / "args").read_text().split()
     option = [PLAIN] if PLAIN in sys.argv else []
     words = [str(program), "recover", *option, queue, version, workers, *files]
@@ -34,7 +34,7 @@ def answer(program, workers, case):
 
 
 def difference(program, workers, case):
-    """How the answer differs from what is owed, if it does."""
+    """Returns how the answer to a case differs from the expected one; None where it doesn't."""
     status, printed = answer(program, workers, case)
     expect = case / "expect"
     if expect.exists():
@@ -47,7 +47,7 @@ def difference(program, workers, case):
 
 
 def differences(program, numbers, case):
-    """How the answers differ, a line for each number of workers that they differ with."""
+    """Returns a line for each number of workers with which the answer to a case differs."""
     found = ((workers, difference(program, workers, case)) for workers in numbers)
     return [f"{case}, {workers} workers: {how}" for workers, how in found if how]
 

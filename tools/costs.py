@@ -1,9 +1,10 @@
 #!/usr/bin/env python3
-"""Proves a crate from nothing by one job, as `rt ci` does, and lists what each of its functions costs, dearest first:
-`tools/costs.py CRATE [--test] [--only PATH].. [--show N]`, as `tools/costs.py raft_recover_tests --test`.
+"""Proves a crate from nothing by one job, as `rt ci` does, and lists how long the proof of each function took, longest first:
+`tools/costs.py CRATE [--test] [--only PATH].. [--show N]`, for example `tools/costs.py raft_recover_tests --test`.
 
-Times are of the processor, so that what runs beside it matters less. The first function that cites a library bears the reading of
-that library's statements; what comes before the first function at all (reading, lowering) has a line of its own."""
+The times are processor times, so that other work on the machine matters less. The time of the first function that cites a library includes
+the reading of that library's statements. What comes before the first function (reading, lowering) is counted with that function, in a
+line that says so."""
 
 import argparse
 import os
@@ -16,13 +17,13 @@ TOP = pathlib.Path(__file__).resolve().parent.parent
 
 
 def kit():
-    """The folder of the toolchain."""
+    """Returns the folder of the toolchain: the one with the page that `rt doc` prints."""
     page = subprocess.run([os.environ.get("RT", "rt"), "doc"], check=True, capture_output=True, text=True)
     return pathlib.Path(page.stdout.strip()).parent
 
 
 def seconds(pid):
-    """The processor time of a process, with that of its children."""
+    """Returns the processor time of a process and all its children, in seconds; 0 where it has ended."""
     try:
         with open(f"/proc/{pid}/stat", encoding="utf-8") as file:
             fields = file.read().rsplit(")", 1)[1].split()
@@ -34,7 +35,8 @@ def seconds(pid):
 
 
 def costs(lines, pid):
-    """What each function cost, by the lines of progress, and what came before the first; the last line last."""
+    """Reads the lines of progress that the process `pid` prints. Returns for each function its time and its name, and the last line. The
+    first function's time includes what came before it."""
     found, before, last = [], 0.0, ""
     for line in lines:
         now = seconds(pid)
@@ -51,10 +53,10 @@ def costs(lines, pid):
 
 def main():
     words = argparse.ArgumentParser(description=__doc__, formatter_class=argparse.RawDescriptionHelpFormatter)
-    words.add_argument("crate")
-    words.add_argument("--test", action="store_true")
-    words.add_argument("--only", action="append", default=[])
-    words.add_argument("--show", type=int, default=30)
+    words.add_argument("crate", help="the name of the crate")
+    words.add_argument("--test", action="store_true", help="prove its tests too")
+    words.add_argument("--only", action="append", default=[], metavar="PATH", help="prove this function alone; may be repeated")
+    words.add_argument("--show", type=int, default=30, metavar="N", help="how many functions to list (default: %(default)s)")
     asked = words.parse_args()
     sys.dont_write_bytecode = True
     sys.path.insert(0, str(kit() / "bin"))

@@ -1,15 +1,15 @@
 #!/usr/bin/env python3
-"""Counts the instructions of phases by valgrind's callgrind, and prints a table of them:
+"""Counts by valgrind's callgrind how many instructions each phase of a program takes, and prints a table:
 
     tools/count_phases.py engine [--times] [REGIONS BATCHES]..     (an engine over files in memory)
     tools/count_phases.py calls [--times] [BLOCKS]..               (the calls of a table)
 
-The phases are those of a program in Rattle, tools/phases/engine.txt or calls.txt, for each shape that is named; and for an engine those
-of rust/examples/phases.rs, where there is cargo. Each phase is counted up to the beginning of the next one, so what is counted doesn't
-depend on what else the computer does. With `--times` the programs run by themselves, and say nanoseconds.
+The program is one in Rattle, tools/phases/engine.txt or calls.txt, which is run once for each shape that is given (REGIONS and BATCHES, or
+BLOCKS), by default for three shapes. For an engine rust/examples/phases.rs is counted too, if there is cargo. Counts don't depend on what else
+the computer does. With `--times` the programs run without callgrind, and the table has nanoseconds.
 
-They are built without a proof, by tools/unproved.py, their checks are taken out, and the hints of the sources put in, by
-tools/unchecked.py. They are built again only where a source has changed, which takes a minute of processor time each."""
+The programs are built without a proof, by tools/unproved.py; tools/unchecked.py takes their checks out, and puts the hints of the sources in.
+They are built again only where a source has changed, which takes a minute of processor time each."""
 
 import hashlib
 import os
@@ -39,7 +39,7 @@ HEADS = {"engine": "{} regions, {} batches of each", "calls": "{} blocks"}
 
 
 def built(out, of, make):
-    """Has a file made, unless it is there and made of just these bytes."""
+    """Has `make` make the file `out`, unless it is there and was made of just these bytes. Returns its path."""
     stamp, wanted = out.with_suffix(".sum"), hashlib.sha256(of).hexdigest()
     if not out.is_file() or not stamp.is_file() or stamp.read_text() != wanted:
         stamp.unlink(missing_ok=True)
@@ -50,12 +50,12 @@ def built(out, of, make):
 
 
 def tools():
-    """The tools that build, as bytes."""
+    """Returns the sources of the tools that build, as bytes."""
     return b"".join((archive.TOP / f"tools/{name}.py").read_bytes() for name in ["unproved", "unchecked"])
 
 
 def in_rattle(kit, name):
-    """A program in Rattle."""
+    """Builds a program of phases in Rattle, if need be, and returns its path."""
     out, source = archive.TOP / f"crates/raft_engine/out/phases_{name}", archive.TOP / f"tools/phases/{name}.txt"
 
     def make():
@@ -75,7 +75,7 @@ def in_rattle(kit, name):
 
 
 def in_rust(kit):
-    """The program of the phases in Rust."""
+    """Builds the program of phases in Rust, if need be, and returns its path."""
     library = archive.FOLDER / "out/libraft_ffi_unchecked.a"
     sources = unproved_program.checksum(kit, archive.FOLDER).encode()
     built(library, sources + tools(), lambda: unproved.make(library, is_checked=False))
@@ -87,7 +87,8 @@ def in_rust(kit):
 
 
 def counted(program, words):
-    """The instructions that each phase of a program takes, by callgrind: one file for what is before each phase, one for the rest."""
+    """Runs a program under callgrind. Returns what it printed, and how many instructions each phase took. callgrind writes one file for
+    what comes before each phase, and one for the rest."""
     with tempfile.TemporaryDirectory(prefix="phases-") as room:
         call = ["valgrind", "--tool=callgrind", f"--callgrind-out-file={room}/out", "--dump-before=*::phase_*"]
         names = {**os.environ, "GLIBC_TUNABLES": BY_VECTORS}
@@ -103,7 +104,7 @@ def counted(program, words):
 
 
 def phases(program, words, is_timed):
-    """The phases of a program, but for those without a name: of each its name, what a unit is, and how much one takes."""
+    """Returns for each phase of a program that has a name: the name, what a unit is, and how many instructions, or nanoseconds, a unit takes."""
     if is_timed:
         said = subprocess.run([program, *words], capture_output=True, text=True, check=True).stdout
         lines = [line.split("\t") for line in said.splitlines()]
@@ -116,7 +117,7 @@ def phases(program, words, is_timed):
 
 
 def print_table(heads, columns):
-    """Prints a table of the same phases of several runs."""
+    """Prints a table with a row for each phase, and a column for each run."""
     print("| " + " | ".join(heads) + " |")
     print("|" + "---|" * len(heads))
     for row in zip(*columns):

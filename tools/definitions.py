@@ -1,4 +1,4 @@
-"""Definitions of `specs/`, and which of them others name. `believe.py` makes its pages by it."""
+"""Reads the definitions in `specs/`, and finds those that others name. `believe.py` makes its pages with it."""
 
 import re
 from pathlib import Path
@@ -15,7 +15,7 @@ STARTS = ("abbrev ", "unfoldable ", "pub ", "record ", "data ")
 
 
 class Definition:
-    """A definition of a file of `specs/`: its lines, with the comment above it."""
+    """A definition in a file of `specs/`: its lines, with the comment above it."""
 
     def __init__(self, place, line, lines):
         self.place = place
@@ -28,8 +28,7 @@ class Definition:
         self.bound = self.bound_names(kind, body)
 
     def lines_but(self, passed):
-        """The lines of code whose names are followed: none of a definition that is passed over, and of a record those of the
-        fields that aren't."""
+        """Returns the lines of code whose names are followed: all but those of a definition or of a field of a record that is in `passed`."""
         whole = f"{self.place.module}.{self.name}"
         if whole in passed:
             return []
@@ -43,7 +42,7 @@ class Definition:
         return lines
 
     def bound_names(self, kind, body):
-        """The names that the definition itself gives: fields, parameters and what patterns name."""
+        """Returns the names that the definition itself binds: fields, parameters, and variables of patterns."""
         bound = {self.name}
         for several in BINDERS.findall(body):
             bound.update(re.findall(NAME, " ".join(several)))
@@ -72,6 +71,7 @@ class File:
         self.read_definitions(lines)
 
     def read_imports(self, blocks):
+        """Notes what each imported name and module stands for."""
         for block in blocks:
             found = IMPORT.match(block.strip())
             if found is None:
@@ -85,6 +85,7 @@ class File:
                 self.names[other or name] = (module, name)
 
     def read_definitions(self, lines):
+        """Finds the definitions among the lines, each with the comment above it."""
         start = None
         for at, line in enumerate([*lines, ""]):
             if start is not None and (not line.strip() or USE.match(line)):
@@ -101,6 +102,7 @@ class File:
         return all(line.startswith("--") for line in lines)
 
     def add(self, lines, start, end):
+        """Adds the definition in the lines from `start` on and before `end`, unless they are a comment alone."""
         if self.is_comment(lines[start:end]):
             return
         found = Definition(self, start + 1, lines[start:end])
@@ -112,7 +114,7 @@ class File:
 
 
 class Reading:
-    """Follows names, and keeps what it met."""
+    """Follows names from definition to definition, and keeps what it met."""
 
     def __init__(self, crates, files, passed=()):
         self.crates, self.files, self.passed = crates, files, passed
@@ -120,7 +122,7 @@ class Reading:
         self.given, self.types, self.unknown = set(), set(), set()
 
     def read(self, roots):
-        """Goes on with the names of calls' clauses."""
+        """Follows the names in the clauses of calls, and returns itself. It ends the program where a name leads nowhere."""
         for root in roots:
             for word, more in WORD.findall(root.clauses):
                 found = self.look_up(None, root.names, root.modules, word, more)
@@ -133,7 +135,7 @@ class Reading:
         return self
 
     def file_of(self, module):
-        """The file of a module, also where its crate hands on another's."""
+        """Returns the file of a module, also where its crate re-exports that of another one; None where there is none."""
         if module in self.files:
             return self.files[module]
         crate, _, rest = module.partition(".specs.")
@@ -145,7 +147,7 @@ class Reading:
         return self.file_of(handed + (f".{inner}" if inner else ""))
 
     def meet(self, module, name, asked):
-        """Goes on with a name of a module."""
+        """Notes a name of a module, and follows it. Returns its definition; None where it has none in `specs/`. `asked` is the file that names it."""
         if module.split(".")[0] not in self.crates:
             self.given.add((module.split(".")[0], name))
         elif ".declared." in module:
@@ -162,6 +164,7 @@ class Reading:
         return None
 
     def meet_type(self, module, name):
+        """Notes a type of the code, or the type of a variant."""
         crate, _, rest = module.partition(".specs.declared.")
         parts = rest.split(".")
         if "TheVariants" in parts:
@@ -170,7 +173,8 @@ class Reading:
         self.types.add((crate, "/".join(place), name))
 
     def look_up(self, file, names, modules, word, more):
-        """The module and name that a word stands for, if it is no name of its own."""
+        """Returns the module and the name that a word in a file stands for; None where it isn't imported or defined there. `more` is what
+        follows the word behind dots."""
         if word in modules:
             parts = more.strip(".").split(".")
             return (modules[word], parts[0]) if parts[0] else None
@@ -181,6 +185,7 @@ class Reading:
         return None
 
     def follow(self, definition):
+        """Notes a definition, and follows the names in it."""
         key = (definition.place.module, definition.name)
         if key in self.met:
             return
@@ -199,13 +204,13 @@ class Reading:
 
 
 def operators_in(line, names):
-    """The operators among these names that stand in a line."""
+    """Returns those of the names that are operators which stand in a line."""
     tokens = set(re.findall(rf"{NAME}|∷|==|[^\w\s(){{}}\[\],.:=λ→∷]+", line))
     return [name for name in names if "◌" in name and tokens.issuperset(filter(None, name.split("◌")))]
 
 
 class Root:
-    """A call whose clauses say what is proved: all of them, or those of these names."""
+    """A call whose clauses say what is proved: all of its clauses, or those with given names."""
 
     def __init__(self, crate, source, call, clauses=None):
         self.path, self.source, self.call = TOP / "crates" / crate / source, source, call
@@ -225,7 +230,7 @@ class Root:
         self.clauses = self.chosen(head.group(0).rstrip("{;\n "), clauses)
 
     def chosen(self, text, names):
-        """The clauses of these names, each from its first column on."""
+        """Returns the clauses in a function's head, those with these names if names are given, without comments."""
         clauses = re.split(r"^ *(?=(?:requires|ensures) )", text, flags=re.M)[1:]
         clauses = [re.sub(r"\n *//.*|\n *(?=\n|$)", "", clause).rstrip() for clause in clauses]
         if names is not None:
@@ -236,7 +241,7 @@ class Root:
 
 
 def specs_of(crates):
-    """The files of `specs/` of these crates, by module."""
+    """Returns the files of `specs/` of these crates, by module."""
     files = {}
     for crate in crates:
         for path in sorted((TOP / "crates" / crate / "specs").rglob("*.antt")):

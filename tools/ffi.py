@@ -1,7 +1,7 @@
 #!/usr/bin/env python3
-"""Compares the declarations in rust/src/sys.rs and rust/src/sys/ with the exports of crates/raft_ffi: names, parameters, results, and the fields of
-the structs that cross. With an archive it also compares the symbols that the archive leaves to others with those that it
-may: `tools/ffi.py [libraft_ffi.a]`. It prints each difference, and fails where there is one."""
+"""Compares the declarations in rust/src/sys.rs and rust/src/sys/ with the exports of crates/raft_ffi: names, parameters, results, and the
+fields of the structs that are passed: `tools/ffi.py [libraft_ffi.a]`. Where an archive is named it also checks that the archive calls no
+outside functions but the expected ones. It prints each difference, and fails where there is one."""
 
 import pathlib
 import re
@@ -40,21 +40,23 @@ ALLOWED = {
 
 
 def without_comments(text):
+    """Returns a text without its `//` comments."""
     return re.sub(r"//[^\n]*", "", text)
 
 
 def parameters(text):
-    """The names and types of a list of parameters."""
+    """Returns the name and the type of each parameter in a list."""
     found = [part.split(":", 1) for part in text.split(",") if part.strip()]
     return [(name.strip(), " ".join(kind.split())) for name, kind in found]
 
 
 def in_rust(kind):
+    """Returns the name that a type has in rust/."""
     return IN_RUST.get(kind, kind)
 
 
 def passed(name, kind):
-    """The parameters in Rust that pass one of an export."""
+    """Returns the parameters that Rust has for one parameter of an export: none for an allocator, a pointer and a length for a slice."""
     if kind == "Global":
         return []
     for begin, pointer in (("&mut [", "*mut"), ("&[", "*const")):
@@ -67,7 +69,7 @@ def passed(name, kind):
 
 
 def heads():
-    """The module, the name, the parameters and the result of each export."""
+    """Yields for each export its module, its name, its parameters and its result."""
     head = re.compile(
         r"#\[unsafe\(no_mangle\)\]\s*pub extern \"C\" fn (\w+)\(([^)]*)\)\s*(?:-> (\w+))?"
     )
@@ -77,7 +79,7 @@ def heads():
 
 
 def exports():
-    """The exports as Rust has to declare them."""
+    """Returns for each export the parameters and the result that Rust has to declare, by its name."""
     found = {}
     for _, name, inside, result in heads():
         wanted = [pair for kind in inside for pair in passed(*kind)]
@@ -86,6 +88,7 @@ def exports():
 
 
 def declarations(text):
+    """Returns the parameters and the result of each function that Rust declares, by its name."""
     head = re.compile(r"fn (\w+)\(([^)]*)\)\s*(?:-> (\w+))?;")
     return {
         name: (parameters(inside), result)
@@ -95,7 +98,7 @@ def declarations(text):
 
 
 def structs(text):
-    """The fields of each struct with C's layout, in order, but for ghost fields and those without bytes."""
+    """Returns the fields of each struct with C's layout, in order, without ghost fields and those that have no bytes."""
     head = re.compile(
         r"#\[repr\(C\)\]\s*(?:#\[derive\([^)]*\)\]\s*)?(?:pub(?:\((?:super|crate)\))? )?struct (\w+) \{(.*?)\n\}", re.S
     )
@@ -113,12 +116,14 @@ def structs(text):
 
 
 def shown(call):
+    """Returns the signature of a function as a text."""
     wanted, result = call
     inside = ", ".join(f"{name}: {kind}" for name, kind in wanted)
     return f"({inside})" + (f" -> {result}" if result else "")
 
 
 def differences(kind, wanted, found, show):
+    """Yields a line for each difference between the functions, or the structs, that the library has and those that Rust has."""
     for name in sorted(wanted.keys() | found.keys()):
         if name not in found:
             yield f"{kind} {name}: Rust doesn't declare it"
@@ -129,7 +134,7 @@ def differences(kind, wanted, found, show):
 
 
 def undefined(archive):
-    """The symbols that the archive leaves to others."""
+    """Returns the symbols that an archive uses and doesn't define."""
     lines = subprocess.run(
         ["nm", "-u", archive], check=True, capture_output=True, text=True
     ).stdout.splitlines()

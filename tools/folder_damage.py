@@ -1,13 +1,13 @@
 #!/usr/bin/env python3
-"""Damages a folder of log files, one thing at a time, and looks at what `raftlog` says of it.
+"""Damages folders of log files, in one way each, and checks what `raftlog` prints of them.
 
     tools/folder_damage.py [PROGRAM] [--changes N] [--seed S] [--opener EXAMPLE]
 
-Each row is a folder with the files of demo/, or with files that are made here by docs/FORMAT.md, a change of it, and what `raftlog check` has to name: the
-file, the offset and what is wrong there, and whether an opening refuses the files or what it cuts off. The offsets come from the headers of the batches. Lines of
-JSON have to say the same as the text. Then come N random changes: a bit, or the end of a file, but not where a batch ends; none may be called sound, and none may
-end the program otherwise than by its statuses. With --opener `raft_example` opens each folder then, and has to refuse it or cut it as was said. A line for
-each case where something else is said, and status 1. PROGRAM is crates/raftlog/out/raftlog where it isn't given.
+Each row of tools/damage_rows.py is a folder with a change, and what `raftlog check` has to print: the file, the offset and what is wrong
+there, and whether an opening refuses the files, or what it cuts off. Lines of JSON have to say the same as the text. Then come N random
+changes: a flipped bit, or a file that is cut short, but not at the end of a batch. None of these folders may be called sound, and the program
+has to end with one of its statuses. With --opener, `raft_example` then opens each folder, and has to refuse it, or cut it as `raftlog` has
+said. PROGRAM is crates/raftlog/out/raftlog by default. A line is printed for each difference; the status is 1 where there is one.
 """
 import argparse
 import fcntl
@@ -30,7 +30,7 @@ SECONDS = 60
 # ---- what is looked at
 
 def text_of(lines):
-    """The text that says what lines of JSON of a check say."""
+    """Returns the lines of text that say what lines of JSON of a check say."""
     said = []
     for line in lines:
         name = line.get("queue")
@@ -55,6 +55,7 @@ def text_of(lines):
 
 
 def damage_text(line, damage):
+    """Returns the text for a place with damage in the line of a file."""
     if damage["kind"] == "batch":
         return f"no batch can be read there, {line['bytes'] - damage['offset']} bytes before the end: {damage['why']}"
     entries = f"entry {damage['first']}" if damage["first"] == damage["last"] else f"entries {damage['first']} to {damage['last']}"
@@ -65,13 +66,13 @@ GROUPS = {"begins": ", an atomic group begins", "goes on": ", an atomic group go
 
 
 def shown(digits):
-    """Bytes as a dump shows them."""
+    """Returns bytes, given in base 16, as a dump shows them."""
     data = bytes.fromhex(digits)
     return f'"{data.decode("ascii")}"' if all(32 <= byte <= 126 and byte != 34 for byte in data) else f"0x{digits}"
 
 
 def item_text(item):
-    """The line of an item, and those of its entries."""
+    """Returns the lines of a dump for an item and its entries."""
     what = item["what"]
     if what in ("put", "delete"):
         value = f" = {shown(item['value'])}" if "value" in item else f" {item['bytes']} bytes" if "bytes" in item else ""
@@ -86,7 +87,7 @@ def item_text(item):
 
 
 def dump_of_json(lines):
-    """The lines of a dump that lines of JSON say, those of items behind their place."""
+    """Returns the lines of a dump that lines of JSON say. That of an item is put behind the place of its batch."""
     said = []
     for line in lines:
         if "missing_from" in line:
@@ -102,7 +103,7 @@ def dump_of_json(lines):
 
 
 def dump_of_text(lines):
-    """The lines of a dump, those of items behind the place of their batch."""
+    """Returns the lines of a dump, with that of each item put behind the place of its batch."""
     said, place = [], None
     for line in lines:
         if line.startswith("  region "):
@@ -115,15 +116,19 @@ def dump_of_text(lines):
 
 
 class Looker:
+    """Runs raftlog, and counts the runs and those that went wrong."""
+
     def __init__(self, program, opener=None):
         self.program, self.opener, self.count, self.wrongs = program, opener, 0, 0
 
     def wrong(self, text):
+        """Counts and prints something that went wrong."""
         self.wrongs += 1
         print(text)
 
     def open_as_said(self, about, room, said):
-        """Has `raft_example` open a folder, which has to do what was said of it: refuse it and change nothing, or cut so much and keep it."""
+        """Has `raft_example` open a folder. It has to do what `raftlog` said of the folder: refuse it and change nothing, or cut off as
+        many bytes and keep them in a file."""
         if not self.opener or "opening: " not in said:
             return
         before = {path.name: path.read_bytes() for path in room.path.iterdir()}
@@ -147,10 +152,11 @@ class Looker:
             self.wrong(f"{about}: it isn't cut as was said: {sorted(kept)}\n{ended.stdout}{ended.stderr}")
 
     def run(self, *words):
+        """Runs raftlog, and returns how it ended, with what it printed."""
         return subprocess.run([self.program, *words], stdin=subprocess.DEVNULL, capture_output=True, text=True, timeout=SECONDS)
 
     def expect(self, about, ended, status, texts, lacks=()):
-        """Counts what a run says."""
+        """Counts a run. It went wrong if it ended with another status than `status`, lacks one of the texts, or has one of those in `lacks`."""
         self.count += 1
         said = ended.stdout + ended.stderr
         wrong = [text for text in texts if text not in said] + [text for text in lacks if text in said]
@@ -160,6 +166,7 @@ class Looker:
 
 
 def look_at_rows(looker, folder):
+    """Checks and dumps the folder of each row."""
     for row in ROWS:
         with tempfile.TemporaryDirectory(prefix="raft-damage-", dir=folder) as made:
             room = Room(Path(made) / "logs")
@@ -196,7 +203,7 @@ def look_at_opening(looker, about, room, accepts):
 
 
 def look_at_cuts(looker, folder):
-    """What is cut is kept beside, and then nothing is wrong."""
+    """Cuts a torn tail off: it is kept in a file, and then nothing is wrong."""
     room = Room(folder / "cut")
     _, texts = torn(room)
     *_, (at, _, end) = batches((TOP / f"demo/{LAST}.log").read_bytes())
@@ -292,7 +299,8 @@ def look_at_pipes(looker, folder):
 
 
 def look_at_tails(looker, folder):
-    """Of each queue what was said is cut, and kept, and no other byte changes; where the files are refused, none does."""
+    """Cuts torn tails of either queue and of both: what was said is cut off and kept, and no other byte changes. Files that are refused
+    don't change."""
     for row, endings in ((torn, ["raftlog"]), (rewrite_torn, ["rewrite"]), (both_torn, ["raftlog", "rewrite"])):
         room = Room(folder / f"tails_{row.__name__}")
         row(room)
@@ -319,7 +327,7 @@ def look_at_tails(looker, folder):
 
 
 def look_at_pictures(looker, folder):
-    """A picture is a new file, and nothing is written over."""
+    """Draws a picture, which is a new file: nothing is written over."""
     room = Room(folder / "pictures")
     owed = room.contents()
     picture = folder / "new.svg"
@@ -334,7 +342,7 @@ def look_at_pictures(looker, folder):
 
 
 def look_at_uses(looker, folder):
-    """How much of each file is live, which regions hold it, and the keys of a region, of files whose entries and keys are known."""
+    """Checks how much of each file is live, which regions need it, and the keys of a region, in files whose entries and keys are known."""
     room = Room(folder / "uses")
     room.only([[batch(1, entries_of(1, 1, [10, 20, 30, 40]), put(2, b"k1", b"v"), entries=b"a" * 100)],
                [batch(2, entries_of(1, 3, [5]), entries_of(2, 1, [7, 8], before=5), put(2, b"\x01\xff", b""), put(2, b"leader", b"n1"), entries=b"b" * 20)]],
@@ -378,7 +386,7 @@ def look_at_uses(looker, folder):
 
 
 def look_at_closed_streams(looker, folder):
-    """What is printed to a closed stream goes into no file."""
+    """Closes streams of raftlog: what it prints to a closed one goes into no file."""
     for closed in range(1, 8):
         streams = " ".join(f"{stream}>&-" for stream in range(3) if closed >> stream & 1)
         for words in (["cut", "--yes"], ["cut", "--dry-run"], ["check"], ["files", "--svg", folder / f"closed{closed}.svg"]):
@@ -399,7 +407,8 @@ def look_at_closed_streams(looker, folder):
 
 
 def look_at_changes(looker, folder, count, seed):
-    """Each bit of a file is in a header, an entry block or an item batch, all of which are checked."""
+    """Checks folders with random changes. Each bit of a file is in a header, an entry block or an item batch, all of which are checked, so
+    each change has to be found."""
     rng = random.Random(seed)
     for number in range(count):
         room = Room(folder / f"change{number}")
@@ -431,7 +440,8 @@ def look_at_rewrite_bytes(looker, folder):
 
 
 def look_at_damaged(looker):
-    """Each line of demo/damaged/lines is a batch of the files there, or a byte at which none can be read, or the end of a file that can be read to there."""
+    """Dumps and checks demo/damaged. Each line of its file `lines` is a batch there, an offset at which none can be read, or the end of a
+    file that can be read up to there."""
     damaged = TOP / "demo/damaged"
     files = [word for seq, name in ((1, "entry_byte"), (2, "item_byte"), (4, "sound"), (5, "torn_header"), (6, "empty"))
              for word in ("--append", f"{seq}={damaged}/{name}")]
@@ -454,6 +464,7 @@ def look_at_damaged(looker):
 
 
 def look_at_words(looker, folder):
+    """Runs raftlog with all kinds of arguments, right and wrong."""
     room = Room(folder / "words")
     files = [word for seq in range(1, LAST + 1) for word in ("--append", f"{seq}={TOP}/demo/{seq}.log")]
     recovered = looker.run("recover", "append", "2", "4", *[f"{seq}={TOP}/demo/{seq}.log" for seq in range(1, LAST + 1)])
@@ -499,10 +510,10 @@ def look_at_words(looker, folder):
 
 def main():
     words = argparse.ArgumentParser(description=__doc__.splitlines()[0])
-    words.add_argument("program", type=Path, nargs="?", default=TOP / "crates/raftlog/out/raftlog")
-    words.add_argument("--changes", type=int, default=200)
-    words.add_argument("--seed", type=int, default=1)
-    words.add_argument("--opener", type=Path)
+    words.add_argument("program", type=Path, nargs="?", default=TOP / "crates/raftlog/out/raftlog", help="the path of raftlog")
+    words.add_argument("--changes", type=int, default=200, metavar="N", help="how many random changes to make (default: %(default)s)")
+    words.add_argument("--seed", type=int, default=1, metavar="S", help="the seed of the random changes (default: %(default)s)")
+    words.add_argument("--opener", type=Path, metavar="EXAMPLE", help="the path of raft_example, which then opens each folder")
     asked = words.parse_args()
     looker = Looker(asked.program.resolve(), asked.opener and asked.opener.resolve())
     with tempfile.TemporaryDirectory(prefix="raft-damage-") as made:

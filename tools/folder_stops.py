@@ -1,12 +1,12 @@
 #!/usr/bin/env python3
-"""Stops the machine anywhere in a run of raft_example, and opens each folder that may be left.
+"""Crashes the machine anywhere in a run of raft_example, and opens each folder that the crash may leave.
 
     tools/folder_stops.py [PROGRAM]
 
-`strace` lists what the run asks of the system. A disk keeps what was synced. Of what was written to a file since then it has a
-front, up to any byte; of the names that were made or deleted since the folder was synced the first ones. The program is run on each
-such folder: it has to open it, to find the batches that were synced and a front of those since, and to go on. A line for each folder
-where it doesn't, and status 1. PROGRAM is crates/raft_example/out/raft_example where it isn't given.
+`strace` lists what the run asks of the system. A crash leaves what was synced; of what was written to a file since then any prefix; and of the
+names that were made or deleted since the folder was synced the first ones. The program is run on each such folder: it has to open it, to find
+the batches that were synced and a prefix of those written since, and to go on. PROGRAM is crates/raft_example/out/raft_example by default. A
+line is printed for each folder where it doesn't; the status is 1 where there is one.
 """
 import argparse
 import re
@@ -23,7 +23,7 @@ RUNNERS = 2
 
 
 def found(first, second):
-    """The lines that the program prints of two regions."""
+    """Returns the lines that the program prints of its two regions."""
     regions = (7, *first), (8, *second)
     return tuple(f"  region {region}: entries {entries}, leader {leader}" for region, entries, leader in regions)
 
@@ -42,14 +42,14 @@ UNTORN = 4
 
 
 class File:
-    """A file: the bytes that are on the disk, and what was done to it since."""
+    """A file: its bytes on the disk, and the changes that aren't synced."""
 
     def __init__(self):
         self.synced = b""
         self.since = []
 
     def versions(self):
-        """All bytes that a stop may leave."""
+        """Yields all contents that a crash may leave of the file, oldest first."""
         bytes_ = self.synced
         yield bytes_
         for change in self.since:
@@ -62,20 +62,23 @@ class File:
                 yield bytes_
 
     def last(self):
+        """Returns the contents that the file has now."""
         return list(self.versions())[-1]
 
     def sync(self):
+        """Makes all changes synced."""
         self.synced, self.since = self.last(), []
 
 
 class Disk:
-    """The files of a folder, and what a stop may leave of them."""
+    """The files of a folder, and what a crash may leave of them. `allowed` is what the program may find then."""
 
     def __init__(self):
         self.names, self.files, self.since = {}, {}, []
         self.batches, self.now, self.allowed = 0, BATCHES[0], {BATCHES[0]}
 
     def put(self, name, bytes_):
+        """Writes bytes to the end of a file. Each write to an append file is one batch."""
         self.files[name].since.append(bytes_)
         if name.endswith(".raftlog"):
             self.batches += 1
@@ -83,19 +86,23 @@ class Disk:
             self.allowed |= {self.now}
 
     def cut(self, name, len_):
+        """Cuts a file to a length. The run does so once, to cut the fifth batch off again."""
         self.files[name].since.append(len_)
         self.now = BATCHES[UNTORN]
         self.allowed |= {self.now}
 
     def make(self, name):
+        """Makes a file."""
         self.files[name] = File()
         self.since.append((name, self.files[name]))
 
     def delete(self, name):
+        """Deletes a file."""
         del self.files[name]
         self.since.append((name, None))
 
     def sync(self, name):
+        """Syncs a file, or the names in the folder."""
         if name in self.files:
             self.files[name].sync()
             if name.endswith(".raftlog"):
@@ -104,7 +111,8 @@ class Disk:
             self.names, self.since = dict(self.files), []
 
     def lefts(self):
-        """The folders that a stop may leave: each version of one file, with the first and with the last version of the others."""
+        """Yields the folders that a crash may leave, as pairs of name and bytes: behind each change of a name, each version of one file
+        with the first and with the last version of all others."""
         for count in range(len(self.since) + 1):
             names = dict(self.names)
             for name, file in self.since[:count]:
@@ -119,11 +127,13 @@ class Disk:
 
 
 def unspelled(text):
+    """Returns the bytes that `strace` shows as `\\x61\\x62`."""
     return bytes.fromhex(text.replace("\\x", ""))
 
 
 def calls_of(program, room):
-    """What a run asks of the system about the files of its folder: the call, the file's name, and the rest."""
+    """Runs the program under `strace`, and yields what it asks of the system about files of its folder: the call, the name of the file, and
+    the arguments."""
     folder, log = room / "run", room / "calls"
     subprocess.run(["strace", "-f", "-y", "-xx", "-s", "1000000", "-o", log, "-e", f"trace={CALLS}", program, folder],
                    stdout=subprocess.DEVNULL, check=True, timeout=SECONDS)
@@ -139,7 +149,7 @@ def calls_of(program, room):
 
 
 def take(disk, call, name, words):
-    """Takes in a call; tests whether it changes what a stop may leave."""
+    """Applies a call to the disk, and returns whether it changes what a crash may leave."""
     if call == "openat" and "O_CREAT" in words:
         disk.make(name)
     elif call == "write":
@@ -156,7 +166,7 @@ def take(disk, call, name, words):
 
 
 def opened(program, files):
-    """What the program finds in such a folder: its lines of the regions; None where it fails."""
+    """Runs the program on a folder with these files, and returns what it finds there: its lines of the regions; None where it fails."""
     with tempfile.TemporaryDirectory(prefix="raft-engine-left-") as room:
         folder = Path(room) / "left"
         folder.mkdir()
@@ -169,7 +179,7 @@ def opened(program, files):
 
 def main():
     words = argparse.ArgumentParser(description=__doc__.splitlines()[0])
-    words.add_argument("program", type=Path, nargs="?", default=CRATES / "raft_example/out/raft_example")
+    words.add_argument("program", type=Path, nargs="?", default=CRATES / "raft_example/out/raft_example", help="the path of raft_example")
     program = words.parse_args().program.resolve()
     disk, stops, lefts = Disk(), 0, {}
     with tempfile.TemporaryDirectory(prefix="raft-engine-stops-") as room:

@@ -1,11 +1,12 @@
 #!/usr/bin/env python3
-"""Lists the largest stack frames of a program, as bytes and function.
+"""Lists the largest stack frames of a program, each as its size in bytes and its function.
 
     tools/frames.py [PROGRAM] [--show N] [--limit BYTES] [--without PREFIX]..
 
-With --limit it ends with 1 where a frame is larger. Functions whose names begin with a PREFIX are left out. PROGRAM is crates/raftlog/out/raftlog where it isn't given. A frame is
-what a function takes off the stack pointer. One above 4 KB is entered through a loop that touches each page: the bytes of
-the loop are taken off another register first. The registers that a function saves are left out: they are 56 bytes at most.
+With --limit the status is 1 where a frame is larger. Functions whose names begin with a PREFIX are left out. PROGRAM is
+crates/raftlog/out/raftlog by default. A frame is what a function subtracts from the stack pointer. A frame above 4 KB is entered by a loop that
+touches each page; then its size is subtracted from another register. The registers that a function saves aren't counted: they have at most 56
+bytes.
 """
 import argparse
 import re
@@ -20,7 +21,7 @@ TAKES = re.compile(r"\bsub\s+\$0x([0-9a-f]+),%(rsp|r11)\b")
 
 
 def frames(program):
-    """The bytes of the frame of each function that has one."""
+    """Returns the size of the frame of each function of a program that has one."""
     listing = subprocess.run(["objdump", "-d", "--no-show-raw-insn", str(program)], check=True, capture_output=True, text=True)
     found, function, touching = {}, None, False
     for line in listing.stdout.splitlines():
@@ -37,10 +38,10 @@ def frames(program):
 
 def main():
     words = argparse.ArgumentParser(description=__doc__.splitlines()[0])
-    words.add_argument("program", type=Path, nargs="?", default=RAFTLOG)
-    words.add_argument("--show", type=int, default=12)
-    words.add_argument("--limit", type=int)
-    words.add_argument("--without", action="append", default=[], metavar="PREFIX")
+    words.add_argument("program", type=Path, nargs="?", default=RAFTLOG, help="the path of the program")
+    words.add_argument("--show", type=int, default=12, metavar="N", help="how many frames to list (default: %(default)s)")
+    words.add_argument("--limit", type=int, metavar="BYTES", help="the size above which a frame is an error")
+    words.add_argument("--without", action="append", default=[], metavar="PREFIX", help="leave out functions whose names begin so; may be repeated")
     asked = words.parse_args()
     if not asked.program.exists():
         sys.exit(f"{asked.program} isn't there: make raftlog")

@@ -1,24 +1,24 @@
 #!/usr/bin/env python3
-"""Runs `raftlog` over inputs that no engine writes, and counts what it must never do.
+"""Runs `raftlog` over random inputs that no engine writes, and counts answers that it must never give.
 
     tools/hostile.py [--inputs N] [--seed S] [--from K] [--jobs J] [--program PATH] [--against FILE] [--keep FOLDER]
 
-Each input begins as a sound one, an item batch for `raftlog batch` or log files for `raftlog recover`. Then bits are turned,
-bytes are lost, added, written over, doubled or taken from elsewhere, numbers are put in their place, and in most inputs the
-checksums and the headers are made right again, so that what is behind them is reached. The same seed and number give the same
-input: `--seed S --from K --inputs 1` makes one again. Counted are
+Each input begins as a sound one: an item batch for `raftlog batch`, or log files for `raftlog recover`. Then bits are flipped; bytes are lost,
+added, overwritten, doubled or taken from elsewhere; numbers are put in their place. In most inputs the checksums and the headers are made right
+again, so that the code behind these checks is reached. The same seed and number give the same input: `--seed S --from K --inputs 1` makes a
+single one again. Counted are
 
-    crashes     ends by a signal
-    statuses    others than 0 and 1 (the words are always right)
+    crashes     the program ends by a signal
+    statuses    another status than 0 and 1 (the arguments are always right)
     hangs       no answer in SECONDS
-    printed     lines in front of a refusal, other words of it, or no whole answer where it isn't refused
-    memory      answers `memory` under a limit of its address space: what an empty recovery needs, SPARE and MULTIPLE times
-                the input, and a stack for each worker
-    differ      answers other than those of FILE, where one is named: a Python file with a function
-                `answer(words, data, files)`, which gives the bytes to print, or a set of words one of which has to stand
-                behind `raftlog: refused: `, or None where both are open. `files` are pairs of number and bytes
+    printed     lines are printed before a refusal, a refusal has other words, or an answer isn't whole
+    memory      the answer is `memory`, though the limit of the address space allows for what an empty recovery needs, for SPARE_KIB and
+                MULTIPLE times the input, and for a stack for each worker
+    differ      the answer isn't that of FILE, if one is named: a Python file with a function `answer(words, data, files)`, which returns
+                the bytes to print, or a set of words one of which has to stand behind `raftlog: refused: `, or None where any answer
+                will do. `files` are pairs of number and bytes
 
-Inputs with a fault are kept in FOLDER, where one is named. The status is 1 where anything was counted.
+Inputs with a fault are kept in FOLDER, if one is named. The status is 1 where anything was counted.
 """
 import argparse
 import importlib.util
@@ -50,7 +50,7 @@ MARK = b"__\x01"
 
 
 def varint(chance, number):
-    """A spelling of a number, now and then a longer one."""
+    """Returns an encoding of a number, at times a longer one than is needed."""
     septets = [number >> shift & 127 for shift in range(0, max(number.bit_length(), 1), 7)]
     while chance.random() < 0.02 and len(septets) < 9:
         septets.append(0)
@@ -58,18 +58,18 @@ def varint(chance, number):
 
 
 def text(chance, data):
-    """Bytes behind their length."""
+    """Returns bytes with their length before them."""
     return varint(chance, len(data)) + data
 
 
 def signed(content, seq, version):
-    """An item batch's bytes, with the checksum of its file behind them."""
+    """Returns an item batch: its content, and its checksum, signed for its file."""
     checksum = zlib.crc32(content) ^ (seq % 2**32 if version == 2 else 0)
     return content + checksum.to_bytes(4, "little")
 
 
 def framed(item_batch, block, kind=0):
-    """A log batch of an item batch and entry bytes."""
+    """Returns a log batch of an item batch and entry bytes."""
     entries = block + zlib.crc32(block).to_bytes(4, "little") if block else b""
     length = 16 + len(entries) + len(item_batch)
     return ((length << 8) + kind).to_bytes(8, "big") + (16 + len(entries)).to_bytes(8, "big") + entries + item_batch
@@ -84,7 +84,7 @@ class Items:
         self.ends = {region: chance.choice([0, 1, 10, 2**32 - 2, 2**64 - 60]) for region in self.regions}
 
     def content(self):
-        """The bytes of an item batch without its checksum, and its entry bytes."""
+        """Returns the bytes of an item batch without its checksum, and its entry bytes."""
         chance, items, block = self.chance, [], b""
         if self.queue == "rewrite" and chance.random() < 0.4:
             status = bytes([chance.choice([0, 0, 1, 2, 2, 2, 3])])
@@ -97,7 +97,7 @@ class Items:
         return varint(chance, len(items)) + b"".join(items) + rest, block
 
     def item(self, already):
-        """An item and its entry bytes, which stand behind so many others."""
+        """Returns an item and its entry bytes. `already` is how many entry bytes of other items come before."""
         chance, region = self.chance, self.chance.choice(self.regions)
         head, kind = varint(chance, region), chance.random()
         if kind < 0.4:
@@ -113,7 +113,7 @@ class Items:
         return head + b"\x03\x01" + text(chance, key) + text(chance, chance.randbytes(chance.choice([0, 1, 9]))), b""
 
     def entries(self, head, region, already):
-        """A run of entries that goes on from the last one, or a little before it; rarely behind a hole."""
+        """Returns a run of entries, and their bytes. It goes on where the last run ended, or begins a little before that, rarely behind a hole."""
         chance = self.chance
         first = max(0, self.ends[region] + chance.choice([0, 0, 0, -1, -3, 1 if chance.random() < 0.1 else 0]))
         data = [chance.randbytes(chance.choice([0, 1, 2, 5])) for _ in range(min(chance.choice([0, 1, 2, 5]), 2**64 - 1 - first))]
@@ -128,7 +128,7 @@ class Items:
 
 
 def damaged(chance, data, other):
-    """Bytes with one kind of damage; other bytes may take part in it."""
+    """Returns bytes with one kind of damage, which may take bytes of `other`."""
     at, kind = chance.randint(0, len(data)), chance.randrange(9)
     end = chance.randint(at, min(len(data), at + 9))
     if kind == 0 and data:
@@ -153,24 +153,24 @@ def damaged(chance, data, other):
 
 @dataclass
 class Case:
-    """One run: the words in front of the files, what stands on the input, and the files by number."""
+    """One run: the arguments before the files, what is on standard input, and the files as pairs of number and bytes."""
     words: list
     data: bytes = b""
     files: list = field(default_factory=list)
 
     def line(self, number):
-        """The words, with the path of each file."""
+        """Returns the arguments, with the path of each file."""
         return self.words + [f"{seq}={number}.{place}" for place, (seq, _) in enumerate(self.files)]
 
     def limit(self, empty):
-        """How many KiB of address space are enough, where an empty recovery needs `empty`."""
+        """Returns how many KiB of address space are enough, if an empty recovery needs `empty`."""
         size = len(self.data) + sum(len(data) for _, data in self.files)
         stacks = int(self.words[3]) if self.words[0] == "recover" else 1
         return empty + SPARE_KIB + size * MULTIPLE // 1024 + (stacks * (STACK_KIB + 256) if stacks > 1 else 0)
 
 
 def item_batch_case(chance):
-    """An item batch of `raftlog batch`."""
+    """Draws an item batch for `raftlog batch`."""
     queue, version, seq = chance.choice(["append", "rewrite"]), chance.choice([1, 2]), chance.choice([0, 12, 2**32 + 5, 2**64 - 1])
     items = Items(chance, queue)
     content, other = items.content()[0], items.content()[0]
@@ -183,7 +183,8 @@ def item_batch_case(chance):
 
 
 def log_batch(chance, items, seq, version, harm):
-    """A log batch, in most inputs with damaged items under a right checksum, in some with a wrong header or none."""
+    """Draws a log batch. With the probability `harm` its items are damaged under a right checksum; more rarely it is signed for another
+    file, or its header is wrong."""
     content, block = items.content()
     if chance.random() < harm:
         content = damaged(chance, content, items.content()[0])
@@ -196,7 +197,7 @@ def log_batch(chance, items, seq, version, harm):
 
 
 def files_case(chance):
-    """Files of `raftlog recover`."""
+    """Draws files for `raftlog recover`."""
     queue, version, workers = chance.choice(["append", "rewrite"]), chance.choice([1, 2]), chance.choice([1, 1, 1, 2, 3, 4])
     items, harm = Items(chance, queue), chance.choice([0, 0.1, 0.1, 0.4])
     seq, files = chance.choice([1, 12, 2**32 - 2]), []
@@ -213,13 +214,13 @@ def files_case(chance):
 
 
 def case_of(seed, number):
-    """The input of this seed and number."""
+    """Returns the input of a seed and a number."""
     chance = random.Random(f"{seed} {number}")
     return item_batch_case(chance) if chance.random() < 0.4 else files_case(chance)
 
 
 def needed_kib(program):
-    """How many KiB of address space an empty recovery needs."""
+    """Returns how many KiB of address space an empty recovery needs."""
     for size in range(STEP_KIB, 2**20, STEP_KIB):
         words = shlex.join([program, "recover", "append", "2", "1"])
         if subprocess.run(["sh", "-c", f"ulimit -S -v {size}; exec {words} 2>&1"], stdout=subprocess.DEVNULL).returncode == 0:
@@ -228,7 +229,7 @@ def needed_kib(program):
 
 
 def script(program, empty, folder, numbers, cases):
-    """Writes inputs and a shell script that runs the program on each, under its limit."""
+    """Writes inputs, and a shell script that runs the program on each, within its limit."""
     lines = [f"ulimit -s {STACK_KIB}", "export MALLOC_ARENA_MAX=1"]
     for number, case in zip(numbers, cases):
         (folder / f"{number}.in").write_bytes(case.data)
@@ -240,7 +241,7 @@ def script(program, empty, folder, numbers, cases):
 
 
 def run(program, empty, folder, numbers, cases):
-    """Runs the cases, and goes on behind one that hangs."""
+    """Runs the cases. Where one hangs it is ended, and those behind it are run."""
     while numbers:
         script(program, empty, folder, numbers, cases)
         shell = subprocess.Popen(["sh", "script"], cwd=folder, stderr=subprocess.DEVNULL, start_new_session=True)
@@ -255,7 +256,7 @@ def run(program, empty, folder, numbers, cases):
 
 
 def fault(case, folder, number, answer):
-    """What is wrong with an answer, if something is."""
+    """Returns what is wrong with the answer to a case, as one of the words of the page above; None where nothing is."""
     status_path = folder / f"{number}.status"
     if not status_path.exists():
         return "hangs"
@@ -280,7 +281,7 @@ def fault(case, folder, number, answer):
 
 
 def load(path):
-    """The function `answer` of a Python file."""
+    """Returns the function `answer` of a Python file; None where no file is named."""
     if path is None:
         return None
     spec = importlib.util.spec_from_file_location("against", path)
@@ -290,7 +291,7 @@ def load(path):
 
 
 def round_of(arguments, numbers):
-    """Counts the answers to one round of inputs by their status, and gives those with a fault."""
+    """Runs one round of inputs. Returns how many answers there were of each kind, and the inputs with a fault."""
     answer, counts, faults = load(arguments.against), Counter(), []
     cases = [case_of(arguments.seed, number) for number in numbers]
     with tempfile.TemporaryDirectory(dir="/dev/shm" if os.path.isdir("/dev/shm") else None) as folder:
@@ -307,7 +308,7 @@ def round_of(arguments, numbers):
 
 
 def keep(kept, folder, number):
-    """Copies all files of an input and its answer."""
+    """Copies all files of an input and its answer into the folder `kept`, if one is named."""
     if kept:
         Path(kept).mkdir(parents=True, exist_ok=True)
         for path in folder.glob(f"{number}.*"):
@@ -316,13 +317,13 @@ def keep(kept, folder, number):
 
 def main():
     parser = argparse.ArgumentParser(description=__doc__, formatter_class=argparse.RawDescriptionHelpFormatter)
-    parser.add_argument("--inputs", type=int, default=10_000)
-    parser.add_argument("--seed", default="1")
-    parser.add_argument("--from", type=int, default=0, dest="begin")
-    parser.add_argument("--jobs", type=int, default=os.cpu_count())
-    parser.add_argument("--program", default=RAFTLOG, type=lambda path: str(Path(path).resolve()))
-    parser.add_argument("--against")
-    parser.add_argument("--keep")
+    parser.add_argument("--inputs", type=int, default=10_000, metavar="N", help="how many inputs to run (default: %(default)s)")
+    parser.add_argument("--seed", default="1", metavar="S", help="the seed of the inputs (default: %(default)s)")
+    parser.add_argument("--from", type=int, default=0, dest="begin", metavar="K", help="the number of the first input (default: %(default)s)")
+    parser.add_argument("--jobs", type=int, default=os.cpu_count(), metavar="J", help="how many processes run inputs at the same time (default: %(default)s)")
+    parser.add_argument("--program", default=RAFTLOG, type=lambda path: str(Path(path).resolve()), metavar="PATH", help="the path of raftlog")
+    parser.add_argument("--against", metavar="FILE", help="the Python file with the answers to compare with")
+    parser.add_argument("--keep", metavar="FOLDER", help="the folder in which inputs with a fault are kept")
     arguments = parser.parse_args()
     arguments.program = str(arguments.program)
     if not os.access(arguments.program, os.X_OK):

@@ -1,20 +1,20 @@
 #!/usr/bin/env python3
-"""Runs the commands of `raftlog` that look into folders over folders that no engine writes, and over words that ask for nothing.
+"""Runs the commands of `raftlog` that look into folders over folders that no engine writes, and with arguments that make no sense.
 
     tools/hostile_folders.py [PROGRAM] [--inputs N] [--seed S] [--from K] [--jobs J]
 
-The files of each folder are those of an input of tools/hostile.py. A reader that is written here from docs/FORMAT.md says what can't be read
-of them, and `raftlog recover` whether a queue's batches follow each other. Counted are
+The files of each folder are those of an input of tools/hostile.py. A reader of this file, written from docs/FORMAT.md, finds out what can't be
+read in them, and `raftlog recover` whether the batches of a queue can follow one another. Counted are
 
-    crashes     ends by a signal
-    statuses    others than 0, 1 and 2
+    crashes     the program ends by a signal
+    statuses    another status than 0, 1 and 2
     hangs       no answer in SECONDS
     sound       `check` says `sound` of files in which something can't be read, whose numbers aren't in a row, or that `recover` refuses;
                 or says `damaged` of others
     places      `check --json` names other places with damage than there are
-    lines       lines of JSON that aren't, or a dump that names other batches than there are
+    lines       lines that should be JSON and aren't, or a dump that names other batches than there are
 
-PROGRAM is crates/raftlog/out/raftlog where it isn't given. The status is 1 where anything was counted.
+PROGRAM is crates/raftlog/out/raftlog by default. The status is 1 where anything was counted.
 """
 import argparse
 import json
@@ -38,22 +38,24 @@ WORDS = ["check", "dump", "files", "regions", "cut", "--json", "--region", "--fr
 
 
 class Unreadable(Exception):
-    pass
+    """Raised where bytes can't be read."""
 
 
 class Reader:
-    """Bytes that are read from the front."""
+    """Reads bytes from their start on. Its calls raise Unreadable where too few are left, or they are no number."""
 
     def __init__(self, data):
         self.data, self.at = data, 0
 
     def take(self, count):
+        """Returns the next `count` bytes."""
         if len(self.data) - self.at < count:
             raise Unreadable
         self.at += count
         return self.data[self.at - count:self.at]
 
     def number(self):
+        """Returns the next encoded number."""
         number = 0
         for place in range(10):
             byte = self.take(1)[0]
@@ -66,7 +68,7 @@ class Reader:
 
 
 def header(data):
-    """The length of a batch by its header, and where its items begin; nothing where no header stands in front."""
+    """Returns the length of the batch at the start of `data`, by its header, and where its items begin; None where no header stands there."""
     if len(data) < 16:
         return None
     length, kind, offset = int.from_bytes(data[:7], "big"), data[7], int.from_bytes(data[8:16], "big")
@@ -74,7 +76,8 @@ def header(data):
 
 
 def ends_of_items(data, seq, version):
-    """For each item of an item batch with entries its region, the first index, and where each entry ends in the entry bytes."""
+    """Returns for each item of an item batch that has entries: its region, the first index, and where each entry ends among the entry
+    bytes. Raises Unreadable where the batch can't be read."""
     if len(data) <= 4 or zlib.crc32(data[:-4]) ^ (seq % 2**32 if version == 2 else 0) != int.from_bytes(data[-4:], "little"):
         raise Unreadable
     reader, found, tail = Reader(data[:-4]), [], 0
@@ -112,7 +115,8 @@ def ends_of_items(data, seq, version):
 
 
 def walk(data, seq, version):
-    """The batches of a file, and the places where something can't be read: the offset, and the region, the first and the last index or nothing."""
+    """Returns how many batches of a file can be read, and the places where something can't: the offset of the batch, and the region, the
+    first and the last index of the entries, or None for each where the batch itself can't be read."""
     at, batches, damage = 0, 0, []
     while at < len(data):
         found = header(data[at:])
@@ -135,10 +139,13 @@ def walk(data, seq, version):
 
 
 class Looker:
+    """Runs raftlog in a folder, and collects the faults: the kind of each, the number of its input, and what it is about."""
+
     def __init__(self, program, folder):
         self.program, self.folder, self.faults = program, folder, []
 
     def run(self, number, *words):
+        """Runs raftlog with these arguments, and returns how it ended, with what it printed; None where it hangs."""
         words = [self.program, *map(str, words)]
         try:
             ended = subprocess.run(words, stdin=subprocess.DEVNULL, capture_output=True, timeout=SECONDS, cwd=self.folder)
@@ -150,11 +157,12 @@ class Looker:
         return ended
 
     def expect(self, kind, number, is_so, about):
+        """Notes a fault unless `is_so` is true."""
         if not is_so:
             self.faults.append((kind, number, about))
 
     def look(self, number, case):
-        """Looks at a folder with the files of a case."""
+        """Runs the commands over a folder with the files of a case."""
         _, queue, version, _ = case.words
         files = sorted(dict(case.files).items())
         folder = Path(self.folder) / f"{number}"
@@ -180,6 +188,7 @@ class Looker:
                 self.read_lines(number, ended)
 
     def compare(self, number, checked, walked, readable, recovers, queue):
+        """Compares the lines of `check --json` with what this file's reader has found."""
         lines = self.read_lines(number, checked)
         says = bool(lines) and lines[-1] == {"verdict": "sound"}
         self.expect("sound", number, checked.returncode == (0 if says else 1), "status")
@@ -192,6 +201,7 @@ class Looker:
                 self.expect("places", number, (line["batches"], told) == walked[line["file"]], line)
 
     def read_lines(self, number, ended):
+        """Returns the lines of JSON that a run printed; none, with a fault, where a line isn't JSON."""
         try:
             return [json.loads(line) for line in ended.stdout.splitlines()]
         except ValueError:
@@ -200,6 +210,7 @@ class Looker:
 
 
 def round_of(arguments, numbers):
+    """Runs one round of inputs. Returns how many folders there were, and the faults."""
     with tempfile.TemporaryDirectory(dir="/dev/shm" if os.path.isdir("/dev/shm") else None) as folder:
         looker, count = Looker(arguments.program, folder), 0
         for number in numbers:
@@ -214,11 +225,11 @@ def round_of(arguments, numbers):
 
 def main():
     parser = argparse.ArgumentParser(description=__doc__, formatter_class=argparse.RawDescriptionHelpFormatter)
-    parser.add_argument("program", nargs="?", default=TOP / "crates/raftlog/out/raftlog", type=lambda path: str(Path(path).resolve()))
-    parser.add_argument("--inputs", type=int, default=500)
-    parser.add_argument("--seed", default="1")
-    parser.add_argument("--from", type=int, default=0, dest="begin")
-    parser.add_argument("--jobs", type=int, default=os.cpu_count())
+    parser.add_argument("program", nargs="?", default=TOP / "crates/raftlog/out/raftlog", type=lambda path: str(Path(path).resolve()), help="the path of raftlog")
+    parser.add_argument("--inputs", type=int, default=500, metavar="N", help="how many inputs to run (default: %(default)s)")
+    parser.add_argument("--seed", default="1", metavar="S", help="the seed of the inputs (default: %(default)s)")
+    parser.add_argument("--from", type=int, default=0, dest="begin", metavar="K", help="the number of the first input (default: %(default)s)")
+    parser.add_argument("--jobs", type=int, default=os.cpu_count(), metavar="J", help="how many processes run inputs at the same time (default: %(default)s)")
     arguments = parser.parse_args()
     arguments.program = str(arguments.program)
     end = arguments.begin + arguments.inputs

@@ -1,11 +1,12 @@
 #!/usr/bin/env python3
-"""Writes valid log files of the append queue, the same ones for the same words, and what they hold.
+"""Writes valid log files of the append queue, and what recovery has to print of them.
 
     tools/logs.py FOLDER [--files N] [--megabytes N] [--regions N]
 
-Into FOLDER, which is made or is empty, go the files `1`, `2`, .., `args` (the queue, the version, then `<seq>=<path>` for each file)
-and `expect`, the lines that `raftlog recover` owes: a case for tools/compare.py. The bytes are those of docs/FORMAT.md
-in version 2. Each batch appends entries to some regions, and now and then puts a key or drops entries from the front.
+FOLDER, which is made, or has to be empty, gets a case for tools/compare.py: the files `1`, `2`, .., a file `args` (the queue, the version, then
+`<seq>=<path>` for each file) and a file `expect` with the lines that `raftlog recover` has to print. The files are of version 2, as
+docs/FORMAT.md has it, and the same for the same arguments. Each batch appends entries to some regions, and at times puts a key or compacts a
+region.
 """
 import argparse
 import random
@@ -19,7 +20,7 @@ ENTRY_BYTES = 240
 
 
 def number(n):
-    """A number in septets, the lowest first."""
+    """Returns the encoding of a number: in groups of seven bits, the lowest first."""
     septets = bytearray()
     while n >= 128:
         septets.append(n % 128 + 128)
@@ -29,33 +30,36 @@ def number(n):
 
 
 def checksum(data, signature=0):
+    """Returns the bytes of a checksum, combined with a signature by exclusive or."""
     return (zlib.crc32(data) ^ signature).to_bytes(4, "little")
 
 
 class Region:
-    """What a region holds: the files of its entries from the first index on, and the file of each key's value."""
+    """What a region has: the file of each entry, from the first index on, and the file of each key."""
 
     def __init__(self):
         self.first, self.files, self.keys = 1, [], {}
 
     def append(self, seq):
-        """The content of an item that appends entries behind those that are there."""
+        """Appends entries that are in file `seq`, and returns the index of the first one."""
         start = self.first + len(self.files)
         self.files += [seq] * ENTRIES_A_REGION
         return start
 
     def compact(self, index):
+        """Removes the entries below an index."""
         self.files = self.files[index - self.first:]
         self.first = index
 
     def line(self, region):
+        """Returns the line that `raftlog recover` prints of the region."""
         entries = f"{self.first}..{self.first + len(self.files)}" if self.files else "-"
         least = min([*self.files[:1], *self.keys.values()], default="-")
         return f"{region} entries {entries} keys {len(self.keys)} append {least} rewrite -\n"
 
 
 def items_of(dice, regions, seq):
-    """The items of a batch of this file, and its entry bytes."""
+    """Draws the items of a batch in file `seq`, applies them to the regions, and returns them with the entry bytes."""
     items, tail = [], 0
     for region in dice.sample(range(1, len(regions) + 1), min(REGIONS_A_BATCH, len(regions))):
         held = regions[region - 1]
@@ -76,7 +80,7 @@ def items_of(dice, regions, seq):
 
 
 def batch_of(dice, regions, seq):
-    """The bytes of a batch of this file."""
+    """Draws a batch in file `seq`, applies it to the regions, and returns its bytes."""
     items, entries = items_of(dice, regions, seq)
     item_batch = number(len(items)) + b"".join(items)
     item_batch += checksum(item_batch, seq % 2**32)
@@ -86,7 +90,7 @@ def batch_of(dice, regions, seq):
 
 
 def write(folder, files, size, regions):
-    """Writes so many files, of about so many bytes together, over so many regions."""
+    """Writes so many files, with about `size` bytes together, over so many regions, and the answer."""
     folder.mkdir(parents=True, exist_ok=True)
     dice, held = random.Random(1), [Region() for _ in range(regions)]
     for seq in range(1, files + 1):
@@ -102,10 +106,10 @@ def write(folder, files, size, regions):
 
 def main():
     words = argparse.ArgumentParser(description=__doc__.splitlines()[0])
-    words.add_argument("folder", type=Path)
-    words.add_argument("--files", type=int, default=16)
-    words.add_argument("--megabytes", type=int, default=16)
-    words.add_argument("--regions", type=int, default=1000)
+    words.add_argument("folder", type=Path, help="the folder to write into")
+    words.add_argument("--files", type=int, default=16, metavar="N", help="how many files to write (default: %(default)s)")
+    words.add_argument("--megabytes", type=int, default=16, metavar="N", help="how large they are together, about (default: %(default)s)")
+    words.add_argument("--regions", type=int, default=1000, metavar="N", help="how many regions they have (default: %(default)s)")
     asked = words.parse_args()
     if asked.folder.exists() and (not asked.folder.is_dir() or any(asked.folder.iterdir())):
         sys.exit(f"{asked.folder}: no folder, or not an empty one")

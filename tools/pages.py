@@ -1,8 +1,8 @@
 #!/usr/bin/env python3
-"""Looks whether what the pages name is there.
+"""Checks that what the pages name is there.
 
-    pages.py    fails where a link of a page leads to no file, heading or line; where a name in a page stands nowhere in the sources (but
-                for pages that speak of raft-engine's names); and where a recipe of docs/MAINTAINING.md names what isn't in the crates of its row
+    pages.py    fails where a link of a page leads to no file, heading or line; where a name in a page is nowhere in the sources (but for
+                pages that have names of raft-engine); and where a recipe of docs/MAINTAINING.md names what isn't in the crates of its row
 """
 
 import re
@@ -20,7 +20,7 @@ KNOWN = {"SendError", "Processes", "my_store", "_desc", "apply_", "_writes"}
 
 
 def headings(page):
-    """The anchors of a page's headings, as GitHub makes them."""
+    """Returns the anchors of a page's headings, as GitHub makes them."""
     found = set()
     for title in re.findall(r"^#+ (.*)$", page.read_text(), re.M):
         text = re.sub(r"\[([^\]]*)\]\([^)]*\)", r"\1", title).replace("`", "").lower()
@@ -29,11 +29,12 @@ def headings(page):
 
 
 def text_of(page):
-    """The text of a page, without its blocks of code."""
+    """Returns the text of a page, without its blocks of code."""
     return re.sub(r"^```.*?^```|^    .*?$", "", page.read_text(), flags=re.S | re.M)
 
 
 def broken_links(page):
+    """Yields a line for each link of a page that leads nowhere."""
     for target in re.findall(r"\]\(([^)\s]+)\)", text_of(page)):
         if target.startswith("http"):
             continue
@@ -49,19 +50,19 @@ def broken_links(page):
 
 
 def names_in(text):
-    """What stands between backticks, but for the commands of the Makefile."""
+    """Returns what stands between backticks in a text, but for commands of the Makefile."""
     return [name for name in re.findall(r"`([^`\n]+)`", text) if not name.startswith("make ")]
 
 
 def spelled_out(name):
-    """What a name with braces stands for: each choice of one of each."""
+    """Returns all names that a name with braces stands for, as `{a,b}_c` does for two."""
     parts = re.split(r"\{([^}]*)\}", name)
     choices = [part.split(",") if at % 2 else [part] for at, part in enumerate(parts)]
     return ["".join(choice) for choice in product(*choices)]
 
 
 class Sources:
-    """The files of some folders of the repository, and the words in them."""
+    """The files in some folders of the repository, and the words in them."""
 
     def __init__(self, folders, kinds=KINDS):
         found = [path for folder in folders for path in folder.rglob("*") if path.suffix in kinds]
@@ -70,24 +71,26 @@ class Sources:
         self.words |= {path.stem for path in self.paths} | {path.name for folder in folders for path in folder.iterdir()}
 
     def has(self, name):
+        """Tests whether there is a file of this name, or each word of the name is in some file."""
         if name.endswith(KINDS):
             return any(f"/{path.relative_to(TOP)}".endswith(f"/{name}") for path in self.paths)
         return all(word in self.words for word in re.findall(r"\w+", name))
 
 
 def unknown_names(page, sources):
+    """Yields a line for each name in a page that is nowhere in the sources."""
     words = {word for name in names_in(text_of(page)) for word in re.findall(r"[A-Za-z_]\w{3,}", name)}
     return (f"{word} stands nowhere in the sources" for word in sorted(words - sources.words - KNOWN))
 
 
 def places_of(text):
-    """The folders that a row or a bullet speaks of: those of the crates, and of the other folders, that it names."""
+    """Returns the folders that a row or a bullet is about: those of the crates that it names, and rust/ and tools/ if it names them."""
     crates = [TOP / "crates" / name for name in sorted(set(re.findall(r"`(raft_\w+|raftlog)`", text))) if (TOP / "crates" / name).exists()]
     return crates + [TOP / name for name in ("rust", "tools") if f"`{name}/" in text]
 
 
 def lost_names():
-    """The names in the recipes that are in none of the places that their row or bullet speaks of."""
+    """Yields a line for each name in the recipes that is in none of the folders that its row or bullet is about."""
     recipes = re.search(r"^## Recipes$(.*?)^## ", (TOP / "docs/MAINTAINING.md").read_text(), re.S | re.M).group(1)
     for line in recipes.splitlines():
         if not line.startswith(("|", "- ")) or (places := places_of(line)) == []:

@@ -1,5 +1,5 @@
 #!/usr/bin/env bash
-# Draws what tools/beside.sh printed as an SVG on standard output: a panel for each log, the best times against the workers.
+# Draws the table that tools/beside.sh printed, as an SVG on standard output: a panel for each log, with the best times by workers.
 #
 #   picture.sh <output of beside.sh>
 #
@@ -10,7 +10,7 @@ set -euo pipefail
 room=$(mktemp -d)
 trap 'rm -rf "$room"' EXIT
 
-# A file for each log, with lines `workers here raft-engine`, from rows `| log | workers | best, median ms | best, median ms | ..`.
+# Makes a file for each log, with lines `workers here raft-engine`, of rows `| log | workers | best, median ms | best, median ms | ..`.
 awk -F '|' -v room="$room" '
     $3 ~ /^ *[0-9]+ *$/ {
         gsub(/ /, "", $2); gsub(/ /, "", $3); split($4, here, ","); split($5, there, ",")

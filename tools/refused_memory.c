@@ -1,11 +1,11 @@
-/* Refuses requests for memory, or starts of threads, by their number. It is loaded in front of a program by LD_PRELOAD.
-   `tools/refused_memory.py` builds it and says what it is for.
+/* Refuses requests for memory, or starts of threads, by their number. LD_PRELOAD loads it before a program, and the environment says what is
+   refused. `tools/refused_memory.py` builds it, and says what it is for.
 
-       REFUSE_FIRST, REFUSE_LAST    the malloc, calloc and realloc from this number to that one find no memory
-       REFUSE_START                 the start of a thread of this number fails
-       REFUSE_TOLD                  a file that is open for writing: it gets a byte at the first refusal
+       REFUSE_FIRST, REFUSE_LAST    the calls of malloc, calloc and realloc that find no memory: from this number to that one
+       REFUSE_START                 the start of a thread that fails, by its number
+       REFUSE_TOLD                  the number of a file that is open for writing: it gets a byte at the first refusal
 
-   Numbers begin at 1. What isn't set refuses nothing. */
+   Numbers of calls begin at 1. A variable that isn't set refuses nothing. */
 #define _GNU_SOURCE
 #include <dlfcn.h>
 #include <errno.h>
@@ -40,13 +40,13 @@ __attribute__((constructor)) static void read_words(void) {
     first = number_of("REFUSE_FIRST", 0);
 }
 
-/* Tells of the first refusal. */
+/* Counts a refusal, and writes a byte at the first one. */
 static void tell(void) {
     if (atomic_fetch_add(&refused, 1) == 0 && told >= 0 && write(told, "x", 1) != 1)
         abort();
 }
 
-/* Whether the next request is refused. */
+/* Counts a request for memory, and returns whether it is refused. */
 static int is_refused(void) {
     if (first == 0)
         return 0;

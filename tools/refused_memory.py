@@ -1,25 +1,25 @@
 #!/usr/bin/env python3
-"""Refuses each request for memory and each start of a thread in turn, and looks whether an answer changes.
+"""Refuses each request for memory and each start of a thread in turn, and checks that no answer changes but to say so.
 
     tools/refused_memory.py [--inputs N] [--seed S] [--jobs J] [--every K] [--rows-alone] [--row NAME]..
                             [--raftlog PATH] [--refusals PATH]
 
-`tools/refused_memory.c` is built and loaded in front of a program. Each call is run with ample memory, then with its first
-request for memory refused, its second, and so on, up to the first run that needs no more; and the same with all requests from
-the first on refused, from the second on, and so on; and with each start of a thread. With K each K-th request alone is taken.
+`tools/refused_memory.c` is built, and loaded before a program. Each call is run with ample memory; then with its first request for memory
+refused, with its second, and so on, up to the first run that makes no more requests; then the same with all requests refused from the first
+on, from the second on, and so on; and then with each start of a thread refused. With --every K only each K-th request is refused.
 
-The rows of `raft_refusals` come first. The program makes the calls of a row, and where one finds no memory it looks at what
-has to stand then, by value, and makes the call again. So a run with one request refused has to print what is owed with ample
-memory, that is what `crates/raft_refusals/stdout` has under the row's name; where all requests from one on are refused it may
-also end with `memory`, since the second call finds none either. `left otherwise` is never owed.
+The rows of `raft_refusals` come first. The program makes the calls of a row. Where a call finds no memory, the program compares what it left
+with what it has to leave, and makes the call again. So a run with one request refused has to print what is expected with ample memory: what
+`crates/raft_refusals/stdout` has under the row's name. Where all requests from one on are refused it may also end with `memory`, since the
+second call finds none either. It must never print `left otherwise`.
 
-The calls of `raftlog` are `batch` over an item batch, `recover` over the files of `demo/` with 1 to 8 workers, and the inputs
-that `tools/hostile.py` makes of SEED, with 1, 2 and 4 workers. A run has to answer what it answers with ample memory, or
-`memory`, or `io` (what finds no memory while it reads is a failed reading), and then no line is printed. Where a start of a
-thread is refused the answer has to be the same, also over files of more than 8 MiB, which are read by as many workers as
-are asked for. Where files have several faults, more workers may meet another first.
+The calls of `raftlog` are `batch` over an item batch, `recover` over the files of `demo/` with 1 to 8 workers, and the inputs that
+`tools/hostile.py` makes of SEED, with 1, 2 and 4 workers. A run has to answer as with ample memory, or `memory`, or `io` (a read that finds
+no memory is a failed read), and then prints no line. Where the start of a thread is refused, the answer has to be the same; also over files of
+more than 8 MiB, which as many workers read as are asked for. Where files have several faults, several workers may meet another one first.
 
-Printed are the rows and calls, the runs, and each run that went wrong with its number. A C compiler `cc` is needed.
+It prints how many rows, calls and runs there were, and each run that went wrong. It needs a C compiler `cc`. The status is 1 where a run went
+wrong.
 """
 import argparse
 import itertools
@@ -50,7 +50,8 @@ LARGE_FILES, LARGE_MEGABYTES = 9, 9
 
 @dataclass
 class Call:
-    """A program with its words, what stands on its input, and the folder that it runs in."""
+    """A program with its arguments, its standard input, and the folder that it runs in. `owed` is what a row has to print; `starts_alone`
+    says that only starts of threads are refused."""
     name: str
     words: list
     data: bytes = b""
@@ -61,7 +62,7 @@ class Call:
 
 
 def answer(library, call, refusals):
-    """The status and what was printed, and whether something was refused."""
+    """Runs a call with these refusals. Returns its status and what it printed, and whether something was refused."""
     reader, writer = os.pipe()
     words = {**os.environ, **{name: str(number) for name, number in refusals.items()}, "REFUSE_TOLD": str(writer)}
     try:
@@ -77,7 +78,8 @@ def answer(library, call, refusals):
 
 
 def each_refusal(library, call, refusals_of, every=1):
-    """The number and the answer of each run in which something was refused."""
+    """Yields for each run in which something was refused its number and its answer. It ends behind the first run without a refusal; where
+    there are threads behind several such runs."""
     quiet = 0
     for number in itertools.count(1, every):
         given, told = answer(library, call, refusals_of(number))
@@ -89,20 +91,24 @@ def each_refusal(library, call, refusals_of, every=1):
 
 
 def one(number):
+    """Returns the refusal of a single request."""
     return {"REFUSE_FIRST": number, "REFUSE_LAST": number}
 
 
 def all_from(number):
+    """Returns the refusal of all requests from a number on."""
     return {"REFUSE_FIRST": number, "REFUSE_LAST": FOREVER}
 
 
 def start(number):
+    """Returns the refusal of the start of a thread."""
     return {"REFUSE_START": number}
 
 
 def runs_of(library, call, ample, modes):
-    """The numbers of runs, and a line for each that went wrong, of a call. A mode is a name, what it refuses, what may be answered
-    beside what is answered with ample memory, and at which distance its numbers are."""
+    """Makes the runs of a call. Returns how many there were of each mode, and a line for each that went wrong. A mode is its name, a
+    function that returns its refusals, the answers that are allowed beside the one with ample memory, and the step from one number to the
+    next."""
     runs, wrong = Counter(), []
     for how, refusals_of, allowed, every in modes:
         for number, given in each_refusal(library, call, refusals_of, every):
@@ -113,7 +119,7 @@ def runs_of(library, call, ample, modes):
 
 
 def program_runs(library, call, every):
-    """The runs of a call of `raftlog`."""
+    """Makes the runs of a call of `raftlog`."""
     ample, _ = answer(library, call, {})
     faults = FAULTS if call.threads and ample in FAULTS else []
     modes = [("start of a thread", start, faults, 1)]
@@ -126,7 +132,7 @@ def program_runs(library, call, every):
 
 
 def owed_rows():
-    """What each row of `raft_refusals` has to print."""
+    """Returns what each row of `raft_refusals` has to print, by its name."""
     rows, lines = {}, []
     for line in OWED.read_bytes().splitlines(keepends=True):
         if line.endswith(b":\n") and b" " not in line:
@@ -136,7 +142,7 @@ def owed_rows():
 
 
 def row_runs(library, call, every):
-    """The runs of a row."""
+    """Makes the runs of a row."""
     ample, _ = answer(library, call, {})
     owed = (0, call.owed, b"")
     ends = [(0, text, b"") for text in (f"{call.words[1]}:\nmemory\n".encode(), b"memory\n")]
@@ -148,14 +154,14 @@ def row_runs(library, call, every):
 
 
 def row_calls(refusals, names):
-    """A call for each row, or for those of these names."""
+    """Yields a call for each row, or for those with these names."""
     for name, owed in owed_rows().items():
         if not names or name in names:
             yield Call(f"row {name}", [refusals, name], threads=name in THREADED_ROWS, owed=owed)
 
 
 def demo_calls(raftlog):
-    """Calls over what stands in the repository."""
+    """Yields calls over files of the repository."""
     item_batch = (TOP / "crates/raftlog/stdin").read_bytes()
     yield Call("batch", [raftlog, "batch", "append", "12", "1"], item_batch)
     files = [f"{seq}={seq}.log" for seq in range(1, 5)]
@@ -165,7 +171,7 @@ def demo_calls(raftlog):
 
 
 def made_calls(raftlog, seed, inputs, folder):
-    """Calls over inputs that are made."""
+    """Yields calls over random inputs, which it writes into a folder."""
     for number in range(inputs):
         case = hostile.case_of(seed, number)
         for place, (_, data) in enumerate(case.files):
@@ -178,7 +184,7 @@ def made_calls(raftlog, seed, inputs, folder):
 
 
 def large_calls(raftlog, folder):
-    """Calls over files that are read by as many workers as are asked for."""
+    """Yields calls over files that are so large that as many workers read them as are asked for."""
     subprocess.run([TOP / "tools/logs.py", folder, "--files", str(LARGE_FILES), "--megabytes", str(LARGE_MEGABYTES)],
                    check=True, capture_output=True)
     queue, version, *files = (folder / "args").read_text().split()
@@ -188,7 +194,7 @@ def large_calls(raftlog, folder):
 
 
 def tried(pool, runs_of_call, library, calls, every, what):
-    """Runs calls, prints each run that went wrong and how many there were, and answers whether none did."""
+    """Makes the runs of all calls, prints each that went wrong and how many there were, and returns whether none went wrong."""
     runs, wrong = Counter(), 0
     for work in [pool.submit(runs_of_call, library, call, every) for call in calls]:
         more, lines = work.result()
@@ -201,7 +207,7 @@ def tried(pool, runs_of_call, library, calls, every, what):
 
 
 def program(path):
-    """A program that is there."""
+    """Returns the absolute path of a program, or ends this one where it isn't there."""
     if not os.access(path, os.X_OK):
         sys.exit(f"{path} isn't there: make refused-memory")
     return str(path.resolve())
@@ -209,14 +215,14 @@ def program(path):
 
 def main():
     parser = argparse.ArgumentParser(description=__doc__, formatter_class=argparse.RawDescriptionHelpFormatter)
-    parser.add_argument("--inputs", type=int, default=100)
-    parser.add_argument("--seed", default="1")
-    parser.add_argument("--jobs", type=int, default=os.cpu_count())
-    parser.add_argument("--every", type=int, default=1)
-    parser.add_argument("--rows-alone", action="store_true")
-    parser.add_argument("--row", action="append", default=[])
-    parser.add_argument("--raftlog", type=Path, default=TOP / "crates/raftlog/out/raftlog")
-    parser.add_argument("--refusals", type=Path, default=TOP / "crates/raft_refusals/out/raft_refusals")
+    parser.add_argument("--inputs", type=int, default=100, metavar="N", help="how many random inputs to run (default: %(default)s)")
+    parser.add_argument("--seed", default="1", metavar="S", help="the seed of the inputs (default: %(default)s)")
+    parser.add_argument("--jobs", type=int, default=os.cpu_count(), metavar="J", help="how many calls to run at the same time (default: %(default)s)")
+    parser.add_argument("--every", type=int, default=1, metavar="K", help="refuse each K-th request only (default: %(default)s)")
+    parser.add_argument("--rows-alone", action="store_true", help="make no calls of raftlog")
+    parser.add_argument("--row", action="append", default=[], metavar="NAME", help="make this row alone; may be repeated")
+    parser.add_argument("--raftlog", type=Path, default=TOP / "crates/raftlog/out/raftlog", metavar="PATH", help="the path of raftlog")
+    parser.add_argument("--refusals", type=Path, default=TOP / "crates/raft_refusals/out/raft_refusals", metavar="PATH", help="the path of raft_refusals")
     arguments = parser.parse_args()
     every, good = arguments.every, True
     with tempfile.TemporaryDirectory() as folder, ThreadPoolExecutor(arguments.jobs) as pool:

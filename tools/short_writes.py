@@ -1,11 +1,12 @@
 #!/usr/bin/env python3
-"""Runs raft_example where the disk takes no more bytes: a line for each write that fails half way and isn't made good.
+"""Runs raft_example on a disk that takes no more bytes, and checks that it recovers from each write that fails half way.
 
     tools/short_writes.py [PROGRAM]
 
-No file may grow beyond a limit, which is each number of bytes in turn, as with `ulimit -f`: the write that would pass it is taken in part,
-and then refused, which ends the program. Run again without a limit, it has to find what it last showed, or batches behind it, and as much
-as at the limit before, and to go on. It ends with 1 where it doesn't. PROGRAM is crates/raft_example/out/raft_example where it isn't given.
+No file may grow beyond a limit, as with `ulimit -f`; the limit is each number of bytes in turn. A write that would pass it is made in part and
+then refused, which ends the program. When it is run again without a limit, it has to find at least the state that it printed last, and at
+least as much as with the limit before, and to go on. PROGRAM is crates/raft_example/out/raft_example by default. A line is printed for each
+limit with which it doesn't; the status is 1 where there is one.
 """
 import argparse
 import resource
@@ -22,13 +23,14 @@ LIMITS = 4096
 
 
 def limit_files(limit):
-    """Lets no file grow beyond so many bytes: a write beyond them is refused, and no signal is sent."""
+    """Lets no file of this process grow beyond so many bytes: a write beyond them is refused, and no signal is sent."""
     signal.signal(signal.SIGXFSZ, signal.SIG_IGN)
     resource.setrlimit(resource.RLIMIT_FSIZE, (limit, limit))
 
 
 def shown(program, folder, limit):
-    """Whether a run over a folder ends well, and what it shows of the regions: the index of each state in BATCHES, None for any other."""
+    """Runs the program over a folder, with the limit in the list `limit`, or without one for None. Returns whether it ended well, and the
+    states of the regions that it printed: the position of each in BATCHES, None for any other state."""
     ended = subprocess.run([program, folder], stdin=subprocess.DEVNULL, capture_output=True, text=True, timeout=SECONDS,
                            restore_signals=False, preexec_fn=limit and (lambda: limit_files(limit[0])))
     lines = [line for line in ended.stdout.splitlines() if line.startswith("  region ")]
@@ -38,7 +40,7 @@ def shown(program, folder, limit):
 
 def main():
     words = argparse.ArgumentParser(description=__doc__.splitlines()[0])
-    words.add_argument("program", type=Path, nargs="?", default=CRATES / "raft_example/out/raft_example")
+    words.add_argument("program", type=Path, nargs="?", default=CRATES / "raft_example/out/raft_example", help="the path of raft_example")
     program = words.parse_args().program.resolve()
     limit, least, wrongs = 0, 0, 0
     while limit < LIMITS:

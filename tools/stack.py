@@ -1,11 +1,11 @@
 #!/usr/bin/env python3
-"""Runs `raftlog recover` over 2,000 files, with little stack and with many workers: a line for each run.
+"""Runs `raftlog recover` over 2,000 files, with little stack and with many workers, and prints a line for each run.
 
     tools/stack.py [PROGRAM] [--files N] [--megabytes N] [--regions N]
 
-It ends with 1 where a run goes wrong. Each has to end with status 0 and the lines that the files owe (tools/logs.py). The limits of the stack are those of
-`ulimit -s`, in KB; where it is `unlimited`, threads get what the system gives them. PROGRAM is crates/raftlog/out/raftlog
-where it isn't given. Time and memory of each run are shown, and judged by nobody.
+The files are made by tools/logs.py. Each run has to end with status 0, and to print the expected lines; where one doesn't, the status is 1. The
+stack has the limits of `ulimit -s`, in KiB; where it is `unlimited`, threads get what the system gives them. PROGRAM is
+crates/raftlog/out/raftlog by default. The lines have the time and the memory of each run, which aren't judged.
 """
 import argparse
 import os
@@ -25,7 +25,7 @@ SECONDS = 120
 
 
 def limit_stack(limit):
-    """Sets the limit of the stack, as `ulimit -S -s` does."""
+    """Sets the limit of this process's stack, in KiB, as `ulimit -S -s` does."""
     most = resource.getrlimit(resource.RLIMIT_STACK)[1]
     wanted = resource.RLIM_INFINITY if limit == "unlimited" else limit << 10
     if most != resource.RLIM_INFINITY:
@@ -34,7 +34,7 @@ def limit_stack(limit):
 
 
 def run(program, folder, limit, workers):
-    """What a run comes to: what is wrong with it, if anything is, the seconds and the megabytes that it took."""
+    """Runs raftlog with a limit of the stack. Returns what went wrong, or None, and how many seconds and MiB the run took."""
     queue, version, *files = (folder / "args").read_text().split()
     words = [str(program), "recover", queue, version, str(workers), *files]
     with tempfile.TemporaryFile() as out, tempfile.TemporaryFile() as err:
@@ -56,10 +56,10 @@ def run(program, folder, limit, workers):
 
 def main():
     words = argparse.ArgumentParser(description=__doc__.splitlines()[0])
-    words.add_argument("program", type=Path, nargs="?", default=RAFTLOG)
-    words.add_argument("--files", type=int, default=2000)
-    words.add_argument("--megabytes", type=int, default=47)
-    words.add_argument("--regions", type=int, default=3000)
+    words.add_argument("program", type=Path, nargs="?", default=RAFTLOG, help="the path of raftlog")
+    words.add_argument("--files", type=int, default=2000, metavar="N", help="how many files to make (default: %(default)s)")
+    words.add_argument("--megabytes", type=int, default=47, metavar="N", help="how large they are together, about (default: %(default)s)")
+    words.add_argument("--regions", type=int, default=3000, metavar="N", help="how many regions they have (default: %(default)s)")
     asked = words.parse_args()
     if not asked.program.exists():
         sys.exit(f"{asked.program} isn't there: make raftlog")

@@ -1,8 +1,8 @@
 #!/usr/bin/env python3
-"""Builds a program without a proof, with the checks of `rt try`, and keeps it: `tools/unproved_program.py raftlog`.
+"""Builds a program without a proof, with the checks of `rt try`: `tools/unproved_program.py CRATE`, for example `.. raftlog`.
 
-It stands in crates/NAME/out/NAME_unproved, and is built again only where a source of the crate, or of one below it, has changed.
-How it is had from the toolchain says tools/unproved.py. The last line is the path, and that nothing is proved."""
+The program is crates/CRATE/out/CRATE_unproved. It is built again only where a source of the crate, or of a crate below it, has changed.
+tools/unproved.py says how it is had from the toolchain. The last line that is printed has its path, and that it has no proof."""
 
 import hashlib
 import os
@@ -16,7 +16,7 @@ import unproved
 
 
 def checksum(kit, folder):
-    """A checksum of all sources that the program is made of."""
+    """Returns a checksum of the kit and of all sources of the crate in `folder` and of those below it."""
     sys.path.insert(0, str(kit / "bin"))
     import rtlib
 

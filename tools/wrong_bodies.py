@@ -3,19 +3,20 @@
 
     tools/wrong_bodies.py [--applies] [--name] [--folder NAME] [CRATE..] [CRATE/EDIT..]
 
-tries crates/CRATE/wrong-bodies/*.edit of the crates that are named, or of all, over a copy of the repository, and lists
-those that are not refused, and those that are refused by a proof file alone: it names a step that the wrong body took
-away, which says nothing of the contract. CRATE/EDIT is one of them, as `raft_table/absorb_by_own_queue`, with or without
-`.edit`. --applies only looks whether each edit can be applied, in must-fail/ too, and proves nothing.
---folder must-fail tries that folder's edits in the same way. RT names the toolchain's command, where it is not `rt`.
+It tries crates/CRATE/wrong-bodies/*.edit of the named crates, or of all, in a copy of the repository. CRATE/EDIT is a single one, such as
+`raft_table/absorb_by_own_queue`, with or without `.edit`. It lists the edits that are not refused, and those that only a proof file refuses:
+the file names a step that the wrong body took away, which says nothing of the contract. The status is 1 where an edit is not refused.
 
-A line `clause: NAME ..` of an edit names the clauses that refuse it (`ensures`: one without a name): then it counts as refused
-only where the check leaves one of them unproved of a function that the edit changes. --name writes that line into the edits that
-are tried and have none; where it writes none, an invariant of a loop or a premise of a call refuses the body.
+    --applies              only checks that each edit can be applied, in must-fail/ too, and proves nothing
+    --folder must-fail     tries the edits of that folder in the same way
+    --name                 writes into each edit that is tried the clauses that refuse it, if it names none
 
-Wrong bodies of different functions go into one check, since a function is proved from its own body and the contracts of
-what it calls. One that a check says nothing of, or one with a refused function below it, is tried once more by itself;
-so is one of a function whose proof file names a step that is gone.
+A line `clause: NAME ..` of an edit names clauses (`ensures` stands for one without a name). Such an edit counts as refused only if the check
+leaves one of these clauses unproved of a function that the edit changes. Where --name writes no line, an invariant of a loop or a premise of
+a call refuses the body. The environment variable RT names the toolchain's command, if it isn't `rt`.
+
+Wrong bodies of different functions share a check, since a function is proved from its own body and the contracts of what it calls. An edit is
+tried once more by itself if the check says nothing of it, if a function below it was refused, or if a proof file names a step that is gone.
 """
 import os
 import re
@@ -42,7 +43,7 @@ UNREAD = re.compile(r"(?:\./)?(src/\S+):(\d+):\d+: error")
 
 
 class Edit:
-    """A wrong body: texts that stand once in a file of the crate, and what each is replaced by."""
+    """A wrong body: texts that each stand once in a file of the crate, and what replaces them."""
 
     def __init__(self, path):
         self.path, self.name, self.pairs, self.clauses = path, os.path.basename(path).removesuffix(".edit"), [], []
@@ -59,7 +60,7 @@ class Edit:
                     self.pairs.append((file, old, line.removeprefix("new:").removeprefix(" ")))
 
     def apply(self, texts):
-        """Puts the wrong body into the texts of the crate's files, and answers why it can't be, or None."""
+        """Replaces the texts in those of the crate's files. Returns None, or why that can't be done; nothing is replaced then."""
         made = dict(texts)
         if not self.pairs:
             return "it replaces nothing"
@@ -72,19 +73,19 @@ class Edit:
         return None
 
     def name_clauses(self, clauses):
-        """Writes these clauses into the edit, if there are any and it names none."""
+        """Writes these clauses into the edit, unless there are none or it names some."""
         if clauses and not self.clauses:
             self.clauses = sorted(clauses)
             with open(self.path, "a", encoding="utf-8") as file:
                 file.write(f"clause: {' '.join(self.clauses)}\n")
 
     def functions(self, texts):
-        """The functions that it changes, as pairs of file and name; a change outside of functions has the name None."""
+        """Returns the functions that the edit changes, as pairs of file and name. The name is None for a change outside of functions."""
         return {(file, enclosing(texts[file], texts[file].index(old))) for file, old, _ in self.pairs if old in texts.get(file, "")}
 
 
 def enclosing(text, at):
-    """The name of the function that this place of a file stands in, or None."""
+    """Returns the name of the function around a position in a source; None where there is none."""
     lines, row = text.split("\n"), text.count("\n", 0, at)
     for start in range(row, -1, -1):
         head = FUNCTION.match(lines[start])
@@ -95,7 +96,7 @@ def enclosing(text, at):
 
 
 def module_of(file):
-    """The path of the module that a file of src/ holds."""
+    """Returns the path of the module in a file of src/."""
     parts = file.removeprefix("src/").removesuffix(".rt").split("/")
     return [] if parts == ["lib"] or parts == ["main"] else parts
 
@@ -107,9 +108,9 @@ class Crate:
         self.name, self.folder, self.texts = name, folder, sources(folder)
 
     def check(self, edits):
-        """Checks the crate with these wrong bodies in it. Answers whether the crate is proved, or None where the check did not reach the prover,
-        for each function whether it was refused for its own body, by more than a step that its proof file misses, and what the check printed.
-        Keeps in `unproved` the clauses of each function that were left unproved."""
+        """Checks the crate with these wrong bodies in it. Returns whether the crate is proved, or None where the check didn't reach the
+        prover; for each function whether it was refused for its own body, and not only for a step that its proof file misses; and what the
+        check printed. Keeps in `unproved` the clauses of each function that weren't proved."""
         texts = dict(self.texts)
         for edit in edits:
             edit.apply(texts)
@@ -127,7 +128,8 @@ class Crate:
         return ran.returncode == 0 if reached else None, refused, ran.stdout
 
     def clauses_left(self, said):
-        """For each function the names of its clauses that a check left unproved, or whose answer it refused."""
+        """Returns for each function the names of its clauses that a check didn't prove, or whose proof file it refused. `said` is what the
+        check printed."""
         left = {}
         for goal, path in LEFT.findall(said):
             left.setdefault((self.name, *path.split("/")), set()).add(clause_of(goal))
@@ -140,7 +142,8 @@ class Crate:
         return left
 
     def named(self, edit, functions):
-        """Which of these functions the edit changes. A method is named below the module of its type, which may be the one above that of its file."""
+        """Returns those of the functions that the edit changes. A method is named below the module of its type, which may be the one above
+        that of its file."""
         found = []
         for file, function in edit.functions(self.texts):
             path = (self.name, *module_of(file))
@@ -152,33 +155,34 @@ class Crate:
         return found
 
     def is_refused(self, edit, refused):
-        """Whether a function that the edit changes is among those that were refused for their own body, by a clause that the edit names if it names any."""
+        """Tests whether a function that the edit changes was refused for its own body, and, if the edit names clauses, by one of these."""
         return any(refused[it] for it in self.named(edit, refused)) and (not edit.clauses or bool(self.clauses_of(edit) & set(edit.clauses)))
 
     def clauses_of(self, edit):
-        """The clauses of the functions that the edit changes which the last check left unproved."""
+        """Returns the clauses that the last check didn't prove of the functions that the edit changes."""
         return {it for name in self.named(edit, self.unproved) for it in self.unproved[name]}
 
 
 def clause_of(goal):
-    """The name of the clause that a goal is of; `ensures` where it has none."""
+    """Returns the name of the clause that a goal is for; `ensures` where it has none."""
     return goal.rpartition("-clause-")[2] if "-clause-" in goal else "ensures"
 
 
 def is_own(verdict):
-    """Whether a function's verdict is that its own body is refused, and not just one below it."""
+    """Tests whether a verdict on a function says that its own body is refused, and not only a function below it."""
     said = re.sub(r"^(?:no proof|not proved)", "", verdict)
     return said != verdict and (not WAITS.search(said) or bool(WAITS.sub("", said).strip(" ;:")))
 
 
 def is_by_proof_alone(said):
-    """Whether all that a check complains of is that proof files name what the wrong body took away."""
+    """Tests whether all complaints of a check are that proof files name what the wrong body took away."""
     told = [it[0] for it in PLACED.finditer(BROKEN.sub(" ", said))]
     told = [it for it in told if ": error" in it or "note: " in it] or told
     return bool(told) and all(GONE.match(it) for it in told)
 
 
 def sources(folder):
+    """Returns the texts of all files in src/, specs/ and proofs/ of a crate, by their paths."""
     texts = {}
     for part in ("src", "specs", "proofs"):
         for at, _, files in os.walk(f"{folder}/{part}"):
@@ -189,6 +193,7 @@ def sources(folder):
 
 
 def write(path, text):
+    """Writes a file, unless it has this text already."""
     with open(path, encoding="utf-8") as file:
         if file.read() == text:
             return
@@ -197,8 +202,8 @@ def write(path, text):
 
 
 def rounds(crate, edits):
-    """Divides the edits into rounds, so that no two of a round change one function, and those of a round can be applied together. An edit of
-    several functions, or of none, has a round to itself."""
+    """Divides the edits into rounds, whose edits are checked together: no two of a round change the same function, and all can be applied.
+    An edit of several functions, or of none, has a round to itself."""
     rest = list(edits)
     while rest:
         taken, seen, texts = [], set(), dict(crate.texts)
@@ -216,12 +221,13 @@ def rounds(crate, edits):
 
 
 def say(text):
+    """Prints a line at once."""
     print(text, flush=True)
 
 
 def tried(crate, edits, names):
-    """Tries the edits, and answers a line for each that is not refused, and one for each that a proof file alone refuses. Where it is to name
-    clauses, it writes those that refuse an edit into it."""
+    """Tries the edits. Returns a line for each that isn't refused, and one for each that only a proof file refuses. With `names` it writes
+    into each edit the clauses that refuse it."""
     alone, rest = [], list(rounds(crate, edits))
     while rest:
         these = rest.pop(0)
@@ -257,30 +263,32 @@ def tried(crate, edits, names):
 
 
 def first_error(said):
+    """Returns the first line of a check with an error, cut to 200 characters."""
     lines = said.split("\n")
     return next((it for it in lines if UNREAD.match(it)), next((it for it in lines if "error" in it), lines[-1]))[:200]
 
 
 def edits_in(name, folder):
+    """Returns the edits in a folder of a crate, by their names."""
     at = f"{ROOT}/crates/{name}/{folder}"
     names = sorted(os.listdir(at)) if os.path.isdir(at) else []
     return [Edit(f"{at}/{it}") for it in names if it.endswith(".edit")]
 
 
 def rows_of():
-    """The line of each crate of the repository."""
+    """Returns the line of each crate in crates.txt."""
     with open(f"{ROOT}/crates.txt", encoding="utf-8") as lines:
         rows = [it.split("#")[0].strip() for it in lines]
     return {re.split(r"[ :]", it)[0]: it for it in rows if it}
 
 
 def libraries():
-    """The crates of the repository, each with what it stands on."""
+    """Returns for each crate of the repository the crates that it uses."""
     return {name: row.partition(":")[2].split() for name, row in rows_of().items()}
 
 
 def with_lower(names):
-    """These crates and those of the repository that they stand on."""
+    """Returns these crates and all crates of the repository below them."""
     uses, found, rest = libraries(), [], list(names)
     while rest:
         name = rest.pop()
@@ -291,8 +299,8 @@ def with_lower(names):
 
 
 def asked_of(words):
-    """The crates that words name, each with the names of the edits that are asked for, of which none stands for all; every crate
-    where there is no word."""
+    """Returns the crates that arguments name, each with the names of its edits that are asked for, where none stands for all; every crate
+    where there are no arguments."""
     asked = {}
     for word in words:
         crate, _, edit = word.partition("/")
@@ -311,7 +319,7 @@ def with_edits(asked, folders):
 
 
 def applies(asked):
-    """Answers a line for each edit that can't be applied."""
+    """Returns a line for each edit that can't be applied."""
     faults, count = [], 0
     for name, edits in asked.items():
         texts = sources(f"{ROOT}/crates/{name}")

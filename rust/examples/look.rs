@@ -1,5 +1,5 @@
-//! Looks at the folder of an engine without changing it: `look <folder>`. Says what an opening would cut off its files, and why, which
-//! batches have damaged entries, how large the files are, and what each region has.
+//! Looks at the folder of an engine without changing it: `look <folder>`. Says what an opening would cut off its files, and
+//! why, which batches have damaged entries, how large the files are, and what each region has.
 
 use raft_recover::{Engine, Options, QueueStats};
 use std::{env, error::Error};

@@ -1,5 +1,6 @@
-//! Goes through the phases of an engine over files in memory, whose instructions `make bench-engine` counts: `phases [batches]`. It prints
-//! a line for each phase: its name, how many units it had, what a unit is, and how many nanoseconds each took.
+//! Goes through the phases of an engine over files in memory, whose instructions `make bench-engine` counts:
+//! `phases [batches]`. It prints a line for each phase: its name, how many units it had, what a unit is, and how many
+//! nanoseconds each took.
 
 use raft_recover::{Engine, LogBatch, MemoryFiles, Options, Result};
 use std::time::Instant;
@@ -11,13 +12,16 @@ const REGIONS: u64 = 100;
 /// How many entries a batch has.
 const ENTRIES: u64 = 8;
 
-/// The step from one entry of a region that is read to the next one: it shares no factor with how many there are.
+/// How far apart, in positions of a region's entries, two entries are that are read one after the other. It shares no factor with
+/// their number, so that each is read once.
 const STEP: u64 = 7_919;
 
+/// An engine over files in memory.
 type MemoryEngine = Engine<MemoryFiles>;
 
-/// Prints what a phase took, which returns how many units it had.
-fn tell(name: &str, unit: &str, phase: impl FnOnce() -> Result<u64>) -> Result<()> {
+/// Runs a phase, which returns how many units it had, and prints its line: the name, that number, the unit, and how many
+/// nanoseconds each took.
+fn run_phase(name: &str, unit: &str, phase: impl FnOnce() -> Result<u64>) -> Result<()> {
     let begun = Instant::now();
     let count = phase()?;
     let each = begun.elapsed().as_nanos() / u128::from(count.max(1));
@@ -25,44 +29,44 @@ fn tell(name: &str, unit: &str, phase: impl FnOnce() -> Result<u64>) -> Result<(
     Ok(())
 }
 
-/// Adds the entries of a region's batch of this number.
-fn fill(batch: &mut LogBatch, region: u64, number: u64) -> Result<()> {
+/// Adds to a batch the entries of the batch numbered `number` of a region.
+fn fill_batch(batch: &mut LogBatch, region: u64, number: u64) -> Result<()> {
     batch.add_entries(region, number * ENTRIES + 1, &[[7; 128]; ENTRIES as usize])
 }
 
-/// Makes batches.
+/// Makes batches, and writes none.
 #[inline(never)]
 fn phase_make(batches: u64) -> Result<u64> {
     for number in 0..batches {
         for region in 0..REGIONS {
             let mut batch = LogBatch::new()?;
-            fill(&mut batch, region, number)?;
+            fill_batch(&mut batch, region, number)?;
             hint::black_box(&batch);
         }
     }
     Ok(batches * REGIONS)
 }
 
-/// Makes batches, and writes each.
+/// Makes batches, and writes each once.
 #[inline(never)]
 fn phase_write(engine: &MemoryEngine, batches: u64) -> Result<u64> {
     for number in 0..batches {
         for region in 0..REGIONS {
             let mut batch = LogBatch::new()?;
-            fill(&mut batch, region, number)?;
+            fill_batch(&mut batch, region, number)?;
             engine.write(&mut batch, false)?;
         }
     }
     Ok(batches * REGIONS)
 }
 
-/// Fills one batch again and again, and writes it each time.
+/// Fills a single batch again and again, and writes it each time.
 #[inline(never)]
 fn phase_write_again(engine: &MemoryEngine, batches: u64) -> Result<u64> {
     let mut batch = LogBatch::new()?;
     for number in batches..2 * batches {
         for region in 0..REGIONS {
-            fill(&mut batch, region, number)?;
+            fill_batch(&mut batch, region, number)?;
             engine.write(&mut batch, false)?;
         }
     }
@@ -80,7 +84,7 @@ fn phase_entry_in_order(engine: &MemoryEngine, entries: u64) -> Result<u64> {
     Ok(entries * REGIONS)
 }
 
-/// Reads all entries, each by one call, and none behind its neighbor.
+/// Reads all entries, each by one call, so that no block is still kept when its next entry is read.
 #[inline(never)]
 fn phase_entry(engine: &MemoryEngine, entries: u64) -> Result<u64> {
     for turn in 0..entries {
@@ -91,7 +95,7 @@ fn phase_entry(engine: &MemoryEngine, entries: u64) -> Result<u64> {
     Ok(entries * REGIONS)
 }
 
-/// Reads as many entries of ten blocks in turn, which are kept.
+/// Reads entries of ten blocks in turn, so that each block is kept. There are as many calls as in the other phases.
 #[inline(never)]
 fn phase_entry_kept(engine: &MemoryEngine, entries: u64) -> Result<u64> {
     for turn in 0..entries * REGIONS {
@@ -100,7 +104,7 @@ fn phase_entry_kept(engine: &MemoryEngine, entries: u64) -> Result<u64> {
     Ok(entries * REGIONS)
 }
 
-/// Lends all entries of each region in order, by one call for a region.
+/// Lends all entries of each region in order, by one call for each region.
 #[inline(never)]
 fn phase_for_each_entry(engine: &MemoryEngine, entries: u64) -> Result<u64> {
     for region in 0..REGIONS {
@@ -111,25 +115,25 @@ fn phase_for_each_entry(engine: &MemoryEngine, entries: u64) -> Result<u64> {
     Ok(entries * REGIONS)
 }
 
-/// Moves all records of the first file.
+/// Moves all records to the rewrite queue.
 #[inline(never)]
 fn phase_rewrite(engine: &MemoryEngine, entries: u64) -> Result<u64> {
     engine.rewrite(1)?;
     Ok(entries * REGIONS)
 }
 
-/// Goes through the phases of reading.
-fn read(engine: &MemoryEngine, entries: u64, which: &str) -> Result<()> {
-    tell(&format!("entry{which}"), "entry", || {
+/// Runs the phases that read. `which` is added to their names.
+fn read_all(engine: &MemoryEngine, entries: u64, which: &str) -> Result<()> {
+    run_phase(&format!("entry{which}"), "entry", || {
         phase_entry(engine, entries)
     })?;
-    tell(&format!("entry{which}, of neighbors"), "entry", || {
+    run_phase(&format!("entry{which}, of neighbors"), "entry", || {
         phase_entry_in_order(engine, entries)
     })?;
-    tell(&format!("for_each_entry{which}"), "entry", || {
+    run_phase(&format!("for_each_entry{which}"), "entry", || {
         phase_for_each_entry(engine, entries)
     })?;
-    tell(
+    run_phase(
         &format!("entry{which}, of ten blocks in turn"),
         "entry",
         || phase_entry_kept(engine, entries),
@@ -140,14 +144,14 @@ fn main() -> std::result::Result<(), Box<dyn std::error::Error>> {
     let batches = env::args().nth(1).map_or(Ok(10), |word| word.parse())?;
     let entries = 2 * batches * ENTRIES;
     let engine = Engine::with_files(MemoryFiles::new(), Options::new())?;
-    tell("make", "batch", || phase_make(batches))?;
-    tell("make and write", "batch", || phase_write(&engine, batches))?;
-    tell("fill again and write", "batch", || {
+    run_phase("make", "batch", || phase_make(batches))?;
+    run_phase("make and write", "batch", || phase_write(&engine, batches))?;
+    run_phase("fill again and write", "batch", || {
         phase_write_again(&engine, batches)
     })?;
-    read(&engine, entries, "")?;
+    read_all(&engine, entries, "")?;
     engine.rotate()?;
-    tell("rewrite", "entry", || phase_rewrite(&engine, entries))?;
-    read(&engine, entries, " of rewritten ones")?;
+    run_phase("rewrite", "entry", || phase_rewrite(&engine, entries))?;
+    read_all(&engine, entries, " of rewritten ones")?;
     Ok(())
 }

@@ -1,6 +1,6 @@
 //! The log of a Raft node, in a region of an engine that many nodes share: the six calls of raft-rs's `Storage`, and what a node
 //! writes, which no crash takes away once the call returned `Ok`. `raft_storage <folder>` appends an entry.
-//! An entry's term stands in front of its data. The hard state and what is known of the snapshot are key values. Terms are kept in
+//! An entry's term stands before its data. The hard state and what is known of the snapshot are key values. Terms are kept in
 //! memory, so `term` reads no block. The region is the log's alone.
 
 mod raft_rs;
@@ -14,11 +14,13 @@ pub struct RaftStorage<F: Files> {
     engine: Arc<Engine<F>>,
     region: u64,
     snapshot: SnapshotMetadata,
-    /// The terms of the last entry in the snapshot, and of each entry behind it.
+    /// The term of the last entry in the snapshot, and of each entry of the log.
     terms: Vec<u64>,
 }
 
+/// The key of the hard state.
 const HARD_STATE: &[u8] = b"hard state";
+/// The key of the snapshot.
 const SNAPSHOT: &[u8] = b"snapshot";
 
 impl<F: Files> RaftStorage<F> {
@@ -39,21 +41,21 @@ impl<F: Files> RaftStorage<F> {
         Ok(log)
     }
 
-    /// Returns the numbers in a value, none where there is no value.
+    /// Returns the numbers in the value of a key, none where there is no value.
     fn numbers(&self, key: &[u8]) -> Result<Vec<u64>> {
         let value = self.engine.get(self.region, key).map_err(Other)?;
         let numbers = value.as_deref().unwrap_or_default().as_chunks().0;
         Ok(numbers.iter().map(|n| u64::from_le_bytes(*n)).collect())
     }
 
-    /// Writes what a call adds to a batch, all of it or nothing.
+    /// Writes what `add` adds to a batch, and syncs it: all of it or nothing.
     fn write(&self, add: impl FnOnce(&mut LogBatch) -> raft_recover::Result<()>) -> Result<()> {
         let mut batch = LogBatch::new().map_err(Other)?;
         add(&mut batch).map_err(Other)?;
         self.engine.write(&mut batch, true).map_err(Other)
     }
 
-    /// Appends entries with consecutive indexes, in place of those from the first one's on.
+    /// Appends entries with consecutive indexes. Those from the first one's index on are replaced.
     pub fn append(&mut self, entries: &[Entry]) -> Result<()> {
         let first = entries.first().map_or(self.last_index()? + 1, |e| e.index);
         self.term(first.wrapping_sub(1))?;
@@ -71,21 +73,21 @@ impl<F: Files> RaftStorage<F> {
         self.write(|batch| batch.put(self.region, HARD_STATE, &bytes.concat()))
     }
 
-    /// Lets the entries go that are in a snapshot which the node made. Its term is that of the log.
+    /// Removes the entries in a snapshot that the node made, whose term is taken from the log.
     pub fn compact(&mut self, mut snapshot: SnapshotMetadata) -> Result<()> {
         snapshot.term = self.term(snapshot.index)?;
         let terms = self.terms[(snapshot.index - self.snapshot.index) as usize..].to_vec();
         self.put_snapshot(snapshot.index + 1, terms, snapshot)
     }
 
-    /// Puts a snapshot that was sent to the node in place of all entries.
+    /// Replaces all entries by a snapshot that was sent to the node.
     pub fn apply_snapshot(&mut self, snapshot: SnapshotMetadata) -> Result<()> {
         let newer = Some(snapshot).filter(|new| new.index > self.snapshot.index);
         let snapshot = newer.ok_or(SnapshotOutOfDate)?;
         self.put_snapshot(self.last_index()? + 1, vec![snapshot.term], snapshot)
     }
 
-    /// Writes that the entries below `end` go, and what is known of the snapshot that they are in.
+    /// Writes that entries below `end` are removed, and the snapshot that has them.
     fn put_snapshot(&mut self, end: u64, terms: Vec<u64>, of: SnapshotMetadata) -> Result<()> {
         let numbers = [&[of.index, of.term], &of.conf_state[..]].concat();
         let bytes: Vec<_> = numbers.iter().flat_map(|n| n.to_le_bytes()).collect();
@@ -133,7 +135,7 @@ impl<F: Files> Storage for RaftStorage<F> {
     }
 }
 
-/// Makes an entry of its index and bytes, which `append` wrote.
+/// Makes an entry of its index and of the bytes that `append` wrote.
 fn entry_of((index, bytes): (u64, &[u8])) -> Entry {
     let (term, data) = bytes.split_first_chunk().expect("a term stands in front");
     let (term, data) = (u64::from_le_bytes(*term), data.to_vec());

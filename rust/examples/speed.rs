@@ -1,4 +1,4 @@
-//! Times an engine in a folder, which has to be a new one: `speed <folder> [rounds] [megabytes]`, and says the best of all rounds.
+//! Times an engine in a new folder, which it makes: `speed <folder> [rounds] [megabytes]`. It prints the best of all rounds.
 //!
 //! A round writes batches of eight entries of 128 bytes and a key, each by one call, for half a second: without and with a sync,
 //! from one thread and from four; and it appends as many bytes as such a batch has to a file, each time by one call. Then it
@@ -11,15 +11,16 @@ use std::io::{self, Write};
 use std::time::{Duration, Instant};
 use std::{env, fs, path::Path, thread};
 
+/// For how long calls are repeated to measure their time.
 const HALF_A_SECOND: Duration = Duration::from_millis(500);
 
-/// The threads that write, and whether they sync.
+/// How many threads write, and whether they sync each batch.
 const WRITING: [(u64, bool); 4] = [(1, false), (4, false), (1, true), (4, true)];
 
-/// On how many threads a log is read.
+/// How many threads read a log.
 const READING: [usize; 3] = [1, 2, 4];
 
-/// A batch of a region: eight entries of 128 bytes, and how far it has come.
+/// Makes a batch of a region: eight entries of 128 bytes, the first of them at the index `first`, and a key with the last index.
 fn batch(region: u64, first: u64) -> Result<LogBatch> {
     let mut batch = LogBatch::new()?;
     batch.add_entries(region, first, &[[7; 128]; 8])?;
@@ -27,13 +28,14 @@ fn batch(region: u64, first: u64) -> Result<LogBatch> {
     Ok(batch)
 }
 
-/// Returns how many bytes a batch takes in a file.
+/// Returns how many bytes such a batch has in a file.
 fn encoded_len() -> Result<usize> {
     let mut batch = batch(1, 1)?;
     batch.finish()
 }
 
-/// Writes from so many threads, and returns how many batches a second that were, and how many of them a sync.
+/// Writes batches from so many threads for half a second. Returns how many batches a second that were, and how many shared a sync
+/// on average.
 fn write(folder: &Path, threads: u64, sync: bool) -> Result<(f64, f64)> {
     let engine = Engine::open(folder, Options::new())?;
     let begun = Instant::now();
@@ -59,7 +61,7 @@ fn write(folder: &Path, threads: u64, sync: bool) -> Result<(f64, f64)> {
     Ok((batches / seconds, batches / stats.syncs as f64))
 }
 
-/// Appends so many bytes to a new file again and again, without a sync, and returns how often a second that was.
+/// Appends `len` bytes to a new file again and again for half a second, without a sync, and returns how often a second that was.
 fn append(path: &Path, len: usize) -> io::Result<f64> {
     let (mut file, bytes) = (fs::File::create_new(path)?, vec![7; len]);
     let (begun, mut count) = (Instant::now(), 0.0);
@@ -70,8 +72,8 @@ fn append(path: &Path, len: usize) -> io::Result<f64> {
     Ok(count / begun.elapsed().as_secs_f64())
 }
 
-/// Fills a folder with batches of a thousand regions.
-fn fill(folder: &Path, bytes: u64) -> Result<()> {
+/// Fills a folder with batches of a thousand regions until its append files have `bytes` bytes.
+fn fill_folder(folder: &Path, bytes: u64) -> Result<()> {
     let engine = Engine::open(folder, Options::new())?;
     for n in 0.. {
         engine.write(&mut batch(n % 1000, n / 1000 * 8 + 1)?, false)?;
@@ -82,8 +84,8 @@ fn fill(folder: &Path, bytes: u64) -> Result<()> {
     engine.sync()
 }
 
-/// Reads the append files of a folder.
-fn read(folder: &Path) -> Result<Vec<(LogFile, Vec<u8>)>> {
+/// Reads the append files of a folder into memory, oldest first.
+fn read_append_files(folder: &Path) -> Result<Vec<(LogFile, Vec<u8>)>> {
     let engine = Engine::open(folder, Options::new())?;
     let mut files = Vec::new();
     let append = engine.stats().append;
@@ -95,8 +97,8 @@ fn read(folder: &Path) -> Result<Vec<(LogFile, Vec<u8>)>> {
     Ok(files)
 }
 
-/// Reads these entries of regions, each by one call, and returns how many nanoseconds one takes.
-fn get(engine: &Engine, entries: impl Iterator<Item = (u64, u64)>) -> Result<f64> {
+/// Reads entries, given as region and index, each by one call, and returns how many nanoseconds a call takes.
+fn time_reads(engine: &Engine, entries: impl Iterator<Item = (u64, u64)>) -> Result<f64> {
     let (begun, mut count) = (Instant::now(), 0.0);
     for (region, index) in entries {
         engine.entry(region, index)?.expect("it was written");
@@ -105,9 +107,9 @@ fn get(engine: &Engine, entries: impl Iterator<Item = (u64, u64)>) -> Result<f64
     Ok(begun.elapsed().as_secs_f64() * 1e9 / count)
 }
 
-/// Returns how many nanoseconds an entry takes of ten blocks that are read in turn, so that they are kept, and one of a hundred
-/// regions that are read in order: the best of so many rounds.
-fn get_all(log: &Path, rounds: u64) -> Result<[f64; 2]> {
+/// Returns how many nanoseconds it takes to read an entry: of ten blocks that are read in turn, so that they are kept, and of a
+/// hundred regions that are read in order. Each is the best of so many rounds.
+fn time_all_reads(log: &Path, rounds: u64) -> Result<[f64; 2]> {
     let engine = Engine::open(log, Options::new())?;
     let mut indexes = Vec::new();
     for region in 0..100 {
@@ -116,15 +118,15 @@ fn get_all(log: &Path, rounds: u64) -> Result<[f64; 2]> {
     }
     let mut best = [f64::MAX; 2];
     for _ in 0..rounds {
-        let kept = get(&engine, (0..100_000).map(|n| (n % 10, n % 8 + 1)))?;
-        let in_order = get(&engine, indexes.iter().copied())?;
+        let kept = time_reads(&engine, (0..100_000).map(|n| (n % 10, n % 8 + 1)))?;
+        let in_order = time_reads(&engine, indexes.iter().copied())?;
         best = [best[0].min(kept), best[1].min(in_order)];
     }
     Ok(best)
 }
 
-/// Writes to a log of so many bytes while another thread purges it, and returns how many milliseconds the longest write took, and how
-/// many there were.
+/// Writes to a log of `bytes` bytes while another thread purges it. Returns how many milliseconds the longest write took, and how
+/// many writes there were.
 fn write_beside_a_purge(log: &Path, bytes: u64) -> Result<(f64, u64)> {
     let engine = Engine::open(log, Options::new().purge_above(bytes / 2))?;
     engine.rotate()?;
@@ -133,7 +135,7 @@ fn write_beside_a_purge(log: &Path, bytes: u64) -> Result<(f64, u64)> {
         let purge = scope.spawn(|| engine.purge());
         while !purge.is_finished() {
             let mut batch = batch(1000, 8 * count + 1)?;
-            let took = time(|| engine.write(&mut batch, false))?;
+            let took = time_call(|| engine.write(&mut batch, false))?;
             longest = took.max(longest);
             count += 1;
         }
@@ -142,8 +144,8 @@ fn write_beside_a_purge(log: &Path, bytes: u64) -> Result<(f64, u64)> {
     })
 }
 
-/// Returns how many milliseconds a call takes.
-fn time<T>(call: impl FnOnce() -> Result<T>) -> Result<f64> {
+/// Makes a call, and returns how many milliseconds it took.
+fn time_call<T>(call: impl FnOnce() -> Result<T>) -> Result<f64> {
     let begun = Instant::now();
     let answer = call()?;
     let time = begun.elapsed().as_secs_f64() * 1e3;
@@ -159,9 +161,9 @@ fn main() -> std::result::Result<(), Box<dyn std::error::Error>> {
     fs::create_dir(folder)?;
     let log = folder.join("log");
     let bytes = number(3, 200)? << 20;
-    fill(&log, bytes)?;
-    let files = read(&log)?;
-    let parts: Vec<_> = cut(&files);
+    fill_folder(&log, bytes)?;
+    let files = read_append_files(&log)?;
+    let parts: Vec<_> = cut_files(&files);
     let len = encoded_len()?;
     let (mut written, mut appended) = ([(0.0, 0.0); 4], 0.0);
     let (mut recovered, mut opened) = ([f64::MAX; 3], [f64::MAX; 3]);
@@ -178,10 +180,10 @@ fn main() -> std::result::Result<(), Box<dyn std::error::Error>> {
         appended = append(&path, len)?.max(appended);
         fs::remove_file(path)?;
         for (i, threads) in READING.into_iter().enumerate() {
-            let now = time(|| recover(&parts, Queue::Append, threads))?;
+            let now = time_call(|| recover(&parts, Queue::Append, threads))?;
             recovered[i] = now.min(recovered[i]);
             let options = Options::new().recovery_threads(threads);
-            opened[i] = time(|| Engine::open(&log, options))?.min(opened[i]);
+            opened[i] = time_call(|| Engine::open(&log, options))?.min(opened[i]);
         }
     }
     for ((threads, sync), (rate, share)) in WRITING.into_iter().zip(written) {
@@ -196,15 +198,15 @@ fn main() -> std::result::Result<(), Box<dyn std::error::Error>> {
         let (recovered, opened) = (recovered[i], opened[i]);
         println!("{threads} threads: recovered in {recovered:.0} ms, opened in {opened:.0} ms");
     }
-    let [kept, in_order] = get_all(&log, rounds)?;
+    let [kept, in_order] = time_all_reads(&log, rounds)?;
     println!("an entry of blocks in turn: {kept:.0} ns, of regions in order: {in_order:.0} ns");
     let (longest, count) = write_beside_a_purge(&log, bytes)?;
     println!("the longest of {count} writes beside a purge: {longest:.1} ms");
     Ok(())
 }
 
-/// Cuts files between batches into parts of a megabyte or more.
-fn cut(files: &[(LogFile, Vec<u8>)]) -> Vec<FilePart<'_>> {
+/// Cuts files between batches, into parts of a megabyte or more, but for the last part of each.
+fn cut_files(files: &[(LogFile, Vec<u8>)]) -> Vec<FilePart<'_>> {
     let mut parts = Vec::new();
     for (file, bytes) in files {
         let (mut from, mut at) = (0, 0);

@@ -8,17 +8,19 @@ use std::io::Write;
 use std::sync::Mutex;
 use std::{env, error::Error, fs, thread};
 
+/// The file that is written.
 const FILE: LogFile = LogFile::new(Queue::Append, 1, Version::V2);
 
+/// The result of what the example does.
 type Outcome<T> = Result<T, Box<dyn Error + Send + Sync>>;
 
-/// A log file, and how long it is.
+/// A log file, and its length in bytes.
 struct Log {
     file: fs::File,
     len: u64,
 }
 
-/// Writes a batch to the log, and its items to the tables.
+/// Writes a batch to the end of the log, syncs it, and applies its items to the tables.
 fn write(log: &Mutex<Log>, slots: &[Mutex<Slot>; SLOTS], mut batch: LogBatch) -> Outcome<()> {
     batch.finish()?;
     batch.sign(FILE)?;
@@ -37,7 +39,7 @@ fn write(log: &Mutex<Log>, slots: &[Mutex<Slot>; SLOTS], mut batch: LogBatch) ->
     Ok(())
 }
 
-/// Writes the entries of a region, ten to a batch, and how far it has come.
+/// Writes the entries of a region, ten to a batch, each batch with a key that has the last index.
 fn write_region(log: &Mutex<Log>, slots: &[Mutex<Slot>; SLOTS], region: u64) -> Outcome<()> {
     for first in (1..100).step_by(10) {
         let mut batch = LogBatch::new()?;

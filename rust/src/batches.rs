@@ -1,4 +1,4 @@
-//! Batches, item by item.
+//! Reads batches, item by item.
 
 use crate::sys::{self, ItemsHandle};
 use crate::{Error, ErrorKind, FilePart, Result};
@@ -12,7 +12,7 @@ pub use batch::Batch;
 pub use item::{Content, Item};
 pub use iterators::{BatchIntoIter, BatchIter};
 
-/// The batches of a part of a file, one behind the other. It ends behind the first refusal.
+/// Iterates over the log batches in a part of a file, one behind the other. It ends behind the first error.
 ///
 /// ```
 /// use raft_recover::{Batches, Content, FilePart, LogBatch, LogFile, Queue, Version};
@@ -38,7 +38,7 @@ pub use iterators::{BatchIntoIter, BatchIter};
 /// # Ok::<(), raft_recover::Error>(())
 /// ```
 ///
-/// It reads bytes that are lent, so nobody writes there meanwhile:
+/// The bytes are lent to it, so they can't be changed meanwhile:
 ///
 /// ```compile_fail,E0506
 /// use raft_recover::{Batches, FilePart, LogFile, Queue, Version};
@@ -53,11 +53,12 @@ pub use iterators::{BatchIntoIter, BatchIter};
 #[must_use = "an iterator does nothing until it is asked"]
 pub struct Batches<'a> {
     part: FilePart<'a>,
+    /// Where in the part the next batch begins; `None` behind the end, or behind an error.
     at: Option<usize>,
 }
 
 impl<'a> Batches<'a> {
-    /// Reads a part from its first byte on.
+    /// Makes an iterator over the batches of a part, from its first byte on. Nothing is read yet.
     ///
     /// ```
     /// # use raft_recover::{Batches, FilePart, LogBatch, LogFile, Queue, Version};
@@ -80,7 +81,8 @@ impl<'a> Batches<'a> {
         Ok(Batches { part, at: Some(0) })
     }
 
-    /// Returns where in the part the next batch begins; `None` behind a refusal, and at the end.
+    /// Returns where in the part the next batch begins, in bytes. At the end of the part it is the length of the part until
+    /// `next` returns `None`; from then on, and behind an error, it is `None`.
     ///
     /// ```
     /// # use raft_recover::{Batches, FilePart, LogBatch, LogFile, Queue, Version};
@@ -107,21 +109,22 @@ impl Iterator for Batches<'_> {
 
     fn next(&mut self) -> Option<Result<Batch>> {
         let at = self.at.take()?;
-        match ItemsHandle::next(self.part, at) {
+        match ItemsHandle::read_batch_at(self.part, at) {
             Ok(Some((handle, next))) => {
                 self.at = Some(next);
-                Some(Ok(Batch::of(handle)))
+                Some(Ok(Batch::from_handle(handle)))
             }
             Ok(None) => None,
-            Err(e) => Some(Err(with_place(e, self.part, at))),
+            Err(e) => Some(Err(with_place_in_part(e, self.part, at))),
         }
     }
 }
 
 impl FusedIterator for Batches<'_> {}
 
-/// Returns how many bytes of the part, from its first on, are readable batches, one behind the other, and why the batch there
-/// can't be read; `None` where the part ends there. So a torn tail of a file begins there.
+/// Returns how many bytes of a part, from the first one on, are readable batches, one behind the other, and the error of the
+/// batch behind them; `None` where the part ends there. So in a last file the torn tail begins at that offset. Whether the bytes
+/// of entries are damaged isn't tested.
 ///
 /// ```
 /// use raft_recover::{ErrorKind, FilePart, LogBatch, LogFile, Queue, Version, readable_front};
@@ -146,20 +149,21 @@ impl FusedIterator for Batches<'_> {}
 pub fn readable_front(part: FilePart<'_>) -> Result<(usize, Option<Error>)> {
     part.check_end()?;
     let (front, refused) = sys::readable_front(part);
-    Ok((front, refused.map(|e| with_place(e, part, front))))
+    Ok((front, refused.map(|e| with_place_in_part(e, part, front))))
 }
 
-/// Returns the refusal of the batch at the byte `at` of a part with its place in the file; `Memory`, which is about no place, as it
-/// is.
-fn with_place(refused: Error, part: FilePart<'_>, at: usize) -> Error {
+/// Returns the error of the batch at the byte `at` of a part with its file and offset. `Memory`, which concerns no place, is
+/// returned as it is.
+fn with_place_in_part(refused: Error, part: FilePart<'_>, at: usize) -> Error {
     match refused.kind {
         ErrorKind::Memory => refused,
-        _ => refused.at(part.file.into(), part.offset + at as u64),
+        _ => refused.with_place(part.file.into(), part.offset + at as u64),
     }
 }
 
-/// Returns how many bytes the log batch has whose header stands at the front of the bytes; `None` where no header stands there. So
-/// files are cut between batches, for [`recover`](crate::recover):
+/// Returns how many bytes the log batch at the start of `bytes` has, by its header; `None` where no header stands there. There
+/// may be fewer bytes, and whether the batch can be read isn't tested. So files are cut between batches, for
+/// [`recover`](crate::recover):
 ///
 /// ```
 /// use raft_recover::{FilePart, batch_len};
@@ -193,7 +197,7 @@ pub fn batch_len(bytes: &[u8]) -> Option<usize> {
     sys::batch_len(bytes)
 }
 
-/// Returns the CRC-32 of the bytes, as zip files have it.
+/// Returns the CRC-32 of bytes, the one that zip files have.
 ///
 /// ```
 /// assert_eq!(raft_recover::crc32(b"123456789"), 0xCBF4_3926);

@@ -1,10 +1,10 @@
-//! What was read of a queue.
+//! Contexts: what was read of a stretch of a queue.
 
 use crate::sys::ContextHandle;
 use crate::{Error, FilePart, Queue, Result, Tables};
 use std::fmt;
 
-/// How much a context holds. A number that 64 bits don't hold is 2^64 - 1.
+/// How much a context holds ([`Context::kept`]). A count that doesn't fit in 64 bits is 2^64 - 1.
 ///
 /// ```
 /// use raft_recover::{Context, Kept};
@@ -15,27 +15,28 @@ use std::fmt;
 /// ```
 #[derive(Clone, Copy, PartialEq, Eq, Hash, Debug)]
 pub struct Kept {
-    /// Entries in all tables.
+    /// How many entries all tables have.
     pub entries: u64,
-    /// Key values in all tables.
+    /// How many key values all tables have.
     pub keys: u64,
-    /// How many regions have a region mark, and how many groups have a group marker, together.
+    /// How many regions have a region mark, plus how many atomic groups have a group marker. (A *region mark* says what the
+    /// batches that were read do to a region's older records.)
     pub marks: u64,
-    /// Keys in the region marks that were deleted.
+    /// How many deleted keys the region marks have.
     pub deleted_keys: u64,
-    /// Regions in the list of those that were cleaned.
+    /// How many regions are in the list of cleaned ones.
     pub cleaned: u64,
-    /// Items of groups that wait.
+    /// How many items of atomic groups wait for the end of their group.
     pub waiting_items: u64,
 }
 
-/// What was read of a stretch of a queue.
+/// What was read of a stretch of a queue: neighboring batches.
 ///
-/// Contexts of neighboring stretches are read on as many threads as one likes, and merged; the tables are those of one
-/// reading of all. After a refusal a context holds nothing, and each further call returns [`Failed`].
+/// Contexts of neighboring stretches may be read on as many threads as one likes, and are then merged. The tables are those of
+/// one reading of all batches in order. After an error a context holds nothing, and each further call returns [`Failed`].
 ///
-/// What is proved asks that the batches of a queue name fewer than 2^63 entries, key values and deletions together, and
-/// that contexts are merged in the order of their batches.
+/// What is proved assumes that the batches of a queue name fewer than 2^63 entries, key values and deletions together, and that
+/// contexts are merged in the order of their batches.
 ///
 /// ```
 /// use raft_recover::{Context, FilePart, LogBatch, LogFile, Queue, Version};
@@ -91,8 +92,8 @@ impl Context {
         })
     }
 
-    /// Replays the log batches of a part, which stand behind those that were replayed before. The bytes are lent, and
-    /// nothing of them is kept.
+    /// Replays the log batches of a part, which have to follow those that were replayed before. The bytes are only borrowed for
+    /// the call.
     ///
     /// ```
     /// # use raft_recover::{Context, FilePart, LogBatch, LogFile, Queue, Version};
@@ -110,17 +111,17 @@ impl Context {
     ///
     /// # Errors
     ///
-    /// `InvalidArgument` where the bytes end past offset 2^64 - 1, and then the context stays as it is. `Corruption`, `Codec`
-    /// or `Io` where they are no sequence of readable batches, or where these can't follow those before; `Full` where more
-    /// than 2^64 - 1 records would be live; `Memory`; `Failed`.
+    /// `InvalidArgument` where the bytes end past offset 2^64 - 1; the context then stays as it is. `Corruption`, `Codec` or `Io`
+    /// where the bytes aren't a sequence of readable batches, or these can't follow the ones before; `Full` where more than 2^64
+    /// - 1 records would be live; `Memory`; `Failed`. The context is empty then.
     pub fn replay(&mut self, part: FilePart<'_>) -> Result<()> {
         part.check_end()?;
-        let handle = self.take()?;
+        let handle = self.take_handle()?;
         self.handle = Some(handle.replay(part)?);
         Ok(())
     }
 
-    /// Takes in the context `newer`, of the batches that follow, all of the queue `queue`.
+    /// Merges into this context the context `newer`, of the batches that follow. Both have to be of the queue `queue`.
     ///
     /// ```
     /// # use raft_recover::{Context, FilePart, LogBatch, LogFile, Queue, Version};
@@ -140,17 +141,17 @@ impl Context {
     ///
     /// # Errors
     ///
-    /// `InvalidArgument` where one of the two is of the other queue; `Corruption` where the first file of `newer` is below the
-    /// last one of this context, or where entries leave a hole; `Full`, `Memory`, `Failed`. Both are lost then.
+    /// `InvalidArgument` where one of both is of the other queue; `Corruption` where the first file of `newer` has a lower number
+    /// than the last file of this one, or entries leave a hole; `Full`; `Memory`; `Failed`. What both have read is lost then.
     pub fn merge(&mut self, mut newer: Context, queue: Queue) -> Result<()> {
-        let handle = self.take()?;
-        let newer = newer.take()?;
+        let handle = self.take_handle()?;
+        let newer = newer.take_handle()?;
         self.handle = Some(handle.merge(newer, queue)?);
         Ok(())
     }
 
-    /// Takes in the context of the append queue; this one is that of the rewrite queue. It then serves `kept` and `finish`
-    /// alone.
+    /// Puts the records of the append queue, read by the context `append`, over those of the rewrite queue, read by this one.
+    /// Only [`Context::kept`] and [`Context::finish`] may be called after that.
     ///
     /// ```
     /// # use raft_recover::{Context, FilePart, LogBatch, LogFile, Queue, Version};
@@ -170,10 +171,10 @@ impl Context {
     ///
     /// # Errors
     ///
-    /// `InvalidArgument` where one of the two is of the other queue; `Full`, `Memory`, `Failed`. Both are lost then.
+    /// `InvalidArgument` where one of both is of the other queue; `Full`; `Memory`; `Failed`. What both have read is lost then.
     pub fn overlay(&mut self, mut append: Context) -> Result<()> {
-        let handle = self.take()?;
-        let append = append.take()?;
+        let handle = self.take_handle()?;
+        let append = append.take_handle()?;
         self.handle = Some(handle.overlay(append)?);
         Ok(())
     }
@@ -197,15 +198,12 @@ impl Context {
     ///
     /// # Errors
     ///
-    /// `Memory`, `Failed`. The context stays as it is.
+    /// `Failed` where an earlier call failed.
     pub fn kept(&mut self) -> Result<Kept> {
-        self.handle
-            .as_mut()
-            .ok_or_else(Error::of_emptied)?
-            .count_kept()
+        self.handle.as_mut().ok_or_else(Error::failed)?.count_kept()
     }
 
-    /// Returns the tables.
+    /// Returns the tables of what was read.
     ///
     /// ```
     /// # use raft_recover::{Context, FilePart, LogBatch, LogFile, Queue, Version};
@@ -224,24 +222,24 @@ impl Context {
     ///
     /// # Errors
     ///
-    /// `Memory`, `Failed`.
+    /// `Memory`; `Failed` where an earlier call failed.
     pub fn finish(mut self) -> Result<Tables> {
-        let tables = self.take()?.finish()?;
-        Ok(Tables::of(tables))
+        let tables = self.take_handle()?.finish()?;
+        Ok(Tables::from_handle(tables))
     }
 
-    /// Takes the handle out for a call, which puts it back unless that is refused.
+    /// Takes the handle out for a call of the library. The caller puts it back, unless that call fails.
     ///
     /// # Errors
     ///
-    /// `Failed`, where an earlier call was refused.
-    fn take(&mut self) -> Result<ContextHandle> {
-        self.handle.take().ok_or_else(Error::of_emptied)
+    /// `Failed` where an earlier call failed, so that there is no handle.
+    fn take_handle(&mut self) -> Result<ContextHandle> {
+        self.handle.take().ok_or_else(Error::failed)
     }
 }
 
 impl fmt::Debug for Context {
-    /// Shows whether an earlier call was refused.
+    /// Shows whether an earlier call failed.
     fn fmt(&self, f: &mut fmt::Formatter<'_>) -> fmt::Result {
         f.debug_struct("Context")
             .field("is_failed", &self.handle.is_none())

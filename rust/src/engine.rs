@@ -1,4 +1,4 @@
-//! An engine: the logs of many regions, in files that it writes.
+//! The engine: it keeps the logs of many regions in files, and tables of them in memory.
 
 use crate::sys::{EngineHandle, Order};
 use crate::{Error, Queue, Result};
@@ -59,12 +59,12 @@ use shared_tables::SharedTables;
 use turns::Turns;
 use unwritten::Unwritten;
 
-/// The logs of many regions: tables in memory, and the files of all batches that were written, in a folder or behind any
-/// [`Files`].
+/// Keeps the logs of many regions: the files of all batches that were written, in a folder or behind any [`Files`], and tables in
+/// memory that say what is where.
 ///
-/// A region has entries with consecutive indexes, and keys with values. Whenever the machine crashes, the files that are left have
-/// the records of all batches that were synced, and of a prefix of those written since, each of them whole or not at all. An
-/// engine that is opened over them has these.
+/// A *region* has entries with consecutive indexes, and keys with values. Once a batch is synced, no crash of the machine takes
+/// it away. Of the batches written since then a crash leaves a prefix: the first ones, none skipped, each whole or not at all. An
+/// engine that is opened over the files has these batches.
 ///
 /// ```
 /// use raft_recover::{Engine, LogBatch, Options};
@@ -84,8 +84,8 @@ use unwritten::Unwritten;
 /// # Ok::<(), raft_recover::Error>(())
 /// ```
 ///
-/// It is `Send` and `Sync`: threads share one behind a `&` or an `Arc`. Of those that write at the same time one writes all their
-/// batches, and syncs once for all. Reading doesn't wait for them, nor for a sync.
+/// It is `Send` and `Sync`: threads share one behind a `&` or an `Arc`. Where several write at the same time, one of them writes
+/// the batches of all, and syncs once. Who reads waits neither for those who write nor for a sync.
 ///
 /// ```
 /// use raft_recover::{Engine, LogBatch, MemoryFiles, Options};
@@ -106,18 +106,20 @@ use unwritten::Unwritten;
 /// # Ok::<(), raft_recover::Error>(())
 /// ```
 ///
-/// What was written is read at once, synced or not. Where a change of the files fails, and in few cases without memory, the engine
-/// fails: every later change returns `Failed` with the reason, and what the files have is found when it is dropped and they are
-/// opened again; where a sync failed, once the machine was started again ([`Files`] says why). Where it was the files that failed,
-/// reads go on: they find all that was written, and perhaps what was being written then, which a crash may take away. Else they
-/// return `Failed` too. A call that is refused otherwise changes nothing, unless it says what it leaves. Dropping an engine syncs
-/// nothing.
+/// What was written is read at once, synced or not. Dropping an engine syncs nothing. A call that is refused changes nothing,
+/// unless its page says what it leaves.
 ///
-/// Where a change found no room in a folder, and left the files as they were ([`Files::is_as_before`]), the engine hasn't failed.
-/// All is read, and every change first does what was left undone, and returns that `Io` until there is room. So a write that found
-/// none is made again by the same call: its batch was kept, and is empty.
+/// Where a change of the files fails, and in few cases without memory, the engine *fails*: every later change returns `Failed`,
+/// with the reason. (So after `Memory` the next change shows whether it has failed.) Drop it then, and open the files again, to
+/// find what they have; after a failed sync start the machine again first ([`Files`] says why). If the files failed, reads go on:
+/// they find all that was written, and perhaps what was being written just then, which a crash may take away. Otherwise reads
+/// return `Failed` too.
 ///
-/// A batch is handed in by one thread, and files that threads can't share make no engine:
+/// Where a change finds no room in a folder, and the files are as they were before ([`Files::is_as_before`]), the engine hasn't
+/// failed. All can be read. Every change first does what was left undone, and returns that `Io` as long as there is no room. So a
+/// `write` that found no room is repeated by the same call: the engine has kept the batch, which is empty now.
+///
+/// Two threads can't write one batch, and an engine isn't made over files that threads can't share:
 ///
 /// ```compile_fail,E0499
 /// # use raft_recover::{Engine, LogBatch, MemoryFiles, Options};
@@ -135,7 +137,7 @@ use unwritten::Unwritten;
 /// let engine = Engine::with_files(files, Options::new()).unwrap();
 /// ```
 ///
-/// No file is changed behind an engine's back by what it lends, and its tables can't be reached:
+/// What an engine lends doesn't change its files, and its tables can't be reached:
 ///
 /// ```compile_fail,E0594
 /// # use raft_recover::{Engine, MemoryFiles, Options};
@@ -145,33 +147,39 @@ use unwritten::Unwritten;
 pub struct Engine<F: Files = FolderFiles> {
     files: F,
     options: Options,
-    /// What was cut when the files were opened, and what was found damaged.
+    /// What the opening couldn't read: cut tails, and damaged batches.
     recovered: Recovered,
-    /// How long that took.
+    /// How long the opening took.
     opening: Duration,
+    /// Which records there are, and where.
     tables: SharedTables,
-    /// It is held from a call that orders something until that is carried out.
+    /// Whose turn it is to change something: a turn lasts from a call that orders changes of the files until these are made.
     turns: Turns,
+    /// The lengths of all files, and counts of what was done.
     numbers: Mutex<Numbers>,
-    /// What was ordered and isn't in the files yet.
+    /// The bytes that were ordered to be written, and aren't in the files yet.
     unwritten: Unwritten,
-    /// The orders that found no room and left the files as they were, and those behind them.
+    /// The orders that are left since one found no room: that one, and those behind it.
     undone: Mutex<VecDeque<Order>>,
+    /// The entry blocks that were read last.
     kept_blocks: KeptBlocks,
+    /// The batches that threads hand in to be written.
     commits: Commits,
-    /// What the listener is told.
+    /// The listener, and what it is still to be told.
     events: Events,
-    /// Whether it takes no change.
+    /// Whether every change is refused.
     is_read_only: bool,
-    /// Why the engine failed.
+    /// Why the engine failed; empty as long as it hasn't.
     failure: OnceLock<Failure>,
 }
 
 impl Engine {
-    /// Opens a folder, or makes it. Its files are read on several threads ([`Options::recovery_threads`]). The torn tail of
-    /// a queue's last file, which a crash in the midst of a write leaves, is cut, and kept in a file beside. A last batch there whose
-    /// header or items are damaged counts as one, unless its checksum is that for another file. [`Engine::recovered`] tells of it,
-    /// and [`Options::recovery_mode`] may say otherwise.
+    /// Opens the engine in a folder, which is made if it isn't there. Its files are read on several threads
+    /// ([`Options::recovery_threads`]).
+    ///
+    /// A crash in the midst of a write leaves a *torn tail* at the end of a queue's last file. It is cut off, and kept in a file
+    /// beside. A last batch whose header or items are damaged counts as a torn tail, unless its checksum is right for another
+    /// file. [`Engine::recovered`] says what was cut, and [`Options::recovery_mode`] may change what is.
     ///
     /// ```
     /// use raft_recover::{Engine, Options};
@@ -190,9 +198,9 @@ impl Engine {
         Engine::with_files(FolderFiles::open(path)?, options)
     }
 
-    /// Opens a folder to read it, as [`Engine::with_files_read_only`] and [`FolderFiles::open_read_only`] do. Nothing in it is made,
-    /// changed or synced, so it may be one that can only be read. Several may read it at a time, while no engine has it open that
-    /// writes.
+    /// Opens the engine in a folder for reading only: each change is refused ([`Engine::with_files_read_only`] says which).
+    /// Nothing in the folder is made, changed or synced, so one without the right to write there is enough. Several may read a
+    /// folder at a time, as long as no engine has it open that writes.
     ///
     /// ```
     /// use raft_recover::{Engine, ErrorKind, LogBatch, Options};
@@ -223,7 +231,8 @@ impl Engine {
 }
 
 impl<F: Files> Engine<F> {
-    /// Opens an engine over files.
+    /// Opens an engine over files, which it reads on several threads ([`Options::recovery_threads`]). It makes the first file of
+    /// a queue that has none, and cuts torn tails off, as [`Options::recovery_mode`] says.
     ///
     /// ```
     /// use raft_recover::{Engine, MemoryFiles, Options};
@@ -235,39 +244,45 @@ impl<F: Files> Engine<F> {
     ///
     /// # Errors
     ///
-    /// `Corruption` where a file before the last one of its queue can't be read; where the last one can't, and the [`RecoveryMode`]
-    /// cuts nothing off, or not what is left: in the default one where that isn't part of one batch, and a batch that can be read
-    /// stands behind, or one that is signed for another file; where it is of the other version, a file is missing between two
-    /// others, or the numbers of files don't rise; `InvalidArgument` where a file is one of raft-engine, which begins with a
-    /// header, or the batches of an atomic group don't stand in a row in one file; `Codec`, `Full`. Nothing was asked of the files
-    /// then but to be read. `Io`, `Memory`: whatever is left has the records that were found.
+    /// - `Corruption` where the files are damaged: a file can't be read that isn't the last one of its queue; the last one can't,
+    ///   and the [`RecoveryMode`] doesn't allow to cut off what is left; it is of the other version; a file is missing between
+    ///   two others; the numbers of the files don't rise; or the entries of a batch of the last rewrite file are damaged. The
+    ///   default mode cuts off what can be part of a single batch, or has no batch behind it: neither one that can be read nor
+    ///   one that is signed for another file.
+    /// - `InvalidArgument` where a file begins with the header of raft-engine, or the batches of an atomic group don't stand in a
+    ///   row in one file.
+    /// - `Codec` where a number in a batch can't be decoded; `Full` where a count or a length would pass its limit.
+    /// - `Io` where the files can't be listed or read, or can't be changed; `Memory`.
+    ///
+    /// Unless a change of the files failed, nothing was asked of them but to be listed and read. If one failed, the files that
+    /// are left still have all records that were found.
     pub fn with_files(files: F, options: Options) -> Result<Engine<F>> {
-        Engine::open_over(files, options, None)
+        Engine::open_files(files, options, None)
     }
 
-    /// Opens an engine over files, and tells the listener, if there is one, what the opening does to them.
+    /// Opens an engine over files, and tells `listener`, if there is one, what the opening does to them.
     ///
     /// # Errors
     ///
     /// Those of [`Engine::with_files`].
-    fn open_over(
+    fn open_files(
         files: F,
         options: Options,
         listener: Option<Arc<dyn Listener>>,
     ) -> Result<Engine<F>> {
         let begun = Instant::now();
-        let (mut engine, orders) = Engine::read_found(files, options)?;
-        engine.events = Events::of(listener);
+        let (mut engine, orders) = Engine::read_files(files, options)?;
+        engine.events = Events::new(listener);
         engine.tell_after(|| engine.wait_for_turn()?.carry_out_opening(orders))?;
         engine.opening = begun.elapsed();
         Ok(engine)
     }
 
-    /// Opens an engine over files of which nothing is asked but to be listed and read. What the [`RecoveryMode`] cuts off it cuts in
-    /// memory alone ([`Engine::recovered`] tells of it), so the files need be nobody's own, as long as nobody changes them.
+    /// Opens an engine over files that are only listed and read. What the [`RecoveryMode`] cuts off is left out in memory alone
+    /// ([`Engine::recovered`] has it). So several engines may read the same files, as long as nobody changes them.
     ///
-    /// Each call that would change something is refused, and named: `write`, `sync`, `rotate`, `rewrite`, `rewrite_again` and
-    /// `purge`.
+    /// These calls are refused with `InvalidArgument`, which names the call: `write`, `sync`, `rotate`, `rewrite`,
+    /// `rewrite_again` and `purge`.
     ///
     /// ```
     /// use raft_recover::{Engine, MemoryFiles, Options};
@@ -283,10 +298,10 @@ impl<F: Files> Engine<F> {
     ///
     /// # Errors
     ///
-    /// Those of [`Engine::with_files`], but for those of changes.
+    /// Those of [`Engine::with_files`], but for those of changes of the files.
     pub fn with_files_read_only(files: F, options: Options) -> Result<Engine<F>> {
         let begun = Instant::now();
-        let (engine, orders) = Engine::read_found(files, options)?;
+        let (engine, orders) = Engine::read_files(files, options)?;
         for order in orders {
             if let Order::Cut(queue, len) = order {
                 locks::lock(&engine.numbers).note_cut(queue, len);
@@ -299,19 +314,20 @@ impl<F: Files> Engine<F> {
         })
     }
 
-    /// Reads the files, and returns an engine over them with the orders that are to be carried out before it is used.
+    /// Lists and reads the files, and returns an engine over them. With it come the orders that have to be carried out on the
+    /// files before it is used.
     ///
     /// # Errors
     ///
-    /// Those of [`Engine::with_files`]. The files are then as they were.
-    fn read_found(files: F, options: Options) -> Result<(Engine<F>, Vec<Order>)> {
+    /// Those of [`Engine::with_files`], but for those of changes of the files.
+    fn read_files(files: F, options: Options) -> Result<(Engine<F>, Vec<Order>)> {
         let opened = Found::read(&files, &options)?.open(&options)?;
         let engine = Engine {
             files,
             options,
             recovered: opened.recovered,
             opening: Duration::ZERO,
-            tables: SharedTables::of(opened.tables),
+            tables: SharedTables::new(opened.tables),
             turns: Turns::default(),
             numbers: Mutex::new(opened.numbers),
             unwritten: Unwritten::default(),
@@ -325,8 +341,8 @@ impl<F: Files> Engine<F> {
         Ok((engine, opened.orders))
     }
 
-    /// Returns what was cut off the files when they were opened (in memory alone, if only to be read), and which batches of the
-    /// last append file have damaged entries; these were kept.
+    /// Returns what couldn't be read when the files were opened: the tails that were cut off (in memory alone, if the engine only
+    /// reads), and the batches of the last append file whose entries are damaged, which were kept.
     ///
     /// ```
     /// # use raft_recover::{Engine, MemoryFiles, Options};
@@ -345,7 +361,7 @@ impl<F: Files> Engine<F> {
         &self.recovered
     }
 
-    /// Returns the files.
+    /// Returns the files that the engine was opened over.
     ///
     /// ```
     /// # use raft_recover::{Engine, MemoryFiles, Options};
@@ -360,7 +376,7 @@ impl<F: Files> Engine<F> {
         &self.files
     }
 
-    /// Tests whether the engine was opened to be read alone.
+    /// Tests whether the engine was opened for reading only, so that it refuses each change.
     ///
     /// ```
     /// # use raft_recover::{Engine, MemoryFiles, Options};
@@ -373,12 +389,13 @@ impl<F: Files> Engine<F> {
         self.is_read_only
     }
 
-    /// Tests that a call, which `call` names, may change something.
+    /// Checks that the engine isn't open for reading only. `call` is the name of the call that would change something, for the
+    /// error.
     ///
     /// # Errors
     ///
-    /// `InvalidArgument`, with that name, where the engine was opened to be read alone.
-    fn check_changeable(&self, call: &str) -> Result<()> {
+    /// `InvalidArgument`, with that name, where the engine is open for reading only.
+    fn check_writable(&self, call: &str) -> Result<()> {
         if self.is_read_only {
             let text = format!("{call}: the engine is open for reading alone");
             return Err(Error::invalid_argument(&text));
@@ -386,7 +403,7 @@ impl<F: Files> Engine<F> {
         Ok(())
     }
 
-    /// Returns how the engine was opened.
+    /// Returns the options that the engine was opened with.
     ///
     /// ```
     /// # use raft_recover::{Engine, MemoryFiles, Options};
@@ -399,17 +416,19 @@ impl<F: Files> Engine<F> {
         &self.options
     }
 
-    /// Locks the tables, and waits until no other thread has them locked. A thread that has them mustn't call it again.
+    /// Locks the tables once no other thread has them locked. A thread that has them locked mustn't call this again: it would
+    /// wait for itself.
     fn lock_tables(&self) -> MutexGuard<'_, EngineHandle> {
         self.tables.lock()
     }
 
-    /// Locks the tables behind those who wait for them, as a thread does that goes from region to region.
-    fn lock_tables_behind_others(&self) -> MutexGuard<'_, EngineHandle> {
-        self.tables.lock_behind_others()
+    /// Locks the tables, but lets the threads that wait for them go first. It is for a thread that locks them again and again,
+    /// for one region after another.
+    fn lock_tables_after_waiters(&self) -> MutexGuard<'_, EngineHandle> {
+        self.tables.lock_after_waiters()
     }
 
-    /// Returns what the engine has, in numbers.
+    /// Returns in numbers what the engine has, and what it did since it was opened. It is cheap: no record is looked at.
     ///
     /// ```
     /// # use raft_recover::{Engine, LogBatch, MemoryFiles, Options};
@@ -440,7 +459,7 @@ impl<F: Files> Engine<F> {
 }
 
 impl<F: Files> fmt::Debug for Engine<F> {
-    /// Shows what the engine has, in numbers, and why it failed, if it did.
+    /// Shows what [`Engine::stats`] returns, and why the engine failed, if it did.
     fn fmt(&self, f: &mut fmt::Formatter<'_>) -> fmt::Result {
         f.debug_struct("Engine")
             .field("stats", &self.stats())

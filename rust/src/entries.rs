@@ -1,8 +1,8 @@
-//! Entries, and where their bytes stand, and keys with their values.
+//! Records of a region: entries with their places, and keys with their values.
 
 use crate::FileId;
 
-/// An entry of a region's log, and where its bytes stand.
+/// An entry of a region's log: its index, and where its bytes are.
 ///
 /// ```
 /// use raft_recover::{Block, Entry, FileId, Queue, Tables};
@@ -18,16 +18,16 @@ use crate::FileId;
 pub struct Entry {
     /// The index in the region's log.
     pub index: u64,
-    /// The entry block that has its bytes.
+    /// The place of the entry block that has its bytes.
     pub block: Block,
-    /// Where its bytes begin in the entry block.
+    /// Where in the entry block its bytes begin, in bytes.
     pub offset: u32,
     /// How many bytes it has.
     pub len: u32,
 }
 
-/// The place of an entry block: the entry bytes of a batch with their checksum. A batch whose entries are all empty has no such
-/// block, and the place of one of no bytes.
+/// The place of an *entry block*: the bytes of all entries of a batch, and their checksum behind them. A batch whose entries are
+/// all empty has no such block; their place is then one of no bytes.
 ///
 /// ```
 /// use raft_recover::{Content, FileId, LogBatch, LogFile, Queue, Version};
@@ -50,9 +50,9 @@ pub struct Entry {
 pub struct Block {
     /// The file.
     pub file: FileId,
-    /// Where in the file the block begins.
+    /// Where in the file the block begins, in bytes.
     pub offset: u64,
-    /// How many bytes it has.
+    /// How many bytes the block has, with its checksum.
     pub len: usize,
 }
 

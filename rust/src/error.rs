@@ -6,9 +6,10 @@ use std::hash::{Hash, Hasher};
 use std::sync::Arc;
 use std::{fmt, io};
 
-/// Why a call was refused, by kind.
+/// The kind of an error: what went wrong, and so what a caller can do.
 ///
-/// The library tells a kind by its number, from 1 on in the order of the variants, which a program in C gets as it is:
+/// The library passes a kind as a number: 1 for the first variant, and so on in their order. A program in C gets these numbers as
+/// they are:
 ///
 /// ```
 /// use raft_recover::ErrorKind;
@@ -22,11 +23,11 @@ use std::{fmt, io};
 pub enum ErrorKind {
     /// An argument breaks a rule that the caller could have known.
     InvalidArgument,
-    /// Bytes, or items read from them, are not what an engine writes.
+    /// Bytes, or the items read from them, are not what an engine writes: they are damaged, torn, or of another program.
     Corruption,
-    /// The system refused a call on a file, or bytes end where a type should stand.
+    /// The system refused a call on a file, or bytes end before a value that should be read from them.
     Io,
-    /// A number's spelling is cut short or is none.
+    /// An encoded number is cut short, or isn't one.
     Codec,
     /// A message can't be encoded, or bytes aren't a message.
     Message,
@@ -38,16 +39,16 @@ pub enum ErrorKind {
     EntryNotFound,
     /// A count or a length would pass its limit.
     Full,
-    /// For layers above: anything else. No call of this crate returns it.
+    /// Anything else. It is for layers above: no call of this crate returns it.
     Other,
-    /// Memory was refused.
+    /// There was no memory.
     Memory,
-    /// An earlier call on this value was refused, and it serves no more.
+    /// An earlier call on this value failed, and the value takes no further calls.
     Failed,
 }
 
 impl ErrorKind {
-    /// The kinds in the order of their numbers, the first of which is 1.
+    /// All kinds, in the order of their numbers. The first number is 1.
     const ALL: [ErrorKind; 12] = [
         ErrorKind::InvalidArgument,
         ErrorKind::Corruption,
@@ -67,11 +68,11 @@ impl ErrorKind {
 impl TryFrom<u8> for ErrorKind {
     type Error = Error;
 
-    /// Returns the kind that has a number of the library.
+    /// Returns the kind that has a number in the library, from 1 to 12.
     ///
     /// # Errors
     ///
-    /// `InvalidArgument` where no kind has it.
+    /// `InvalidArgument` for any other number.
     fn try_from(number: u8) -> Result<ErrorKind> {
         usize::from(number)
             .checked_sub(1)
@@ -100,8 +101,8 @@ impl fmt::Display for ErrorKind {
     }
 }
 
-/// Why a call was refused: its kind, the reason in words, and the file and the byte that it is about, where there is one, or the
-/// region and the index of the entry.
+/// Why a call was refused: the kind, the reason in words, and what the error is about, as far as that is known: a file and an
+/// offset in it, a region and an index, or an item of a batch.
 ///
 /// ```
 /// use raft_recover::{ErrorKind, LogBatch};
@@ -115,7 +116,7 @@ impl fmt::Display for ErrorKind {
 /// # Ok::<(), raft_recover::Error>(())
 /// ```
 ///
-/// Damaged bytes are named by their file and offset, and a refusal of the system is the source of the error:
+/// Damaged bytes are named by their file and offset:
 ///
 /// ```
 /// use raft_recover::{Context, ErrorKind, FileId, FilePart, LogFile, Queue, Version};
@@ -132,26 +133,26 @@ impl fmt::Display for ErrorKind {
 pub struct Error {
     /// The kind of the refusal.
     pub kind: ErrorKind,
-    /// The reason in words.
+    /// The kind and the reason in words, as in `Corruption: append file 3, offset 17: ..`. This is what is shown.
     pub text: String,
-    /// The log file that the refusal is about.
+    /// The log file that the error is about.
     pub file: Option<FileId>,
-    /// Where in that file.
+    /// The offset in that file, in bytes.
     pub offset: Option<u64>,
-    /// The region whose entry, key or item it is about.
+    /// The region whose entry, key or item the error is about.
     pub region: Option<u64>,
-    /// The index of the entry, or of the item's first one.
+    /// The index of the entry, or of the first entry of the item.
     pub index: Option<u64>,
-    /// Which item of a batch, the first one of which is 0, doesn't fit the entries of its region.
+    /// The position in its batch, from 0 on, of the item whose entries don't fit those of their region.
     pub item: Option<usize>,
     source: Option<Arc<Source>>,
 }
 
-/// The refusal that is the reason of another one. Its box keeps an `Error` small.
+/// The error of the system or of a message that caused an `Error`. It is boxed, so that an `Error` stays small.
 #[derive(Debug)]
 struct Source(Box<dyn error::Error + Send + Sync>);
 
-/// What a call returns that may be refused.
+/// The result of a call of this crate that may be refused.
 ///
 /// ```
 /// use raft_recover::{LogBatch, Result};
@@ -167,7 +168,7 @@ struct Source(Box<dyn error::Error + Send + Sync>);
 pub type Result<T> = std::result::Result<T, Error>;
 
 impl Error {
-    /// Returns the kind of the system's error; `None` where no error of the system is the reason.
+    /// Returns the kind of the system's error that is the reason; `None` where the reason is another one.
     ///
     /// ```
     /// use raft_recover::{Engine, Options};
@@ -182,14 +183,14 @@ impl Error {
         source.downcast_ref().map(io::Error::kind)
     }
 
-    /// Makes the refusal that the library tells by its number `code` and its text. The place that stands in front of the words is
-    /// that of the refusal.
-    pub(crate) fn of(code: u32, text: String) -> Error {
+    /// Makes the error that the library reports by a number and a text. File, offset, region and index are read from the text, if
+    /// they stand there. The number must be that of a kind.
+    pub(crate) fn from_library(code: u32, text: String) -> Error {
         let kind = u8::try_from(code).map(ErrorKind::try_from);
         let Ok(Ok(kind)) = kind else {
             unreachable!("the library has no error of number {code}")
         };
-        let place = Place::read_from(&text);
+        let place = Place::parse(&text);
         Error {
             file: place.file.map(|(file, _)| file),
             offset: place.file.map(|(_, offset)| offset),
@@ -199,7 +200,7 @@ impl Error {
         }
     }
 
-    /// Makes a refusal that is about no file, region or item.
+    /// Makes an error that names no file, region or item.
     pub(crate) fn new(kind: ErrorKind, text: impl Into<String>) -> Error {
         Error {
             kind,
@@ -213,7 +214,7 @@ impl Error {
         }
     }
 
-    /// Makes the refusal of an argument that the library's contract excludes.
+    /// Makes the error of kind `InvalidArgument`: an argument breaks a rule, which `text` says.
     pub(crate) fn invalid_argument(text: &str) -> Error {
         Error::new(
             ErrorKind::InvalidArgument,
@@ -221,19 +222,19 @@ impl Error {
         )
     }
 
-    /// Makes the refusal for want of memory, which needs none.
+    /// Makes the error of kind `Memory`.
     pub(crate) fn memory() -> Error {
         Error::new(ErrorKind::Memory, "Memory")
     }
 
-    /// Makes the refusal of a value that an earlier refusal has emptied.
-    pub(crate) fn of_emptied() -> Error {
+    /// Makes the error of kind `Failed`, for a call on a value that an earlier error has emptied.
+    pub(crate) fn failed() -> Error {
         Error::new(ErrorKind::Failed, "Failed")
     }
 
-    /// Makes the refusal of calls on a value that was emptied by this one: `Failed`, with its text
-    /// and place.
-    pub(crate) fn as_failure(&self) -> Error {
+    /// Returns the error of later calls on a value that failed with this one: kind `Failed`, its text behind `Failed: `, and the
+    /// same place and source.
+    pub(crate) fn to_failed(&self) -> Error {
         Error {
             kind: ErrorKind::Failed,
             text: format!("Failed: {}", self.text),
@@ -241,12 +242,13 @@ impl Error {
         }
     }
 
-    /// Makes the refusal of bytes that aren't what an engine writes.
+    /// Makes the error of kind `Corruption` for bytes at an offset of a file, which aren't what an engine writes. `text` is the
+    /// reason.
     pub(crate) fn corruption(file: FileId, offset: u64, text: &str) -> Error {
-        Error::new(ErrorKind::Corruption, format!("Corruption: {text}")).at(file, offset)
+        Error::new(ErrorKind::Corruption, format!("Corruption: {text}")).with_place(file, offset)
     }
 
-    /// Makes the refusal of the system. The words of `about` name what was refused.
+    /// Makes the error of kind `Io` for a call that the system refused. `about` says what was refused.
     pub(crate) fn system(about: impl fmt::Display, source: io::Error) -> Error {
         let text = format!("IO Error: {about}: {source}");
         Error {
@@ -255,7 +257,7 @@ impl Error {
         }
     }
 
-    /// Makes the refusal of a message. The words of `about` say where it stands.
+    /// Makes the error of kind `Message` for a message that can't be encoded or decoded. `about` says where the message stands.
     pub(crate) fn message(
         about: impl fmt::Display,
         source: impl Into<Box<dyn error::Error + Send + Sync>>,
@@ -268,7 +270,8 @@ impl Error {
         }
     }
 
-    /// Returns the refusal with the item of a batch that it is about, counted from 0, also in its words.
+    /// Sets the item of a batch that the error is about, counted from 0, and puts it behind the kind in the text, as in
+    /// `Corruption: item 3: ..`. A text without a reason behind its kind stays.
     pub(crate) fn with_item(mut self, item: usize) -> Error {
         if let Some((kind, reason)) = self.text.split_once(": ") {
             self.text = format!("{kind}: item {item}: {reason}");
@@ -277,9 +280,9 @@ impl Error {
         self
     }
 
-    /// Returns the error with the place that it is about: sets `file` and `offset`, and puts both behind the kind in its text,
-    /// as in `Corruption: append file 3, offset 17: ..`. A text without a reason behind its kind stays.
-    pub(crate) fn at(mut self, file: FileId, offset: u64) -> Error {
+    /// Sets the file and the offset that the error is about, and puts both behind the kind in the text, as in `Corruption: append
+    /// file 3, offset 17: ..`. A text without a reason behind its kind stays.
+    pub(crate) fn with_place(mut self, file: FileId, offset: u64) -> Error {
         if let Some((kind, reason)) = self.text.split_once(": ") {
             self.text = format!("{kind}: {file}, offset {offset}: {reason}");
         }
@@ -287,7 +290,8 @@ impl Error {
         self
     }
 
-    /// Returns the refusal with the entry of a region that it is about, also in its words, in front of the place in a file.
+    /// Sets the region and the index of the entry that the error is about, and puts both behind the kind in the text, as in
+    /// `Corruption: region 7, index 12, append file 3, offset 17: ..`. A text without a reason behind its kind stays.
     pub(crate) fn with_entry(mut self, region: u64, index: u64) -> Error {
         if let Some((kind, reason)) = self.text.split_once(": ") {
             self.text = format!("{kind}: region {region}, index {index}, {reason}");
@@ -295,7 +299,7 @@ impl Error {
         self.with_region(region, Some(index))
     }
 
-    /// Returns the refusal with the region that it is about, and the index of the entry, if it is about one. Its words stay.
+    /// Sets the region that the error is about, and the index of its entry, if there is one. The text stays.
     pub(crate) fn with_region(self, region: u64, index: Option<u64>) -> Error {
         Error {
             region: Some(region),
@@ -305,8 +309,8 @@ impl Error {
     }
 }
 
-/// What stands in front of a refusal's words: a place in a file, as in `Corruption: append file 3, offset 17: ..`, and the entry
-/// there, as in `Corruption: region 7, index 12, append file 3, offset 17: ..`.
+/// The place that stands between the kind and the reason in the text of an error: a file and an offset, as in `Corruption: append
+/// file 3, offset 17: ..`, with the entry before them, as in `Corruption: region 7, index 12, append file 3, offset 17: ..`.
 #[derive(Default)]
 struct Place {
     region: Option<u64>,
@@ -315,8 +319,8 @@ struct Place {
 }
 
 impl Place {
-    /// Reads the place in front of a refusal's words: `None` for each part that doesn't stand there.
-    fn read_from(text: &str) -> Place {
+    /// Reads the place from the text of an error. Each part that isn't there is `None`.
+    fn parse(text: &str) -> Place {
         let mut place = Place::default();
         let Some((_, words)) = text.split_once(": ") else {
             return place;
@@ -324,15 +328,16 @@ impl Place {
         let Some((mut words, _)) = words.split_once(": ") else {
             return place;
         };
-        (place.region, words) = number_behind("region ", words);
-        (place.index, words) = number_behind("index ", words);
-        place.file = file_in(words);
+        (place.region, words) = parse_number_after("region ", words);
+        (place.index, words) = parse_number_after("index ", words);
+        place.file = parse_place_in_file(words);
         place
     }
 }
 
-/// Reads a number behind a word, and returns it with the words that follow; `None` with all words where there is no number.
-fn number_behind<'a>(word: &str, words: &'a str) -> (Option<u64>, &'a str) {
+/// Reads a number that `words` begin with after the word `word`, as in `index 12, ..`. Returns it with the words after the comma;
+/// `None`, and all of `words`, where there is no such number.
+fn parse_number_after<'a>(word: &str, words: &'a str) -> (Option<u64>, &'a str) {
     let number = |text: &'a str| {
         let (number, rest) = text.split_once(", ").unwrap_or((text, ""));
         Some((number.parse().ok()?, rest))
@@ -343,8 +348,8 @@ fn number_behind<'a>(word: &str, words: &'a str) -> (Option<u64>, &'a str) {
     }
 }
 
-/// Reads a place in a file, such as `append file 3, offset 17`; `None` where the words aren't one.
-fn file_in(place: &str) -> Option<(FileId, u64)> {
+/// Reads a file and an offset, as in `append file 3, offset 17`; `None` where the words are none.
+fn parse_place_in_file(place: &str) -> Option<(FileId, u64)> {
     let (file, offset) = place.split_once(", offset ")?;
     let (queue, seq) = file.split_once(" file ")?;
     let file = FileId::new(queue.parse().ok()?, seq.parse().ok()?);
@@ -352,7 +357,7 @@ fn file_in(place: &str) -> Option<(FileId, u64)> {
 }
 
 impl PartialEq for Error {
-    /// Compares kinds, words, places and entries.
+    /// Compares all but the sources.
     fn eq(&self, other: &Error) -> bool {
         let seen = |e: &Error| (e.kind, e.file, e.offset, e.region, e.index, e.item);
         seen(self) == seen(other) && self.text == other.text
@@ -375,7 +380,7 @@ impl fmt::Display for Error {
 }
 
 impl error::Error for Error {
-    /// Returns the refusal of the system, or of a message; `None` where neither is the reason.
+    /// Returns the error of the system, or of a message, that is the reason; `None` where neither is.
     fn source(&self) -> Option<&(dyn error::Error + 'static)> {
         let source = self.source.as_deref()?;
         Some(&*source.0)

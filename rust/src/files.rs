@@ -1,4 +1,4 @@
-//! Log files, and the bytes of them.
+//! Log files, their queues and formats, and parts of their bytes.
 
 use crate::{Error, Result};
 use std::fmt;
@@ -6,7 +6,7 @@ use std::str::FromStr;
 
 /// The two queues of log files.
 ///
-/// Its text is the word that the error texts and `raftlog` have, and its number that of raft-engine's `LogQueue`:
+/// Its text is the word that error texts and the tool `raftlog` use, and its number that of raft-engine's `LogQueue`:
 ///
 /// ```
 /// use raft_recover::Queue;
@@ -18,9 +18,9 @@ use std::str::FromStr;
 /// ```
 #[derive(Clone, Copy, PartialEq, Eq, PartialOrd, Ord, Hash, Debug)]
 pub enum Queue {
-    /// What an engine writes first.
+    /// The files to which new batches are written.
     Append,
-    /// Where it writes again what it keeps of old files.
+    /// The files to which live records of old append files are moved, so that those can be deleted.
     Rewrite,
 }
 
@@ -36,7 +36,7 @@ impl fmt::Display for Queue {
 impl FromStr for Queue {
     type Err = Error;
 
-    /// Returns the queue of a word, `append` or `rewrite`.
+    /// Returns the queue that a word names: `append` or `rewrite`.
     ///
     /// # Errors
     ///
@@ -55,7 +55,7 @@ impl FromStr for Queue {
 impl TryFrom<u8> for Queue {
     type Error = Error;
 
-    /// Returns the queue of a number, 0 or 1.
+    /// Returns the queue that has a number: 0 is `Append`, 1 is `Rewrite`.
     ///
     /// # Errors
     ///
@@ -71,7 +71,7 @@ impl TryFrom<u8> for Queue {
     }
 }
 
-/// The format of a log file.
+/// The format of a log file: how the checksums of item batches are written.
 ///
 /// ```
 /// use raft_recover::Version;
@@ -81,9 +81,10 @@ impl TryFrom<u8> for Queue {
 /// ```
 #[derive(Clone, Copy, PartialEq, Eq, PartialOrd, Ord, Hash, Debug)]
 pub enum Version {
-    /// Checksums stand as they are.
+    /// A checksum is written as it is.
     V1,
-    /// Checksums of items are signed with the file's number.
+    /// A checksum is signed for the file: combined by exclusive or with the low 32 bits of the file's number. So bytes of an
+    /// older file aren't taken for a batch of this one.
     V2,
 }
 
@@ -99,7 +100,7 @@ impl fmt::Display for Version {
 impl TryFrom<u8> for Version {
     type Error = Error;
 
-    /// Returns the version of a number, 1 or 2.
+    /// Returns the version that has a number: 1 or 2.
     ///
     /// # Errors
     ///
@@ -115,7 +116,7 @@ impl TryFrom<u8> for Version {
     }
 }
 
-/// The queue and the number of a log file.
+/// The identity of a log file: its queue and its number. Its text is as in `append file 3`.
 ///
 /// ```
 /// use raft_recover::{FileId, LogFile, Queue, Version};
@@ -128,12 +129,12 @@ impl TryFrom<u8> for Version {
 pub struct FileId {
     /// The queue.
     pub queue: Queue,
-    /// The number, unique within the queue.
+    /// The number, unique within the queue. A newer file has a greater one.
     pub seq: u64,
 }
 
 impl FileId {
-    /// Makes the id of the file with a number in a queue.
+    /// Makes the id of the file with the number `seq` in a queue.
     ///
     /// ```
     /// use raft_recover::{FileId, Queue};
@@ -158,7 +159,7 @@ impl From<LogFile> for FileId {
     }
 }
 
-/// A log file and its format.
+/// A log file with its format.
 ///
 /// ```
 /// use raft_recover::{LogFile, Queue, Version};
@@ -170,14 +171,14 @@ impl From<LogFile> for FileId {
 pub struct LogFile {
     /// The queue.
     pub queue: Queue,
-    /// The number, unique within the queue.
+    /// The number, unique within the queue. A newer file has a greater one.
     pub seq: u64,
     /// The format.
     pub version: Version,
 }
 
 impl LogFile {
-    /// Makes the file with a number in a queue, in a version.
+    /// Makes the log file with the number `seq` in a queue, in a version.
     ///
     /// ```
     /// use raft_recover::{LogFile, Queue, Version};
@@ -194,7 +195,7 @@ impl LogFile {
     }
 }
 
-/// Bytes of a file, from an offset on: whole log batches, one behind the other.
+/// A part of a file: bytes from an offset on. Calls that replay it need whole log batches, one behind the other.
 ///
 /// ```
 /// use raft_recover::{FilePart, LogFile, Queue, Version};
@@ -204,7 +205,7 @@ impl LogFile {
 /// assert_eq!(whole, FilePart { file, offset: 0, bytes: b".." });
 /// ```
 ///
-/// It lends the bytes, so they outlive it:
+/// It borrows the bytes, so they have to live longer:
 ///
 /// ```compile_fail,E0597
 /// use raft_recover::{FilePart, LogFile, Queue, Version};
@@ -219,14 +220,14 @@ impl LogFile {
 pub struct FilePart<'a> {
     /// The file.
     pub file: LogFile,
-    /// Where in the file the bytes begin.
+    /// Where in the file the bytes begin, in bytes.
     pub offset: u64,
     /// The bytes, which aren't copied.
     pub bytes: &'a [u8],
 }
 
 impl<'a> FilePart<'a> {
-    /// Makes the part that begins at offset 0.
+    /// Makes the part of a file that begins at offset 0.
     ///
     /// ```
     /// use raft_recover::{FilePart, LogFile, Queue, Version};
@@ -243,7 +244,7 @@ impl<'a> FilePart<'a> {
         }
     }
 
-    /// Tests what the library asks of a part: the bytes end where an offset can, below 2^64.
+    /// Checks what the library needs of a part: its bytes end at an offset below 2^64.
     ///
     /// # Errors
     ///
@@ -257,7 +258,7 @@ impl<'a> FilePart<'a> {
 }
 
 impl fmt::Debug for FilePart<'_> {
-    /// Shows how many bytes there are, and not the bytes.
+    /// Shows the number of bytes in place of the bytes.
     fn fmt(&self, f: &mut fmt::Formatter<'_>) -> fmt::Result {
         f.debug_struct("FilePart")
             .field("file", &self.file)

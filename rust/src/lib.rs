@@ -1,5 +1,5 @@
-//! An engine that keeps the logs of many Raft groups in files, and loses nothing that was synced, whenever the machine crashes; and
-//! the layer below it: recovery of raft-engine's tables from log files on several threads, and these tables.
+//! An engine that keeps the logs of many Raft groups in files, and loses nothing that was synced, whenever the machine crashes.
+//! And the layer below it: recovery of raft-engine's tables from log files on several threads, and these tables.
 //!
 //! All that reads bytes, changes tables and decides what files are to have is the static library `raft_ffi`, each function of
 //! which is proved to meet its contract. This crate is a thin safe layer over it, with no dependency but std. It opens files and
@@ -33,8 +33,9 @@
 //!
 //! # What is refused
 //!
-//! A call that can't be made returns an [`Error`], with the file and the byte where it is about some, and changes nothing, unless
-//! its documentation says what it leaves. A call panics in one place alone, which [`Batch::get`] names. The library never unwinds.
+//! A call that can't be made returns an [`Error`], which names the file and the offset, the entry or the item that it is about.
+//! Nothing has changed then, unless the documentation of the call says what it leaves. A call panics in one place alone, which
+//! [`Batch::get`] names. The library never unwinds.
 //!
 //! # Memory
 //!

@@ -1,4 +1,4 @@
-//! Batches that are written.
+//! Log batches that are made here, to be written.
 
 use crate::sys::{LogBatchHandle, Packed};
 use crate::{Batch, Error, ErrorKind, FileId, LogFile, Result, Summary};
@@ -11,10 +11,11 @@ mod stage;
 use shapes::{Shape, Shapes};
 pub use stage::Stage;
 
-/// Log items and the bytes of their entries. While it is open items are added; then its bytes are made, signed for a file and
-/// written there, and its items applied to tables.
+/// A log batch that is made here, to be written: items, and the bytes of their entries. As long as it is open, items are added.
+/// Then an engine writes it ([`Engine::write`](crate::Engine::write)); or a program makes its bytes, signs them for a file,
+/// writes them there, and applies the items to tables.
 ///
-/// It is `Send` and not `Sync`. After a refused call it is as it was, but for `into_items`, which loses it.
+/// It is `Send` and not `Sync`. After a call that failed it is as it was; but `into_items` loses it.
 ///
 /// ```
 /// use raft_recover::{LogBatch, LogFile, Queue, Stage, Tables, Version};
@@ -42,7 +43,7 @@ pub use stage::Stage;
 /// # Ok::<(), raft_recover::Error>(())
 /// ```
 ///
-/// A batch isn't merged with itself, and has no stage once its items are taken out:
+/// A batch can't be merged with itself, and is gone once its items are taken out:
 ///
 /// ```compile_fail,E0499
 /// let mut batch = raft_recover::LogBatch::new().unwrap();
@@ -56,16 +57,17 @@ pub use stage::Stage;
 /// ```
 pub struct LogBatch {
     handle: LogBatchHandle,
+    /// The file that it is signed for; `None` where it isn't signed.
     signed: Option<FileId>,
-    /// What its items are.
+    /// What each item does to the entries of its region, to name one that doesn't fit.
     shapes: Shapes,
-    /// Entries are packed here before they are added.
+    /// Room in which entries are packed before they are added.
     room: Packed,
 }
 
 impl LogBatch {
-    /// Makes a batch of a handle that holds one without items.
-    fn of(handle: LogBatchHandle) -> LogBatch {
+    /// Makes the batch of a handle that holds an open batch without items.
+    fn from_handle(handle: LogBatchHandle) -> LogBatch {
         LogBatch {
             handle,
             signed: None,
@@ -74,21 +76,21 @@ impl LogBatch {
         }
     }
 
-    /// Makes the batch of a handle that holds one with a `Clean` for each of the regions.
-    pub(crate) fn of_cleans(handle: LogBatchHandle, regions: &[u64]) -> LogBatch {
-        let mut batch = LogBatch::of(handle);
+    /// Makes the batch of a handle that holds an open batch with a `Clean` for each of `regions`, in this order.
+    pub(crate) fn from_cleans(handle: LogBatchHandle, regions: &[u64]) -> LogBatch {
+        let mut batch = LogBatch::from_handle(handle);
         for region in regions {
             batch.shapes.note(*region, Shape::Clean);
         }
         batch
     }
 
-    /// Returns the library's handle, for calls that read.
+    /// Returns the handle of the library, for calls that only read the batch.
     pub(crate) fn handle(&self) -> &LogBatchHandle {
         &self.handle
     }
 
-    /// Returns the library's handle, for calls that change the batch.
+    /// Returns the handle of the library, for calls that change the batch.
     pub(crate) fn handle_mut(&mut self) -> &mut LogBatchHandle {
         &mut self.handle
     }
@@ -106,11 +108,12 @@ impl LogBatch {
     ///
     /// `Memory`.
     pub fn new() -> Result<LogBatch> {
-        Ok(LogBatch::of(LogBatchHandle::new()?))
+        Ok(LogBatch::from_handle(LogBatchHandle::new()?))
     }
 
-    /// Makes an open batch without items that has room to pack `bytes` bytes of entries, so that
-    /// [`LogBatch::add_entries`] and [`LogBatch::add_messages`] need no more of it for them. It keeps this room when it is written.
+    /// Makes an open batch without items, with room for entries of `bytes` bytes together. [`LogBatch::add_entries`] and
+    /// [`LogBatch::add_messages`] pack entries there; for that many bytes they don't ask for more room. It keeps this room when
+    /// it is written.
     ///
     /// ```
     /// # use raft_recover::LogBatch;
@@ -128,7 +131,7 @@ impl LogBatch {
         Ok(batch)
     }
 
-    /// Returns how far the batch has come.
+    /// Returns how far the batch has come: whether it is open, its bytes are made, or they are signed.
     ///
     /// ```
     /// # use raft_recover::{LogBatch, LogFile, Queue, Stage, Version};
@@ -158,7 +161,8 @@ impl LogBatch {
         self.approximate_size() == 0
     }
 
-    /// Returns how many items were added: each call that adds something adds one, whatever the number of its entries.
+    /// Returns how many items were added. A call that adds entries adds one item, whatever their number; one without entries adds
+    /// none.
     ///
     /// ```
     /// # use raft_recover::LogBatch;
@@ -173,7 +177,7 @@ impl LogBatch {
         self.shapes.len()
     }
 
-    /// Takes all items away. The batch is open again, whatever its stage was.
+    /// Removes all items. The batch is then open, at whatever stage it was. Room for entries is kept.
     ///
     /// ```
     /// # use raft_recover::{LogBatch, Stage};
@@ -195,14 +199,15 @@ impl LogBatch {
         Ok(())
     }
 
-    /// Notes that the library has taken all items, so that the batch is empty.
+    /// Notes that the library has written the batch, and taken all its items, so that it is empty and open.
     pub(crate) fn note_written(&mut self) {
         self.shapes.clear();
     }
 
-    /// Returns a refusal with the item that doesn't fit the entries of its region, if that is its reason: the first one of the
-    /// regions for which `is_tested` holds. `summary` finds what a region had before the batch.
-    pub(crate) fn name_misfit(
+    /// Returns an error with the item that is its reason, if that is `Corruption`: the first item whose entries don't fit those
+    /// of their region. Only regions for which `is_tested` is true are looked at. `summary` returns what a region has before the
+    /// batch. An error of another kind is returned as it is.
+    pub(crate) fn name_refused_item(
         &self,
         refused: Error,
         is_tested: impl Fn(u64) -> bool,
@@ -211,13 +216,13 @@ impl LogBatch {
         if refused.kind != ErrorKind::Corruption {
             return refused;
         }
-        match self.shapes.find_misfit(is_tested, summary) {
+        match self.shapes.find_refused_item(is_tested, summary) {
             Some((item, region, index)) => refused.with_item(item).with_region(region, Some(index)),
             None => refused,
         }
     }
 
-    /// Returns about how many bytes the batch will have, or how many it has once they are made: 0 without items.
+    /// Returns about how many bytes the batch will have, or exactly how many it has once they are made; 0 without items.
     ///
     /// ```
     /// # use raft_recover::LogBatch;
@@ -229,10 +234,10 @@ impl LogBatch {
     /// ```
     #[must_use]
     pub fn approximate_size(&self) -> usize {
-        self.handle.size()
+        self.handle.approximate_size()
     }
 
-    /// Moves all items of another batch to the end of this one. The other one is then empty.
+    /// Moves all items of another batch to the end of this one. The other one is empty then. Both have to be open.
     ///
     /// ```
     /// # use raft_recover::LogBatch;
@@ -246,8 +251,8 @@ impl LogBatch {
     ///
     /// # Errors
     ///
-    /// `InvalidArgument` where one of the two is no longer open, `Full` where the entry bytes would pass 2^31 - 1, `Memory`.
-    /// Both are then as they were.
+    /// `InvalidArgument` where one of both is no longer open; `Full` where the entries would have 2^31 bytes or more together;
+    /// `Memory`. Both are as they were then.
     pub fn merge(&mut self, more: &mut LogBatch) -> Result<()> {
         self.shapes.reserve_for(&more.shapes)?;
         self.handle.merge(&mut more.handle)?;
@@ -255,7 +260,7 @@ impl LogBatch {
         Ok(())
     }
 
-    /// Makes the bytes, and returns how many they are: none without items. Nothing is added from then on.
+    /// Makes the bytes of the batch, and returns how many they are: 0 without items. Nothing can be added from then on.
     ///
     /// ```
     /// # use raft_recover::LogBatch;
@@ -269,12 +274,14 @@ impl LogBatch {
     ///
     /// # Errors
     ///
-    /// `InvalidArgument` where the batch is no longer open, `Full` where it would have 2^56 bytes or more, `Memory`.
+    /// `InvalidArgument` where the batch is no longer open; `Full` where it would have 2^56 bytes or more; `Memory`. It is as it
+    /// was then.
     pub fn finish(&mut self) -> Result<usize> {
         self.handle.finish()
     }
 
-    /// Signs the bytes for a file. It may be repeated for other files.
+    /// Signs the bytes for a file, as its version asks ([`Version`](crate::Version)). A batch may be signed again, for another
+    /// file.
     ///
     /// ```
     /// # use raft_recover::{LogBatch, LogFile, Queue, Version};
@@ -298,7 +305,7 @@ impl LogBatch {
         Ok(())
     }
 
-    /// Returns the bytes to write.
+    /// Returns a copy of the bytes to be written to the file that they are signed for; none without items.
     ///
     /// ```
     /// # use raft_recover::{LogBatch, LogFile, Queue, Version};
@@ -312,13 +319,13 @@ impl LogBatch {
     ///
     /// # Errors
     ///
-    /// `InvalidArgument` where they aren't signed.
+    /// `InvalidArgument` where the bytes aren't signed; `Memory`.
     pub fn bytes(&self) -> Result<Vec<u8>> {
         self.handle.bytes()
     }
 
-    /// Gives each entry and each key value its place: the bytes were written to the file that they are signed for, from
-    /// `offset` on.
+    /// Notes that the bytes were written to `file`, from `offset` on: each entry gets its place there, and each key value its
+    /// file.
     ///
     /// ```
     /// # use raft_recover::{FileId, LogBatch, LogFile, Queue, Version};
@@ -334,7 +341,7 @@ impl LogBatch {
     ///
     /// # Errors
     ///
-    /// `InvalidArgument` where the bytes aren't signed or are signed for another file, or the offset is above 2^64 - 17.
+    /// `InvalidArgument` where the bytes aren't signed, or are signed for another file, or the offset is above 2^64 - 17.
     pub fn written(&mut self, file: FileId, offset: u64) -> Result<()> {
         if self.signed.is_some_and(|signed| signed != file) {
             return Err(Error::invalid_argument(
@@ -345,7 +352,8 @@ impl LogBatch {
         self.handle.place_items(file, offset, len)
     }
 
-    /// Takes the items out, to apply them to tables or to read them. Entries can be read after [`LogBatch::written`] alone.
+    /// Returns the items, to be applied to tables or to be read. After [`LogBatch::written`] alone they have places, without
+    /// which entries can't be read.
     ///
     /// ```
     /// # use raft_recover::LogBatch;
@@ -359,14 +367,14 @@ impl LogBatch {
     ///
     /// # Errors
     ///
-    /// `Memory`. The batch is then lost.
+    /// `Memory`. The batch is lost then.
     pub fn into_items(self) -> Result<Batch> {
-        Ok(Batch::of(self.handle.into_items()?))
+        Ok(Batch::from_handle(self.handle.into_items()?))
     }
 }
 
 impl fmt::Debug for LogBatch {
-    /// Shows how far the batch has come, and about how many bytes it has.
+    /// Shows the stage, the number of items, and about how many bytes the batch has.
     fn fmt(&self, f: &mut fmt::Formatter<'_>) -> fmt::Result {
         f.debug_struct("LogBatch")
             .field("stage", &self.stage())

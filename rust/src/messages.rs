@@ -1,11 +1,11 @@
-//! Messages of a program's own.
+//! Messages of a program's own, to be entries and values.
 
 use std::convert::Infallible;
 use std::error::Error;
 use std::string::FromUtf8Error;
 
-/// A message of a program's own, which is written as an entry or as a value, and read from there again. The crate knows no format:
-/// an implementation for those of protobuf, or of serde, is two calls.
+/// A message of a program's own, which is written as an entry or as a value and read again. The crate knows no format: an
+/// implementation for messages of protobuf or serde is two calls.
 ///
 /// ```
 /// use raft_recover::{Engine, LogBatch, MemoryFiles, Message, Options};
@@ -43,10 +43,10 @@ use std::string::FromUtf8Error;
 /// # Ok::<(), raft_recover::Error>(())
 /// ```
 pub trait Message: Sized {
-    /// Why a message can't be encoded, or bytes aren't one: an error, or words.
+    /// The error where a message can't be encoded, or bytes can't be decoded. It may be a text.
     type Error: Into<Box<dyn Error + Send + Sync>>;
 
-    /// Puts the message's bytes behind those that are there, which stay as they are.
+    /// Appends the message's bytes to `bytes`. What is there already stays as it is.
     ///
     /// ```
     /// use raft_recover::Message;
@@ -58,10 +58,10 @@ pub trait Message: Sized {
     ///
     /// # Errors
     ///
-    /// Those of the message. What was put by then is dropped.
+    /// Those of the message. What was appended by then isn't used.
     fn encode(&self, bytes: &mut Vec<u8>) -> Result<(), Self::Error>;
 
-    /// Makes a message of its bytes.
+    /// Makes the message of its bytes, which are all of `bytes`.
     ///
     /// ```
     /// use raft_recover::Message;
@@ -76,7 +76,7 @@ pub trait Message: Sized {
     fn decode(bytes: &[u8]) -> Result<Self, Self::Error>;
 }
 
-/// The bytes as they are.
+/// Encodes bytes as they are.
 impl Message for Vec<u8> {
     type Error = Infallible;
 
@@ -90,7 +90,7 @@ impl Message for Vec<u8> {
     }
 }
 
-/// Words in UTF-8.
+/// Encodes a text as UTF-8.
 impl Message for String {
     type Error = FromUtf8Error;
 

@@ -1,13 +1,14 @@
-//! Recovery on the caller's threads.
+//! Recovers tables from files, on several threads.
 
 use crate::{Context, FilePart, Queue, Result, Tables};
 use std::{panic, thread};
 
-/// Recovers the tables of a queue from parts of its files, which are read in their order, on `workers` threads.
+/// Recovers the tables of a queue from parts of its files, in the order of their batches, on at most `workers` threads.
 ///
-/// Each thread takes a stretch of whole parts, all of about the same number of bytes. So a few large files are better cut
-/// between batches, by [`batch_len`](crate::batch_len). Neighbors are merged by halves. The caller's thread is one of them, 0
-/// are 1, and there are never more than there are parts. Where a thread can't be started, another one takes its stretch.
+/// Each thread reads a stretch of whole parts, all of about the same number of bytes. So cut a few large files between batches
+/// first, by [`batch_len`](crate::batch_len). What neighbors have read is merged in pairs. The caller's thread is one of the
+/// workers, and 0 workers count as 1. There are never more threads than parts. Where a thread can't be started another one reads
+/// its stretch.
 ///
 /// ```
 /// use raft_recover::{FilePart, LogBatch, LogFile, Queue, Version, recover};
@@ -30,13 +31,13 @@ use std::{panic, thread};
 ///
 /// # Errors
 ///
-/// Those of [`Context::replay`] and [`Context::merge`]: of several, that of the first stretch.
+/// Those of [`Context::replay`] and [`Context::merge`]. Of several errors it is that of the first stretch.
 pub fn recover(parts: &[FilePart<'_>], queue: Queue, workers: usize) -> Result<Tables> {
     read_parts(parts, queue, workers)?.finish()
 }
 
-/// Recovers the tables of both queues: those of the append queue over those of the rewrite queue. Each queue is read on
-/// `workers` threads, the rewrite queue first.
+/// Recovers the tables of both queues: the records of the append queue are put over those of the rewrite queue. Each queue is
+/// read on at most `workers` threads, the rewrite queue first.
 ///
 /// ```
 /// use raft_recover::recover_both;
@@ -59,20 +60,21 @@ pub fn recover_both(
     both.finish()
 }
 
-/// Reads parts of a queue on at most `workers` threads, and returns the context that has read all.
+/// Reads parts of a queue on at most `workers` threads, and returns the context that has read all of them.
 ///
 /// # Errors
 ///
-/// The refusal of the first batch in order that is refused, `Memory`.
+/// Those of [`recover`].
 fn read_parts(parts: &[FilePart<'_>], queue: Queue, workers: usize) -> Result<Context> {
     read_stretches(&cut_into_stretches(parts, workers.max(1)), queue)
 }
 
-/// Reads stretches of parts by halves, both halves at once, and merges what was read.
+/// Reads stretches of parts, each on a thread of its own: it divides them in halves, reads both at once, and merges what was
+/// read.
 ///
 /// # Errors
 ///
-/// A refusal of one of the halves, or of the merge.
+/// That of the older half, or of the newer one, or of their merge.
 fn read_stretches(stretches: &[&[FilePart<'_>]], queue: Queue) -> Result<Context> {
     match stretches {
         [] => Context::new(),
@@ -90,11 +92,11 @@ fn read_stretches(stretches: &[&[FilePart<'_>]], queue: Queue) -> Result<Context
     }
 }
 
-/// Reads parts one after another into a new context.
+/// Reads parts one after another into a new context, and returns it.
 ///
 /// # Errors
 ///
-/// The refusal of the first batch that is refused, `Memory`.
+/// That of the first batch that is refused; `Memory`.
 fn replay_parts(parts: &[FilePart<'_>]) -> Result<Context> {
     let mut context = Context::new()?;
     for part in parts {
@@ -103,8 +105,8 @@ fn replay_parts(parts: &[FilePart<'_>]) -> Result<Context> {
     Ok(context)
 }
 
-/// Makes two calls at once, the second one on another thread, and returns what both return. Where no thread can be started it makes
-/// one call after the other.
+/// Makes two calls at once, the second one on a new thread, and returns what both return. Where no thread can be started it makes
+/// the second call after the first. A panic of either is passed on.
 fn call_both<A, B: Send>(
     first: impl FnOnce() -> A,
     second: impl FnOnce() -> B + Copy + Send,
@@ -120,7 +122,8 @@ fn call_both<A, B: Send>(
     })
 }
 
-/// Cuts parts into at most `count` stretches of whole parts, in order, each of about the same number of bytes.
+/// Divides parts into at most `count` stretches of whole parts, in order, each of about the same number of bytes. `count` is at
+/// least 1.
 fn cut_into_stretches<'p, 'a>(parts: &'p [FilePart<'a>], count: usize) -> Vec<&'p [FilePart<'a>]> {
     let total: u128 = parts.iter().map(|part| part.bytes.len() as u128).sum();
     let mut stretches = Vec::new();

@@ -1,11 +1,11 @@
-//! The tables of a part of all regions, to be kept under a lock of their own.
+//! Slots: the tables of a part of the regions, to be kept under a lock of their own.
 
 use crate::sys;
 use crate::{Batch, Content, Entry, Error, FileId, Item, LogBatch, Queue, Result, Tables};
 use std::fmt;
 use std::ops::Deref;
 
-/// How many slots there are.
+/// The number of slots that the regions are divided among.
 ///
 /// ```
 /// assert_eq!(raft_recover::Tables::new()?.into_slots()?.len(), raft_recover::SLOTS);
@@ -13,10 +13,10 @@ use std::ops::Deref;
 /// ```
 pub const SLOTS: usize = 128;
 
-/// The key of the group markers, which no table has.
+/// The key of a group marker, which begins or ends an atomic group. No table has it.
 const GROUP_MARKER: &[u8] = b"__\x01";
 
-/// Returns the number of the slot that holds a region's table, below [`SLOTS`].
+/// Returns the number of the slot that a region belongs to. It is below [`SLOTS`].
 ///
 /// ```
 /// use raft_recover::{SLOTS, slot_of};
@@ -28,13 +28,12 @@ pub fn slot_of(region: u64) -> usize {
     sys::slot_of(region)
 }
 
-/// The tables of the regions whose slot has one number, those of them that were cleaned, and how many of their records are
-/// live. It is read as [`Tables`] are, and its changes do to these regions what those of `Tables` do.
+/// The tables of the regions of one slot, the list of those of them that were cleaned, and how many of their records are live. It
+/// is read as [`Tables`] are, and its calls do to these regions what those of `Tables` do.
 ///
-/// It is `Send` and not `Sync`: an engine keeps a `[Mutex<Slot>; SLOTS]`, made of the slots of [`Tables::into_slots`], and
-/// locks that of [`slot_of`] a region. A change for a region of another slot is refused by `InvalidArgument`; such a region has
-/// no table here. After a refused change all is as it was, but for
-/// the items of a batch, which say themselves what stays.
+/// It is `Send` and not `Sync`. An engine keeps a `[Mutex<Slot>; SLOTS]`, made of the slots of [`Tables::into_slots`], and locks
+/// the one of [`slot_of`] a region. A change of a region of another slot is refused with `InvalidArgument`; such a region has no
+/// table here. After an error all is as it was, but for the items of a batch: their calls say what stays.
 ///
 /// ```
 /// use raft_recover::{Content, FileId, Item, Queue, Tables, slot_of};
@@ -74,7 +73,7 @@ pub struct Slot {
 }
 
 impl Slot {
-    /// Makes the slot of a number, without tables.
+    /// Makes the slot with a number, without tables.
     ///
     /// ```
     /// use raft_recover::{SLOTS, Slot};
@@ -97,21 +96,21 @@ impl Slot {
         Ok(Slot { number, tables })
     }
 
-    /// Takes the table of a region, if there is one, out of tables.
+    /// Moves the table of a region, if there is one, out of `tables` into the slot.
     ///
     /// # Errors
     ///
-    /// `InvalidArgument` for a region of another slot, and nothing has changed. `Full`, `Memory`: the table is then gone.
+    /// `InvalidArgument` for a region of another slot: nothing has changed then. `Full`, `Memory`: the table is lost then.
     pub(crate) fn take_table(&mut self, region: u64, tables: &mut Tables) -> Result<()> {
         self.check_region(region)?;
         tables.handle.move_table(region, &mut self.tables.handle)
     }
 
-    /// Tests that a region is one of the slot's.
+    /// Checks that a region belongs to the slot.
     ///
     /// # Errors
     ///
-    /// `InvalidArgument` where it isn't.
+    /// `InvalidArgument` where it doesn't.
     fn check_region(&self, region: u64) -> Result<()> {
         if slot_of(region) == self.number {
             return Ok(());
@@ -130,8 +129,8 @@ impl Slot {
         self.number
     }
 
-    /// Puts new entries of the append queue after those of a region below their start. All others go; where
-    /// there are no new ones, all stay.
+    /// Puts new entries of the append queue, with consecutive indexes, behind the entries of a region that are below their first
+    /// index. All other entries of the region are dropped. Without new entries nothing changes.
     ///
     /// ```
     /// # use raft_recover::{Block, Entry, FileId, Queue, Slot, slot_of};
@@ -154,7 +153,7 @@ impl Slot {
         self.tables.append(region, entries)
     }
 
-    /// Drops the entries of a region below an index, and returns how many those were.
+    /// Drops the entries of a region below an index, and returns how many were dropped.
     ///
     /// ```
     /// # use raft_recover::{Block, Entry, FileId, Queue, Slot, slot_of};
@@ -176,7 +175,7 @@ impl Slot {
         self.tables.compact(region, index)
     }
 
-    /// Drops the entries of a region at or above an index, and returns how many those were.
+    /// Drops the entries of a region from an index on, and returns how many were dropped.
     ///
     /// ```
     /// # use raft_recover::{Block, Entry, FileId, Queue, Slot, slot_of};
@@ -198,7 +197,7 @@ impl Slot {
         self.tables.truncate(region, index)
     }
 
-    /// Puts a key of a region with its value, which were written to the file `file`.
+    /// Gives a key of a region a value. Both are copied; `file` is the one to which they were written.
     ///
     /// ```
     /// # use raft_recover::{FileId, Queue, Slot, slot_of};
@@ -216,7 +215,7 @@ impl Slot {
         self.tables.put(region, key, value, file)
     }
 
-    /// Deletes a key of a region and its value.
+    /// Deletes a key of a region and its value, if there is one.
     ///
     /// ```
     /// # use raft_recover::{FileId, Queue, Slot, slot_of};
@@ -235,7 +234,8 @@ impl Slot {
         self.tables.delete(region, key)
     }
 
-    /// Gives entries of a region the places of a run of the rewrite queue, as far as they may move, as `Tables::rewrite` does.
+    /// Moves entries of a region to the places in the rewrite queue that `entries` has, as far as they may move: with a `gate`
+    /// those in append files numbered at or below it, without one those that are in rewrite files already.
     ///
     /// ```
     /// # use raft_recover::{Block, Entry, FileId, Queue, Slot, slot_of};
@@ -260,7 +260,8 @@ impl Slot {
         self.tables.rewrite(region, entries, gate)
     }
 
-    /// Moves the pair of a region's key to the file of number `seq` of the rewrite queue, as `Tables::rewrite_key` does.
+    /// Moves a key of a region with its value to the rewrite file numbered `seq`: from an append file only if there is a `gate`
+    /// and the file is numbered at or below it, from a rewrite file always.
     ///
     /// ```
     /// # use raft_recover::{FileId, Queue, Slot, slot_of};
@@ -285,7 +286,7 @@ impl Slot {
         self.tables.rewrite_key(region, key, gate, seq)
     }
 
-    /// Sets the first and the last file of a region's atomic group, once the group's End is written.
+    /// Sets the first and the last rewrite file of a region's last atomic group, once the end of that group is written.
     ///
     /// ```
     /// # use raft_recover::{FileId, Queue, Slot, slot_of};
@@ -305,8 +306,8 @@ impl Slot {
         self.tables.set_atomic_group(region, start, end)
     }
 
-    /// Takes a region's table away, and returns whether there was one. Where that is asked for, it lists the region as cleaned,
-    /// also where it has no table.
+    /// Removes the table of a region, and returns whether there was one. With `is_listed` it lists the region as cleaned, even if
+    /// it had no table.
     ///
     /// ```
     /// # use raft_recover::{FileId, Queue, Slot, slot_of};
@@ -320,13 +321,14 @@ impl Slot {
     ///
     /// # Errors
     ///
-    /// `InvalidArgument` for a region of another slot; `Memory`, where the region is to be listed.
+    /// `InvalidArgument` for a region of another slot; `Memory`, only with `is_listed`.
     pub fn remove(&mut self, region: u64, is_listed: bool) -> Result<bool> {
         self.check_region(region)?;
         self.tables.remove(region, is_listed)
     }
 
-    /// Hands out the cleaned regions as an open batch, as `Tables::take_cleaned_logs` does.
+    /// Returns an open batch with a `Clean` for each of the cleaned regions, in order, and empties their list. The batch has to
+    /// be written to the rewrite queue ([`Tables::take_cleaned_logs`] says when).
     ///
     /// ```
     /// # use raft_recover::{Content, Slot, slot_of};
@@ -345,9 +347,9 @@ impl Slot {
         self.tables.take_cleaned_logs()
     }
 
-    /// Tests whether [`Slot::apply_append`] would accept those items of a batch whose regions are of the slot, once it is written
-    /// to the append queue. It changes nothing, and the stage of the batch doesn't matter. The batch is accepted where each slot
-    /// accepts it.
+    /// Checks that [`Slot::apply_append`] would accept those items of a batch whose regions belong to the slot, once the batch is
+    /// written to the append queue. Nothing is changed, and the batch may be at any stage. All slots together accept a batch if
+    /// each of them does.
     ///
     /// ```
     /// # use raft_recover::{LogBatch, Slot, slot_of};
@@ -362,15 +364,18 @@ impl Slot {
     ///
     /// # Errors
     ///
-    /// `Corruption` where an item would be refused: the text names the region, the index and the reason. `Memory`.
+    /// `Corruption` where an item would be refused: the error has the item, the region and the index. `Memory`.
     pub fn check_append(&self, batch: &LogBatch) -> Result<()> {
-        let checked = self.tables.handle.check_share(self.number, batch.handle());
+        let checked = self
+            .tables
+            .handle
+            .check_slot_append(self.number, batch.handle());
         let is_here = |region| slot_of(region) == self.number;
-        checked.map_err(|e| batch.name_misfit(e, is_here, |region| self.summary(region)))
+        checked.map_err(|e| batch.name_refused_item(e, is_here, |region| self.summary(region)))
     }
 
-    /// Writes those items of a batch of the append queue whose regions are of the slot, in order. The others are those of other
-    /// slots ([`Batch::slots`]).
+    /// Applies those items of a batch of the append queue whose regions belong to the slot, in order. The batch is only read,
+    /// since other slots apply its other items ([`Batch::slots`] says which).
     ///
     /// ```
     /// use raft_recover::{LogBatch, LogFile, Queue, Tables, Version};
@@ -397,14 +402,15 @@ impl Slot {
     ///
     /// # Errors
     ///
-    /// `Corruption`, `Full` or `Memory` at the first item that is refused. The items in front of it are written, and nothing
-    /// else.
+    /// `Corruption`, `Full` or `Memory` at the first item that is refused. The items before it are applied then, and no others.
     pub fn apply_append(&mut self, batch: &Batch) -> Result<()> {
-        self.tables.handle.apply_share(self.number, batch.handle())
+        self.tables
+            .handle
+            .apply_slot_append(self.number, batch.handle())
     }
 
-    /// Writes those items of a batch whose regions are of the slot, in order. It was rewritten to the file of number `seq` of the
-    /// rewrite queue, with a gate as for `Tables::apply_rewrite`.
+    /// Applies those items of a batch whose regions belong to the slot, in order. The batch was written to the rewrite file
+    /// numbered `seq`, to move records: `gate` says which, as for [`Slot::rewrite`].
     ///
     /// ```
     /// # use raft_recover::{FileId, LogBatch, LogFile, Queue, Slot, Version, slot_of};
@@ -423,14 +429,14 @@ impl Slot {
     ///
     /// # Errors
     ///
-    /// As [`Slot::apply_append`].
+    /// Those of [`Slot::apply_append`].
     pub fn apply_rewrite(&mut self, batch: &Batch, gate: Option<u64>, seq: u64) -> Result<()> {
         self.tables
             .handle
-            .rewrite_share(self.number, batch.handle(), gate, seq)
+            .apply_slot_rewrite(self.number, batch.handle(), gate, seq)
     }
 
-    /// Writes a new item of the append queue, which was written to the file `file`. A group marker changes nothing.
+    /// Applies one item of the append queue, which was written to `file`. A group marker changes nothing.
     ///
     /// ```
     /// # use raft_recover::{Content, FileId, Item, Queue, Slot, slot_of};
@@ -443,8 +449,8 @@ impl Slot {
     ///
     /// # Errors
     ///
-    /// Those of the call for its content, and `InvalidArgument` for a put in a file of the rewrite queue. The slot is then as
-    /// it was.
+    /// Those of the call for what the item does, such as [`Slot::append`] or [`Slot::put`]; `InvalidArgument` for a put in a file
+    /// of the rewrite queue. The slot is as it was then.
     pub fn write(&mut self, item: &Item, file: FileId) -> Result<()> {
         let region = item.region;
         match &item.content {
@@ -466,7 +472,7 @@ impl Slot {
     }
 }
 
-/// A slot is read as its tables are.
+/// Lends the tables of the slot, to be read.
 impl Deref for Slot {
     type Target = Tables;
 
@@ -476,7 +482,7 @@ impl Deref for Slot {
 }
 
 impl fmt::Debug for Slot {
-    /// Shows the number, and how many records are live.
+    /// Shows the number of the slot, and how many records are live in each queue.
     fn fmt(&self, f: &mut fmt::Formatter<'_>) -> fmt::Result {
         f.debug_struct("Slot")
             .field("number", &self.number())

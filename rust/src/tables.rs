@@ -1,4 +1,4 @@
-//! The tables of all regions.
+//! Tables of all regions: which records there are, and where.
 
 use crate::sys::TablesHandle;
 use crate::{Queue, Result, SLOTS, Slot, slot_of};
@@ -10,12 +10,15 @@ mod summary;
 
 pub use summary::Summary;
 
-/// The tables of all regions, the regions that were cleaned, and how many records are live.
+/// The tables of all regions, the list of regions that were cleaned, and how many records are live.
 ///
-/// It is `Send` and not `Sync`: to share it, put it behind a `Mutex`. After a refused change all is as it was, but for
-/// merges and items, which say themselves what stays.
+/// The table of a region says which entries and keys it has, and where: the place of each entry, the value of each key and its
+/// file.
 ///
-/// Its `Display` has the lines of `raftlog recover`.
+/// It is `Send` and not `Sync`: to share it, put it behind a `Mutex`. After an error all is as it was, but for merges and the
+/// items of a batch: their calls say what stays.
+///
+/// Its `Display` has the lines that the tool `raftlog` prints for `recover`.
 ///
 /// ```
 /// use raft_recover::{Block, Entry, FileId, Queue, Tables};
@@ -34,7 +37,7 @@ pub use summary::Summary;
 /// # Ok::<(), raft_recover::Error>(())
 /// ```
 ///
-/// Threads can't share them without a lock, and nobody has two of them:
+/// Threads can't share tables without a lock, and tables aren't copied:
 ///
 /// ```compile_fail,E0277
 /// let tables = raft_recover::Tables::new().unwrap();
@@ -68,8 +71,8 @@ pub struct Tables {
 }
 
 impl Tables {
-    /// Makes tables of the library's handle.
-    pub(crate) fn of(handle: TablesHandle) -> Tables {
+    /// Makes the tables of a handle that holds some.
+    pub(crate) fn from_handle(handle: TablesHandle) -> Tables {
         Tables { handle }
     }
 
@@ -84,11 +87,11 @@ impl Tables {
     ///
     /// `Memory`.
     pub fn new() -> Result<Tables> {
-        Ok(Tables::of(TablesHandle::new()?))
+        Ok(Tables::from_handle(TablesHandle::new()?))
     }
 
-    /// Divides the tables and the cleaned regions into slots, in the order of their numbers. A region's table and its entries
-    /// in the list go to the slot of [`slot_of`] the region; within a slot the list keeps its order.
+    /// Divides the tables and the list of cleaned regions among slots, which are returned in the order of their numbers. What
+    /// concerns a region goes to the slot of [`slot_of`] the region. Within a slot the list keeps its order.
     ///
     /// ```
     /// # use raft_recover::{FileId, Queue, Tables, slot_of};
@@ -101,7 +104,7 @@ impl Tables {
     ///
     /// # Errors
     ///
-    /// `Memory`. The tables are then gone.
+    /// `Memory`. The tables are lost then.
     pub fn into_slots(mut self) -> Result<[Slot; SLOTS]> {
         let slots: Result<Vec<_>> = (0..SLOTS).map(Slot::new).collect();
         let mut slots = slots?;
@@ -116,7 +119,8 @@ impl Tables {
             .expect("there are as many slots as numbers"))
     }
 
-    /// Merges the tables of a newer neighbor, each into the table of its region. Its list of cleaned regions is dropped.
+    /// Merges tables of the batches that follow, each into the table of its region. Both are of the same queue. The list of
+    /// cleaned regions of `newer` is dropped.
     ///
     /// ```
     /// # use raft_recover::{FileId, Queue, Tables};
@@ -131,12 +135,14 @@ impl Tables {
     ///
     /// # Errors
     ///
-    /// Where a table can't be merged: other tables are then merged or as they were, and the rest of `newer` is lost. `Memory`.
+    /// `Corruption` where a table of `newer` can't follow that of its region; `Full`; `Memory`. Some tables are merged then, the
+    /// others as they were, and the rest of `newer` is lost; after `Memory` one table may be lost too.
     pub fn merge_newer(&mut self, newer: Tables) -> Result<()> {
         self.handle.merge_newer(newer.handle)
     }
 
-    /// Merges appended tables, each into the rewritten table of its region. Their list of cleaned regions is dropped.
+    /// Merges tables of the append queue into these of the rewrite queue, each into the table of its region. The list of cleaned
+    /// regions of `append` is dropped.
     ///
     /// ```
     /// # use raft_recover::{FileId, Queue, Tables};
@@ -151,12 +157,13 @@ impl Tables {
     ///
     /// # Errors
     ///
-    /// As [`Tables::merge_newer`].
+    /// Those of [`Tables::merge_newer`].
     pub fn merge_append(&mut self, append: Tables) -> Result<()> {
         self.handle.merge_append(append.handle)
     }
 
-    /// Writes the line of a region: its entries, keys and least files.
+    /// Writes a line for a region: its entries, how many keys it has, and the oldest file of each queue that it needs. Nothing
+    /// for a region without a table.
     ///
     /// # Errors
     ///
@@ -185,7 +192,7 @@ impl Tables {
 }
 
 impl fmt::Debug for Tables {
-    /// Shows how many records are live.
+    /// Shows how many records are live in each queue.
     fn fmt(&self, f: &mut fmt::Formatter<'_>) -> fmt::Result {
         f.debug_struct("Tables")
             .field("live_append", &self.live(Queue::Append))

@@ -1,5 +1,5 @@
-//! Recovery reads on all its threads at the same time: in a heap of this test's own each thread waits, at the library's first request
-//! for memory, until all of them have come to one.
+//! Recovery reads on all its threads at the same time: in a heap of this test's own each thread waits, at the library's
+//! first request for memory, until all of them have come to one.
 #![cfg(not(feature = "global-allocator"))]
 
 mod common;
@@ -13,18 +13,23 @@ use std::sync::{Condvar, Mutex};
 use std::thread::{self, ThreadId};
 use std::time::Duration;
 
-/// The threads of which a recovery is to consist, and those that came to a request.
+/// A point at which all threads of a recovery wait for one another.
 #[derive(Default)]
 struct Meeting {
+    /// How many threads have to come.
     expected: usize,
+    /// Those that have come.
     come: HashSet<ThreadId>,
+    /// Whether some thread has waited in vain.
     is_missed: bool,
 }
 
+/// The meeting of the threads of the recovery that runs; `None` where there is none.
 static MEETING: Mutex<Option<Meeting>> = Mutex::new(None);
+/// Wakes the waiting threads when another one has come.
 static HAS_COME: Condvar = Condvar::new();
 
-/// Comes to the meeting, if there is one, and waits for the others.
+/// Comes to the meeting, if there is one, and waits until all have come, for 20 seconds at most.
 fn meet() {
     let mut meeting = MEETING.lock().unwrap();
     if let Some(meeting) = &mut *meeting {
@@ -43,7 +48,7 @@ fn meet() {
     }
 }
 
-/// Has each thread wait for so many from now on.
+/// Begins a meeting of so many threads, unless there is one.
 fn call_meeting(expected: usize) {
     let meeting = Meeting {
         expected,
@@ -52,12 +57,13 @@ fn call_meeting(expected: usize) {
     MEETING.lock().unwrap().get_or_insert(meeting);
 }
 
-/// Ends the meeting, and returns how many threads came, if none was missed.
+/// Ends the meeting, and returns how many threads came; `None` where one of them waited in vain.
 fn end_meeting() -> Option<usize> {
     let meeting = MEETING.lock().unwrap().take().unwrap();
     (!meeting.is_missed).then_some(meeting.come.len())
 }
 
+/// The answer to a request for memory, as the library reads it: whether it is granted, and the block.
 #[repr(C)]
 struct Tried {
     ok: bool,
@@ -70,31 +76,35 @@ unsafe extern "C" {
     fn free(p: *mut c_void);
 }
 
-fn tried(p: *mut c_void) -> Tried {
+/// Returns the answer that grants a request, with its block.
+fn granted(p: *mut c_void) -> Tried {
     assert!(!p.is_null());
     Tried { ok: true, p }
 }
 
+/// Allocates a block for the library, after the calling thread has met the others.
 #[unsafe(no_mangle)]
 extern "C" fn rattle_alloc(n: usize, _a: usize) -> Tried {
     meet();
     // SAFETY: any size may be asked for; blocks are aligned to 16 bytes.
-    tried(unsafe { malloc(n.max(1)) })
+    granted(unsafe { malloc(n.max(1)) })
 }
 
+/// Gives a block of the library another size.
 #[unsafe(no_mangle)]
 unsafe extern "C" fn rattle_realloc(p: *mut c_void, _kept: usize, n: usize, _a: usize) -> Tried {
-    // SAFETY: the block came from `tried`.
-    tried(unsafe { realloc(p, n.max(1)) })
+    // SAFETY: the block came from `granted`.
+    granted(unsafe { realloc(p, n.max(1)) })
 }
 
+/// Frees a block of the library.
 #[unsafe(no_mangle)]
 unsafe extern "C" fn rattle_dealloc(p: *mut c_void) {
-    // SAFETY: the block came from `tried`.
+    // SAFETY: the block came from `granted`.
     unsafe { free(p) }
 }
 
-/// The bytes of eight files, each of which cleans a region, and puts a value of so many bytes.
+/// Returns the bytes of eight files, each of a batch that puts a value of `value` bytes and then cleans its region.
 fn files(value: usize) -> Vec<Vec<u8>> {
     (1..=8)
         .map(|seq| {
@@ -106,7 +116,7 @@ fn files(value: usize) -> Vec<Vec<u8>> {
         .collect()
 }
 
-/// One test at a time has the heap.
+/// The lock of the test that is using the heap.
 static TURN: Mutex<()> = Mutex::new(());
 
 #[test]

@@ -1,4 +1,4 @@
-//! What the build script says where something is missing: one line, and `cargo check` goes on.
+//! Tests what the build script prints where something is missing: one line, and `cargo check` goes on.
 
 mod common;
 
@@ -8,13 +8,14 @@ use std::fs;
 use std::path::PathBuf;
 use std::process::Command;
 
-/// The build script, compiled for a package in a folder of its own, so without an archive beside it.
+/// The build script, compiled for a package in a folder of its own, so that no archive is beside it.
 struct Script {
     room: TempFolder,
     program: PathBuf,
 }
 
 impl Script {
+    /// Compiles the script in a new folder.
     fn new() -> Script {
         let room = TempFolder::new();
         let program = room.path().join("script");
@@ -30,7 +31,8 @@ impl Script {
         Script { room, program }
     }
 
-    /// Runs it for a target, which its system, its processor and its library of C name, and returns the lines that it says.
+    /// Runs the script for a target, given as its system, processor and C library, with these environment variables, and returns
+    /// the lines that it prints.
     fn run(&self, target: [&str; 3], variables: &[(&str, &str)]) -> Vec<String> {
         let [system, processor, library] = target;
         let output = Command::new(&self.program)
@@ -51,7 +53,7 @@ impl Script {
 
 const OURS: [&str; 3] = ["linux", "x86_64", "gnu"];
 
-/// The heap is that of the program, and nothing of the toolchain is needed.
+/// The variable that cargo sets for the feature `global-allocator`, with which nothing of the toolchain is needed.
 const GLOBAL: (&str, &str) = ("CARGO_FEATURE_GLOBAL_ALLOCATOR", "1");
 
 #[test]

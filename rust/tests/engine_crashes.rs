@@ -1,5 +1,5 @@
-//! Histories of an engine on which several threads write, and each stop of the machine in them: what is left is opened again, and
-//! compared with maps.
+//! Random histories of an engine to which several threads write, with crashes of the machine throughout: what each crash leaves
+//! is opened again, and compared with maps.
 //!
 //! `HISTORIES=10000 SEED=1 cargo test --release --test engine_crashes` runs more of them than by default, from a seed on.
 
@@ -19,24 +19,26 @@ use std::{fs, thread};
 /// How many steps a thread takes.
 const STEPS: usize = 14;
 
-/// In one of so many histories the files are in a folder.
+/// One in so many histories has its files in a folder.
 const IN_FOLDER: u64 = 8;
 
-/// In one of so many histories the machine stops behind each byte.
+/// In one of so many histories the machine crashes behind each byte that is written.
 const BY_BYTE: u64 = 100;
 
-/// The numbers and records of a thread: it has three regions to itself, and under a key of the first one the number of its last
+/// What a thread does, and what it wrote. It has three regions to itself: a key of the first one has the number of its last
 /// batch.
 struct Writer {
     id: u64,
     draw: Draw,
-    /// What its two other regions had after each of its batches.
+    /// What its two other regions had before its first batch and after each one.
     states: Vec<[Region; 2]>,
-    /// How much was asked of the files when it was told that its batches up to a number last.
+    /// Each time when a call ensured that its batches so far are synced: how many asks there were by then, and the number of its
+    /// last batch.
     acks: Vec<(usize, u64)>,
 }
 
 impl Writer {
+    /// Returns the thread with the number `id` in the history of a seed. It has written nothing yet.
     fn new(seed: u64, id: u64) -> Writer {
         Writer {
             id,
@@ -46,15 +48,17 @@ impl Writer {
         }
     }
 
+    /// Returns its region with the number `i`: 0 has the number of its last batch, 1 and 2 what it writes.
     fn region(&self, i: u64) -> u64 {
         10 * self.id + i
     }
 
-    /// The number of its last batch.
+    /// Returns the number of its last batch.
     fn last(&self) -> u64 {
         self.states.len() as u64 - 1
     }
 
+    /// Takes all of its steps, and notes after which of them all that it has written is synced.
     fn run<F: Files>(&mut self, engine: &Engine<F>, files: &MemoryFiles) -> Result<()> {
         for _ in 0..STEPS {
             if self.step(engine)? {
@@ -64,7 +68,7 @@ impl Writer {
         Ok(())
     }
 
-    /// Takes a step, and returns whether all that the thread wrote lasts.
+    /// Takes a random step, and returns whether all that the thread has written is synced then.
     fn step<F: Files>(&mut self, engine: &Engine<F>) -> Result<bool> {
         match self.draw.below(20) {
             0 => engine.rotate().map(|()| true),
@@ -85,6 +89,7 @@ impl Writer {
         }
     }
 
+    /// Writes a batch of random changes, and returns whether it is synced.
     fn write<F: Files>(&mut self, engine: &Engine<F>) -> Result<bool> {
         let mut state = self.states.last().unwrap().clone();
         let mut batch = LogBatch::new()?;
@@ -107,11 +112,11 @@ struct History {
     seed: u64,
     writers: Vec<Writer>,
     files: MemoryFiles,
-    /// Each batch that was written: behind how much that was asked, by which thread, and its number.
+    /// Each batch, in the order in which they were written: the position of its ask, its thread, and its number.
     order: Vec<(usize, usize, u64)>,
 }
 
-/// Small files, so that all is done that an engine does.
+/// Returns options with files so small that an engine does all that it can do to them.
 fn options(seed: u64) -> Options {
     let version = if seed.is_multiple_of(5) {
         Version::V1
@@ -126,6 +131,8 @@ fn options(seed: u64) -> Options {
 }
 
 impl History {
+    /// Has the threads of a seed, one to three of them, write in an engine over `files`, and finds the order of their
+    /// batches.
     fn new<F: Files>(seed: u64, engine: &Engine<F>, files: &MemoryFiles) -> History {
         let mut writers: Vec<_> = (0..1 + seed % 3).map(|id| Writer::new(seed, id)).collect();
         thread::scope(|scope| {
@@ -142,8 +149,8 @@ impl History {
         }
     }
 
-    /// Tests what an engine has that was opened over what the first `asks` left, and returns the number of each thread's last
-    /// batch.
+    /// Tests that an engine opened over what a crash behind the first `asks` asks left has a prefix of all batches, with all that
+    /// were synced, and just their records. Returns the number of each thread's last batch that is there.
     fn check<F: Files>(&self, engine: &Engine<F>, asks: usize) -> Vec<u64> {
         let counts: Vec<_> = self
             .writers
@@ -160,7 +167,7 @@ impl History {
             let found = [1, 2].map(|i| region_of(engine, writer.region(i)).unwrap());
             assert_eq!(found, writer.states[*count as usize]);
         }
-        // the batches are a front of all that were written
+        // the batches are a prefix of all that were written
         let is_there = |(_, thread, number): &&(usize, usize, u64)| counts[*thread] >= *number;
         let front = self.order.iter().take_while(is_there).count();
         assert_eq!(front, self.order.iter().filter(is_there).count());
@@ -169,7 +176,7 @@ impl History {
     }
 }
 
-/// Reads which batches were written.
+/// Returns the batches that the asks write, in order: the position of the ask, the thread, and the number of the batch.
 fn order_of(asks: &[Ask], version: Version) -> Vec<(usize, usize, u64)> {
     let mut order = Vec::new();
     for (at, ask) in asks.iter().enumerate() {
@@ -194,7 +201,8 @@ fn order_of(asks: &[Ask], version: Version) -> Vec<(usize, usize, u64)> {
     order
 }
 
-/// What a stop may leave: of both queues nothing that wasn't synced, all of it, and drawn fronts; or each front of one of them.
+/// Returns how much of what isn't synced behind the first `asks` asks crashes may leave of both queues: nothing, all, and random
+/// prefixes; with `by_byte` also each prefix of one queue.
 fn stops(history: &History, asks: usize, draw: &mut Draw, by_byte: bool) -> Vec<[Unsynced; 2]> {
     let most = [Queue::Append, Queue::Rewrite].map(|queue| history.files.unsynced(asks, queue));
     let none = Unsynced::default();
@@ -216,7 +224,8 @@ fn stops(history: &History, asks: usize, draw: &mut Draw, by_byte: bool) -> Vec<
     stops
 }
 
-/// Stops the machine in a history behind one in four of what was asked, and opens what is left. Returns how often.
+/// Crashes the machine in a history behind one in four asks, and opens and tests what is left. Returns how many crashes there
+/// were.
 fn stop_everywhere(history: &History) -> u64 {
     let seed = history.seed;
     let mut draw = Draw::new(!seed);
@@ -247,7 +256,7 @@ fn stop_everywhere(history: &History) -> u64 {
     count
 }
 
-/// Opens the files that are left as files of a folder.
+/// Writes files that a crash left into a folder, opens that, and tests it.
 fn open_in_folder(history: &History, left: &MemoryFiles, asks: usize) {
     let room = TempFolder::new();
     for (queue, ending) in [(Queue::Append, "raftlog"), (Queue::Rewrite, "rewrite")] {
@@ -259,7 +268,8 @@ fn open_in_folder(history: &History, left: &MemoryFiles, asks: usize) {
     history.check(&engine, asks);
 }
 
-/// Stops the machine in the opening too: the batches that were found are there again.
+/// Crashes the machine also in the opening of files that a crash left, and tests that all batches which that opening found are
+/// there again. Returns how many crashes there were.
 fn stop_in_opening(history: &History, left: &MemoryFiles, asks: usize, counts: &[u64]) -> u64 {
     let mut count = 0;
     for asked in 0..=left.asked() {
@@ -278,7 +288,7 @@ fn stop_in_opening(history: &History, left: &MemoryFiles, asks: usize, counts: &
     count
 }
 
-/// Goes on with an engine that was opened, and opens its files once more.
+/// Writes on in an engine that was opened after a crash, opens its files once more, and tests their records.
 fn go_on(
     history: &History,
     engine: &Engine<MemoryFiles>,
@@ -305,7 +315,7 @@ fn go_on(
     }
 }
 
-/// Runs the history of a seed, and stops the machine in it. Returns how often.
+/// Runs the history of a seed, with crashes, and returns how many these were.
 fn run(seed: u64) -> u64 {
     let files = MemoryFiles::new();
     if !seed.is_multiple_of(IN_FOLDER) {

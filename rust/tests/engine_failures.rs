@@ -1,4 +1,4 @@
-//! What an engine does where its files fail.
+//! Tests what an engine does where its files fail.
 
 mod common;
 
@@ -16,7 +16,7 @@ use std::{io, thread};
 
 const FIRST: FileId = FileId::new(Queue::Append, 1);
 
-/// A batch that puts a number under a key.
+/// Makes a batch with an entry and a key that have a number.
 fn batch(number: u64) -> LogBatch {
     let mut batch = LogBatch::new().unwrap();
     batch.add_entries(7, number, &[number.to_string()]).unwrap();
@@ -24,17 +24,16 @@ fn batch(number: u64) -> LogBatch {
     batch
 }
 
-/// How far the steps of a run have come: how many batches were written, and how many for certain.
+/// How far a run has come: how many batches were written, and how many of these were synced for certain.
 #[derive(Clone, Copy, Default)]
-struct Come {
+struct Progress {
     written: u64,
     certain: u64,
 }
 
-/// Steps that make each kind of change: writes with and without a sync, and what moves and deletes. Returns how far they
-/// came, and the refusal.
-fn run<F: Files>(engine: &Engine<F>) -> (Come, Result<()>) {
-    let mut come = Come::default();
+/// Makes each kind of change: writes with and without a sync, moves and deletions. Returns how far it came, and the first error.
+fn make_all_changes<F: Files>(engine: &Engine<F>) -> (Progress, Result<()>) {
+    let mut come = Progress::default();
     let mut steps = || {
         for number in 1..=6 {
             engine.write(&mut batch(number), number % 2 == 0)?;
@@ -58,8 +57,8 @@ fn run<F: Files>(engine: &Engine<F>) -> (Come, Result<()>) {
     (come, result)
 }
 
-/// The refusals of every change by a failed engine.
-fn changes<F: Files>(engine: &Engine<F>) -> Vec<Error> {
+/// Returns the errors of all kinds of changes of an engine that has failed.
+fn errors_of_changes<F: Files>(engine: &Engine<F>) -> Vec<Error> {
     let results = [
         engine.write(&mut batch(9), false),
         engine.sync(),
@@ -71,8 +70,8 @@ fn changes<F: Files>(engine: &Engine<F>) -> Vec<Error> {
     results.map(Result::unwrap_err).into()
 }
 
-/// The refusals of every read of an engine whose tables may not be whole.
-fn reads<F: Files>(engine: &Engine<F>) -> Vec<Error> {
+/// Returns the errors of all kinds of reads of an engine that can't be read.
+fn errors_of_reads<F: Files>(engine: &Engine<F>) -> Vec<Error> {
     let results = [
         engine.entry(7, 1).map(drop),
         engine.entries(7, ..).map(drop),
@@ -85,14 +84,14 @@ fn reads<F: Files>(engine: &Engine<F>) -> Vec<Error> {
     results.map(Result::unwrap_err).into()
 }
 
-/// What the system said of a call on a file.
+/// Returns the kind of the system's error behind an error.
 fn source_of(e: &Error) -> io::ErrorKind {
     let source = std::error::Error::source(e).unwrap();
     let source: &io::Error = source.downcast_ref().unwrap();
     source.kind()
 }
 
-/// What a change is about that fails: a file, and where in it.
+/// Returns the file and the offset that the error of a call on files has to name.
 fn place_of(call: Call<'_>, files: &MemoryFiles) -> (Option<FileId>, Option<u64>) {
     let end_of = |queue| {
         let (seq, len) = *files.list(queue).unwrap().last().unwrap();
@@ -107,9 +106,9 @@ fn place_of(call: Call<'_>, files: &MemoryFiles) -> (Option<FileId>, Option<u64>
     (Some(file), Some(offset))
 }
 
-/// Each change by an engine fails with its first failure, which asks nothing of the files.
+/// Tests that each change of a failed engine returns `Failed` with the reason `first`, and asks nothing of the files.
 fn assert_every_change_fails<F: Files>(engine: &Engine<F>, first: &Error) {
-    for e in changes(engine) {
+    for e in errors_of_changes(engine) {
         assert_eq!(e.kind, ErrorKind::Failed);
         assert_eq!(source_of(&e), io::ErrorKind::StorageFull);
         assert_eq!((e.file, e.offset), (first.file, first.offset));
@@ -118,8 +117,8 @@ fn assert_every_change_fails<F: Files>(engine: &Engine<F>, first: &Error) {
     assert!(format!("{engine:?}").contains("failure: Some"));
 }
 
-/// An engine has the first ones of the batches that `run` writes. Returns how many.
-fn batches_in<F: Files>(engine: &Engine<F>) -> u64 {
+/// Tests that an engine has a prefix of the batches that `make_all_changes` writes, and returns how many.
+fn count_batches<F: Files>(engine: &Engine<F>) -> u64 {
     let region = region_of(engine, 7).unwrap();
     let written = region.entries.len() as u64;
     let expected = (1..=written).map(|number| (number, number.to_string().into_bytes()));
@@ -129,9 +128,10 @@ fn batches_in<F: Files>(engine: &Engine<F>) -> u64 {
     written
 }
 
-/// A failed engine is read on: it has all that was written, and perhaps the batch with which it failed.
+/// Tests that a failed engine can be read: it has the `written` batches, and perhaps one more, with which it failed. `failing`
+/// says which call failed.
 fn assert_reads_go_on<F: Files>(engine: &Engine<F>, written: u64, failing: usize) {
-    let found = batches_in(engine);
+    let found = count_batches(engine);
     let allowed = written..=written + 1;
     assert!(allowed.contains(&found), "{failing}: {found} of {written}");
     for number in 1..=found {
@@ -150,10 +150,11 @@ fn assert_reads_go_on<F: Files>(engine: &Engine<F>, written: u64, failing: usize
     assert_eq!(engine.summary(7).unwrap().is_some(), found > 0);
 }
 
-/// The files have the first ones of what `run` writes, and at least what is certain.
+/// Tests that files have a prefix of the batches that `make_all_changes` writes, of at least `certain` ones. `failing` says
+/// which call failed.
 fn assert_nothing_is_lost(files: MemoryFiles, certain: u64, failing: usize) {
     let opened = Engine::with_files(files, Options::new()).unwrap();
-    let written = batches_in(&opened);
+    let written = count_batches(&opened);
     assert!(written >= certain, "{failing}: {written} of {certain}");
 }
 
@@ -166,7 +167,7 @@ fn where_any_change_fails_every_later_one_says_so_reads_go_on_and_nothing_is_los
     });
     let engine = Engine::with_files(counting, Options::new()).unwrap();
     let opening = count.load(SeqCst);
-    run(&engine).1.unwrap();
+    make_all_changes(&engine).1.unwrap();
     let changes = count.load(SeqCst);
     assert!(changes > opening + 20, "{changes}");
     for failing in opening..changes {
@@ -183,7 +184,7 @@ fn where_any_change_fails_every_later_one_says_so_reads_go_on_and_nothing_is_los
             Ok(())
         });
         let engine = Engine::with_files(hooked, Options::new()).unwrap();
-        let (come, result) = run(&engine);
+        let (come, result) = make_all_changes(&engine);
         let first = result.unwrap_err();
         assert_eq!(first.kind, ErrorKind::Io);
         assert_eq!(Some(&(first.file, first.offset)), place.get(), "{first}");
@@ -228,7 +229,7 @@ fn a_batch_lasts_where_the_file_behind_it_cant_be_begun() {
 fn an_opening_that_fails_can_be_made_again() {
     let files = MemoryFiles::new();
     let engine = Engine::with_files(files.clone(), Options::new()).unwrap();
-    run(&engine).1.unwrap();
+    make_all_changes(&engine).1.unwrap();
     engine.write(&mut batch(8), false).unwrap();
     let append = files.files(Queue::Append);
     let mut torn = append.clone();
@@ -352,7 +353,10 @@ fn files_that_panic_leave_a_failed_engine_and_nobody_waits_for_ever() {
         let failed: Vec<_> = failed.map(|result| result.unwrap_err().kind).collect();
         assert_eq!(failed, [ErrorKind::Failed; 3]);
     });
-    for e in changes(&engine).into_iter().chain(reads(&engine)) {
+    for e in errors_of_changes(&engine)
+        .into_iter()
+        .chain(errors_of_reads(&engine))
+    {
         assert_eq!(e.kind, ErrorKind::Failed);
     }
 }

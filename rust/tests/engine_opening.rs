@@ -1,4 +1,4 @@
-//! How an engine is opened: the files are read by several threads and in pieces, and none of them is missing.
+//! Tests how an engine is opened: several threads read the files in pieces, and none of the files may be missing.
 
 mod common;
 
@@ -10,7 +10,7 @@ use std::collections::BTreeSet;
 use std::sync::{Condvar, Mutex};
 use std::time::Duration;
 
-/// The files of an engine with five of each queue: region 7 has an entry in each of them.
+/// Returns the files of an engine, five of each queue: region 7 has an entry in each of them.
 fn five_files() -> MemoryFiles {
     let files = MemoryFiles::new();
     let options = Options::new().target_file_size(1);
@@ -25,8 +25,8 @@ fn five_files() -> MemoryFiles {
     files
 }
 
-/// Files with the bytes of these, but for the one of this number of a queue.
-fn without(files: &MemoryFiles, missing: FileId) -> MemoryFiles {
+/// Returns a copy of files without one of them.
+fn without_file(files: &MemoryFiles, missing: FileId) -> MemoryFiles {
     let [append, rewrite] = [Queue::Append, Queue::Rewrite].map(|queue| {
         let mut held = files.files(queue);
         held.retain(|(seq, _)| FileId::new(queue, *seq) != missing);
@@ -43,7 +43,7 @@ fn a_file_that_is_missing_between_two_others_is_refused_and_named() {
         assert_eq!(seqs, [1, 2, 3, 4, 5]);
         for seq in 2..=4 {
             let missing = FileId::new(queue, seq);
-            let found = without(&files, missing);
+            let found = without_file(&files, missing);
             let e = Engine::with_files(found.clone(), Options::new()).unwrap_err();
             let place = (Some(missing), Some(0));
             assert_eq!((e.kind, (e.file, e.offset)), (ErrorKind::Corruption, place));
@@ -53,7 +53,7 @@ fn a_file_that_is_missing_between_two_others_is_refused_and_named() {
             assert_eq!(found.asked(), 0);
         }
     }
-    let older = without(&files, FileId::new(Queue::Append, 1)); // as a purge leaves them
+    let older = without_file(&files, FileId::new(Queue::Append, 1)); // as a purge leaves them
     Engine::with_files(older, Options::new()).unwrap();
     let last = MemoryFiles::found(vec![(u64::MAX - 1, vec![]), (u64::MAX, vec![])], vec![]);
     Engine::with_files(last, Options::new()).unwrap();
@@ -90,8 +90,8 @@ fn several_threads_read_whole_files_at_once() {
     }
 }
 
-/// How many bytes both queues have at most while an engine does steady work: ten regions keep their last 200 entries of a
-/// hundred bytes. In each of so many lives it does so much of it, and is opened again.
+/// Returns how many bytes both queues have at most while an engine does steady work: ten regions keep their last 200 entries of a
+/// hundred bytes. The engine is opened `lives` times, and does so many `rounds` each time.
 fn most_bytes(lives: u64, rounds: u64) -> u64 {
     let options = Options::new()
         .target_file_size(64 << 10)
@@ -130,8 +130,8 @@ fn files_grow_no_more_where_an_engine_is_often_opened_again() {
     assert!(often < 2 * once, "{often} in 60 lives, {once} in one");
 }
 
-/// Files with an entry of a thousand bytes in each of ten regions, or such a value, all of them in the rewrite queue.
-fn ten_moved(is_entry: bool) -> MemoryFiles {
+/// Returns files with ten regions, whose entry of a thousand bytes, or else value, is in the rewrite queue.
+fn ten_moved_regions(is_entry: bool) -> MemoryFiles {
     let files = MemoryFiles::new();
     let engine = Engine::with_files(files.clone(), Options::new()).unwrap();
     for region in 0..10 {
@@ -150,7 +150,7 @@ fn ten_moved(is_entry: bool) -> MemoryFiles {
 fn what_was_found_moves_again_where_half_of_it_isnt_needed() {
     for is_entry in [true, false] {
         for (cleaned, moves) in [(0, 0), (3, 0), (6, 1)] {
-            let files = ten_moved(is_entry);
+            let files = ten_moved_regions(is_entry);
             let options = Options::new().purge_above(1000);
             let engine = Engine::with_files(files, options).unwrap();
             for region in 0..cleaned {
@@ -165,8 +165,8 @@ fn what_was_found_moves_again_where_half_of_it_isnt_needed() {
     }
 }
 
-/// Files whose append queue takes away rewritten records of four regions, of which the rewrite queue wasn't told.
-fn untold_files() -> MemoryFiles {
+/// Returns files whose append queue takes away rewritten records of four regions, while the rewrite queue doesn't have that yet.
+fn files_with_untold_changes() -> MemoryFiles {
     let files = MemoryFiles::new();
     let engine = Engine::with_files(files.clone(), Options::new()).unwrap();
     for region in 1..=5 {
@@ -184,7 +184,7 @@ fn untold_files() -> MemoryFiles {
     files
 }
 
-/// Tests that of these files an engine finds what is left of the five regions.
+/// Opens an engine over these files, tests that it has what is left of the five regions, and returns it.
 fn assert_taken_away(files: &MemoryFiles) -> Engine<MemoryFiles> {
     let engine = Engine::with_files(files.clone(), Options::new()).unwrap();
     let bounds = |region| {
@@ -208,7 +208,7 @@ fn assert_taken_away(files: &MemoryFiles) -> Engine<MemoryFiles> {
 
 #[test]
 fn files_stay_as_they_are_however_often_they_are_opened() {
-    let files = untold_files();
+    let files = files_with_untold_changes();
     let asked = files.asked();
     let bytes = [Queue::Append, Queue::Rewrite].map(|queue| files.files(queue));
     for _ in 0..1000 {

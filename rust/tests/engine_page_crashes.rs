@@ -1,9 +1,10 @@
-//! Histories of an engine, and stops of a machine whose disk writes unsynced pages in any order: of the last file of each queue any of
-//! the pages that weren't synced may be zeros, and it ends anywhere behind what was synced. What is left is opened, or refused by its
-//! place, and compared with maps. Each entry can be read then, or its batch is named, and just the damaged ones are.
+//! Random histories of an engine, with crashes of a machine whose disk writes unsynced pages in any order: in the last file of
+//! each queue any page that wasn't synced may be zeros, and the file ends anywhere behind what was synced. What a crash leaves is
+//! opened, and compared with maps, or refused with the place of the damage. Each entry can be read then, or its batch is named;
+//! and only batches that are damaged are named.
 //!
-//! `HISTORIES=10000 SEED=1 cargo test --release --test engine_page_crashes` runs more of them than by default, from a seed on. A seed
-//! gives the same history each time.
+//! `HISTORIES=10000 SEED=1 cargo test --release --test engine_page_crashes` runs more of them than by default, from a seed
+//! on. A seed gives the same history each time.
 
 mod common;
 
@@ -19,20 +20,21 @@ use std::sync::atomic::{AtomicU64, Ordering::Relaxed};
 /// How many steps a history has.
 const STEPS: usize = 30;
 
-/// The regions with entries are 1 to 3; region 0 has the number of the last batch.
+/// How many regions have entries: 1 to 3. Region 0 has the number of the last batch.
 const REGIONS: usize = 3;
 
 const QUEUES: [Queue; 2] = [Queue::Append, Queue::Rewrite];
 
-/// What there is to be after a batch.
+/// What an engine has to have after a batch.
 #[derive(Clone, Default)]
 struct State {
     regions: [Region; REGIONS],
-    /// Of each entry the number of its batch.
+    /// The number of the batch of each entry, by its index.
     batches: [BTreeMap<u64, usize>; REGIONS],
 }
 
 impl State {
+    /// Applies a change of the region at position `i`, made by the batch with the number `batch`.
     fn apply(&mut self, i: usize, change: &Change, batch: usize) {
         change.apply(&mut self.regions[i]);
         let (region, batches) = (&self.regions[i], &mut self.batches[i]);
@@ -43,7 +45,7 @@ impl State {
     }
 }
 
-/// How large pages, entries and files are.
+/// The sizes of pages, of the longest entries and of files, in bytes.
 #[derive(Clone, Copy)]
 struct Sizes {
     page: usize,
@@ -52,6 +54,7 @@ struct Sizes {
 }
 
 impl Sizes {
+    /// Returns the sizes in the history of a seed.
     fn of(seed: u64) -> Sizes {
         match seed % 4 {
             0 => Sizes {
@@ -73,6 +76,7 @@ impl Sizes {
     }
 }
 
+/// Returns the options of the engine in the history of a seed.
 fn options(seed: u64) -> Options {
     let version = if seed.is_multiple_of(5) {
         Version::V1
@@ -87,17 +91,17 @@ fn options(seed: u64) -> Options {
         .recovery_threads(1)
 }
 
-/// An engine, and what it was told.
+/// A history of an engine.
 struct History {
     seed: u64,
     draw: Draw,
     files: MemoryFiles,
-    /// What there is to be before the first batch and after each one.
+    /// What the engine has to have before the first batch and after each one.
     states: Vec<State>,
 }
 
 impl History {
-    /// Takes the steps of a seed.
+    /// Runs the history of a seed.
     fn new(seed: u64) -> History {
         let files = MemoryFiles::new();
         let engine = Engine::with_files(files.clone(), options(seed)).unwrap();
@@ -113,6 +117,7 @@ impl History {
         history
     }
 
+    /// Takes a random step.
     fn step(&mut self, engine: &Engine<MemoryFiles>) -> Result<()> {
         match self.draw.below(20) {
             0 => engine.rotate(),
@@ -127,6 +132,7 @@ impl History {
         }
     }
 
+    /// Writes a batch of random changes, and notes what the engine has to have after it.
     fn write(&mut self, engine: &Engine<MemoryFiles>) -> Result<()> {
         let number = self.states.len();
         let mut state = self.states[number - 1].clone();
@@ -150,8 +156,8 @@ impl History {
     }
 }
 
-/// The numbers of the batches that stand in an append file.
-fn numbers_in(seq: u64, bytes: &[u8], version: Version) -> Vec<u64> {
+/// Returns the numbers of the batches in an append file, in order.
+fn batch_numbers(seq: u64, bytes: &[u8], version: Version) -> Vec<u64> {
     let file = LogFile::new(Queue::Append, seq, version);
     let batches = Batches::new(FilePart::new(file, bytes)).unwrap();
     let number = |content| match content {
@@ -164,21 +170,21 @@ fn numbers_in(seq: u64, bytes: &[u8], version: Version) -> Vec<u64> {
         .collect()
 }
 
-/// At which ask each batch was written, the first one's first.
-fn written(asks: &[Ask], version: Version) -> Vec<usize> {
+/// Returns for each batch the position of the ask that wrote it, the first batch first.
+fn asks_of_batches(asks: &[Ask], version: Version) -> Vec<usize> {
     let mut places = Vec::new();
     for (at, ask) in asks.iter().enumerate() {
         if let Ask::Write(file, bytes) = ask
             && file.queue == Queue::Append
         {
-            let numbers = numbers_in(file.seq, bytes, version);
+            let numbers = batch_numbers(file.seq, bytes, version);
             places.extend(numbers.iter().map(|_| at));
         }
     }
     places
 }
 
-/// The last file of a queue: its number, what it has, and how many of its bytes are synced.
+/// The last file of a queue before a crash: its id, its bytes, and how many of these are synced.
 #[derive(Clone)]
 struct Last {
     id: FileId,
@@ -186,14 +192,14 @@ struct Last {
     synced: usize,
 }
 
-/// What a stop leaves: the files with all that was written, as it may reach a disk in order, and what this disk has of the last ones.
+/// What a crash leaves: the last file of each queue as it was before, and all files as they are then, the append queue first.
 struct Left {
     lasts: Vec<Last>,
     files: [Vec<(u64, Vec<u8>)>; 2],
 }
 
 impl Left {
-    /// Stops the machine behind so many asks.
+    /// Draws a crash behind the first `asks` asks.
     fn draw(history: &History, asks: usize, draw: &mut Draw) -> Left {
         let most = QUEUES.map(|queue| history.files.unsynced(asks, queue));
         let drawn = most.map(|most| Unsynced {
@@ -229,6 +235,7 @@ impl Left {
         left
     }
 
+    /// Opens an engine over what is left. Returns the files, and the result of the opening.
     fn open(&self, seed: u64) -> (MemoryFiles, Result<Engine<MemoryFiles>>) {
         let [append, rewrite] = self.files.clone();
         let files = MemoryFiles::found(append, rewrite);
@@ -236,7 +243,8 @@ impl Left {
         (files, engine)
     }
 
-    /// The number of the last batch in append files, if there is one, in front of which no header and no items of a batch are lost.
+    /// Returns the number of the last batch in the append files up to which no header and no items of a batch are lost; `None`
+    /// where there is none.
     fn last_whole(&self, version: Version) -> Option<u64> {
         let mut files = self.files[0].clone();
         let last = self.lasts.iter().find(|it| it.id.queue == Queue::Append);
@@ -246,11 +254,11 @@ impl Left {
         }
         let numbers = files
             .iter()
-            .flat_map(|(seq, bytes)| numbers_in(*seq, bytes, version));
+            .flat_map(|(seq, bytes)| batch_numbers(*seq, bytes, version));
         numbers.last()
     }
 
-    /// Tests that an opening names just those batches of the last append file whose entries aren't as they were written.
+    /// Tests that an opening has named just those batches of the last append file whose entries aren't as they were written.
     fn assert_damaged(&self, engine: &Engine<MemoryFiles>) {
         let last = self.lasts.iter().find(|it| it.id.queue == Queue::Append);
         let expected = last.map_or(Vec::new(), |last| {
@@ -258,10 +266,10 @@ impl Left {
             let damaged = damaged_blocks(&last.bytes, left).into_iter();
             damaged.map(|at| (last.id, at)).collect()
         });
-        assert_eq!(named(engine), expected);
+        assert_eq!(named_places(engine), expected);
     }
 
-    /// Tests that a refusal names the first place of a last file that isn't as it was written.
+    /// Tests that the error of an opening names the first place of a last file that isn't as it was written.
     fn assert_named(&self, e: &Error) {
         assert_eq!(e.kind, ErrorKind::Corruption, "{e}");
         let (file, offset) = (e.file.unwrap(), e.offset.unwrap() as usize);
@@ -274,7 +282,7 @@ impl Left {
     }
 }
 
-/// Has pages behind the synced bytes of a file be zeros, and the file end anywhere behind those.
+/// Fills random pages behind the first `synced` bytes of a file with zeros, and cuts the file anywhere behind these bytes.
 fn lose_pages(bytes: &mut Vec<u8>, synced: usize, page: usize, draw: &mut Draw) {
     let (first, last) = (synced / page, bytes.len() / page);
     let only = draw
@@ -292,24 +300,26 @@ fn lose_pages(bytes: &mut Vec<u8>, synced: usize, page: usize, draw: &mut Draw) 
     }
 }
 
-/// Where the first batch begins of which the header or the items aren't as they were written, or of whose bytes a part is gone; and
-/// the first one whose entries aren't.
+/// Returns where the first batch begins whose header or items aren't as they were written, or that isn't there as a whole; and
+/// where the first one begins whose entries aren't as they were written.
 fn broken_places(written: &[u8], left: &[u8]) -> [Option<usize>; 2] {
-    let (batch, blocks) = broken(written, left);
+    let (batch, blocks) = broken_batches(written, left);
     [batch, blocks.first().copied()]
 }
 
-/// Where the batches begin whose entries aren't as they were written, in front of the first one of which more isn't.
+/// Returns where the batches begin whose entries aren't as they were written, before the first batch of which more than its
+/// entries isn't.
 fn damaged_blocks(written: &[u8], left: &[u8]) -> Vec<usize> {
-    let (batch, mut blocks) = broken(written, left);
+    let (batch, mut blocks) = broken_batches(written, left);
     blocks.retain(|at| batch.is_none_or(|batch| *at < batch));
     blocks
 }
 
-/// Where the first batch begins of which the header or the items aren't as they were written, or of whose bytes a part is gone; and
-/// all whose entries aren't, up to the first one that isn't whole: they stand between the 16 bytes of a header, the first seven of
-/// which are the length of the batch, and the items, the offset of which the last eight are.
-fn broken(written: &[u8], left: &[u8]) -> (Option<usize>, Vec<usize>) {
+/// Returns where the first batch begins whose header or items aren't as they were written, or that isn't there as a whole; and
+/// where all batches begin whose entries aren't as they were written, up to the first batch that isn't there as a whole. The
+/// entries of a batch stand between the 16 bytes of its header and its items. The first seven bytes of the header are the length
+/// of the batch, the last eight the offset of its items.
+fn broken_batches(written: &[u8], left: &[u8]) -> (Option<usize>, Vec<usize>) {
     let (mut batch, mut blocks, mut at) = (None, Vec::new(), 0);
     let is_same = |from: usize, to: usize| left.get(from..to) == Some(&written[from..to]);
     while at + 16 <= written.len() {
@@ -333,8 +343,9 @@ fn broken(written: &[u8], left: &[u8]) -> (Option<usize>, Vec<usize>) {
     (batch.or((at < written.len()).then_some(at)), blocks)
 }
 
-/// The batches that an opening has named: the file of each, and where it begins. Each is refused by that place.
-fn named(engine: &Engine<MemoryFiles>) -> Vec<(FileId, usize)> {
+/// Returns the batches that an opening has named: the file of each, and where it begins. Tests that the error of each has this
+/// place.
+fn named_places(engine: &Engine<MemoryFiles>) -> Vec<(FileId, usize)> {
     let damaged = engine.recovered().damaged.iter();
     let places = damaged.map(|batch| {
         let e = &batch.reason;
@@ -344,10 +355,10 @@ fn named(engine: &Engine<MemoryFiles>) -> Vec<(FileId, usize)> {
     places.collect()
 }
 
-/// Tests that an engine has the records of a state. Entries that can't be read were in batches behind a number; their batches are
-/// named. Returns which ones those are.
-fn check(engine: &Engine<MemoryFiles>, state: &State, synced: usize) -> Vec<(u64, u64)> {
-    let (mut unread, named) = (Vec::new(), named(engine));
+/// Tests that an engine has the records of a state. Entries that can't be read were in batches with numbers above `synced`, which
+/// the opening has named. Returns these entries, as region and index.
+fn check_records(engine: &Engine<MemoryFiles>, state: &State, synced: usize) -> Vec<(u64, u64)> {
+    let (mut unread, named) = (Vec::new(), named_places(engine));
     for (i, region) in state.regions.iter().enumerate() {
         let id = 1 + i as u64;
         let ends = [region.entries.keys().next(), region.entries.keys().last()];
@@ -373,7 +384,7 @@ fn check(engine: &Engine<MemoryFiles>, state: &State, synced: usize) -> Vec<(u64
     unread
 }
 
-/// What came of stops.
+/// How many openings after a crash succeeded and were refused, and in how many of them an entry couldn't be read.
 #[derive(Default)]
 struct Counts {
     opened: AtomicU64,
@@ -381,10 +392,10 @@ struct Counts {
     unread: AtomicU64,
 }
 
-/// Stops the machine in a history, and opens what is left.
+/// Crashes the machine four times behind each ask of a history, and opens and tests what is left.
 fn stop_everywhere(history: &History, counts: &Counts) {
     let asks = history.files.asks();
-    let places = written(&asks, options(history.seed).version);
+    let places = asks_of_batches(&asks, options(history.seed).version);
     assert_eq!(places.len() + 1, history.states.len());
     let mut draw = Draw::new(!history.seed);
     for asked in 0..=asks.len() {
@@ -416,7 +427,7 @@ fn stop_everywhere(history: &History, counts: &Counts) {
             }
             left.assert_damaged(&engine);
             let state = &history.states[count as usize];
-            let unread = check(&engine, state, synced);
+            let unread = check_records(&engine, state, synced);
             counts.opened.fetch_add(1, Relaxed);
             counts.unread.fetch_add(!unread.is_empty() as u64, Relaxed);
             if draw.once_in(4) {
@@ -426,7 +437,8 @@ fn stop_everywhere(history: &History, counts: &Counts) {
     }
 }
 
-/// Has records move and files go, opens what is there then, and finds the same records: what could be read can be read.
+/// Moves records and deletes files in an engine that was opened after a crash, opens its files again, and tests that they have
+/// the same records, and that what could be read still can.
 fn go_on(
     history: &History,
     engine: Engine<MemoryFiles>,
@@ -450,7 +462,7 @@ fn go_on(
         0
     };
     let assert_readable = |engine: &Engine<MemoryFiles>| {
-        let found = check(engine, state, readable);
+        let found = check_records(engine, state, readable);
         assert!(found.iter().all(|entry| unread.contains(entry)));
     };
     assert_readable(&engine);

@@ -1,4 +1,4 @@
-//! An engine that several threads use at the same time.
+//! Tests an engine that several threads use at the same time.
 
 mod common;
 
@@ -9,14 +9,14 @@ use std::sync::{Arc, Condvar, Mutex};
 use std::time::{Duration, Instant};
 use std::{io, thread};
 
-/// A gate at which calls wait while it is closed, and which knows how many came to it.
+/// A gate at which calls wait while it is closed. It counts the calls that came to it.
 #[derive(Default)]
 struct Gate {
     state: Mutex<(bool, usize)>,
     changed: Condvar,
 }
 
-/// Opens a gate where it is dropped, also where a test fails.
+/// A gate that is closed until this is dropped, also where a test fails.
 struct Closed<'a>(&'a Gate);
 
 impl Drop for Closed<'_> {
@@ -27,17 +27,18 @@ impl Drop for Closed<'_> {
 }
 
 impl Gate {
+    /// Closes the gate, until the returned value is dropped.
     fn close(&self) -> Closed<'_> {
         self.state.lock().unwrap().0 = true;
         Closed(self)
     }
 
-    /// Comes to the gate, and passes it once it is open.
+    /// Comes to the gate, and waits until it is open.
     fn pass(&self) {
         self.has_waited();
     }
 
-    /// Comes to the gate, passes it once it is open, and tells whether it was closed.
+    /// Comes to the gate, waits until it is open, and returns whether it was closed.
     fn has_waited(&self) -> bool {
         let mut state = self.state.lock().unwrap();
         let was_closed = state.0;
@@ -51,7 +52,7 @@ impl Gate {
         was_closed
     }
 
-    /// Comes to the open gate, and tells whether it is the first to come.
+    /// Comes to the open gate, and returns whether it is the first call to come.
     fn is_new(&self) -> bool {
         let mut state = self.state.lock().unwrap();
         state.1 += 1;
@@ -59,7 +60,7 @@ impl Gate {
         state.1 == 1
     }
 
-    /// Waits until this many calls came to the gate, which they do soon.
+    /// Waits until `count` calls have come to the gate, which they are to do soon.
     fn wait_for(&self, count: usize) {
         let state = self.state.lock().unwrap();
         let long = Duration::from_secs(60);
@@ -72,7 +73,7 @@ impl Gate {
     }
 }
 
-/// A batch with one entry.
+/// Makes a batch with one entry.
 fn batch(region: u64, index: u64) -> LogBatch {
     let mut batch = LogBatch::new().unwrap();
     batch
@@ -148,8 +149,9 @@ fn nobody_goes_on_before_the_sync_and_all_who_wait_go_on_after_one() {
     assert!((1..4).contains(&syncs), "{syncs}");
 }
 
-/// How many syncs four batches take that are handed in while a new file is begun, one of them before the others.
-fn syncs_of_four() -> u64 {
+/// Returns how many syncs it takes to write four batches with a sync each, which are handed in while a new file is begun, one of
+/// them before the others.
+fn count_syncs_of_four() -> u64 {
     let gate = Gate::default();
     let hooked = Hooked::new(&MemoryFiles::new(), |call: Call<'_>| {
         if matches!(call, Call::Rotate(_)) {
@@ -171,18 +173,18 @@ fn syncs_of_four() -> u64 {
         drop(closed);
     });
     assert_eq!(engine.stats().batches, 4);
-    engine.stats().syncs - before - 1 // without that in front of the new file
+    engine.stats().syncs - before - 1 // without the one before the new file
 }
 
 #[test]
 fn who_comes_while_the_leader_waits_for_a_turn_is_in_its_group() {
     // where a thread comes late it has a group of its own
-    assert!((0..10).any(|_| syncs_of_four() == 1));
+    assert!((0..10).any(|_| count_syncs_of_four() == 1));
 }
 
-/// How many of seven threads that want no sync go on before that of an eighth one. All of them hand in their batches while another
-/// one syncs.
-fn going_on_before_a_sync() -> usize {
+/// Returns how many of seven threads that want no sync go on before that of an eighth one is over. All of them hand in their
+/// batches while another sync is made.
+fn count_going_on_before_sync() -> usize {
     let (gates, is_first_over) = ([Gate::default(), Gate::default()], AtomicBool::new(false));
     let hooked = Hooked::new(&MemoryFiles::new(), |call: Call<'_>| {
         match call {
@@ -223,16 +225,17 @@ fn going_on_before_a_sync() -> usize {
 #[test]
 fn who_wants_no_sync_goes_on_before_it() {
     // a thread that comes late waits for the sync that is under way
-    assert!((0..10).any(|_| going_on_before_a_sync() == 7));
+    assert!((0..10).any(|_| count_going_on_before_sync() == 7));
 }
 
-/// What `Engine::write` takes and returns.
+/// A call that writes a batch, with or without a sync, as [`Engine::write`] does.
 type Write<'a> = &'a dyn Fn(&mut LogBatch, bool) -> Result<()>;
 
-/// Hands in a batch, and behind it one of another thread that wants a sync, while a third thread begins a file, so that the first
-/// one writes both. It is over before that sync, whose result only the other thread is told. Returns whether the two came in this
-/// order, and the first one was told what it should be.
-fn hands_the_sync_on(fails: bool, write: impl FnOnce(Write<'_>) -> bool + Send) -> bool {
+/// Has a first thread call `write`, which hands in a batch, and a second one hand in a batch with a sync, while a third one
+/// begins a file, so that the first thread writes both batches. Tests that the second thread makes the sync, and alone gets its
+/// result; `fails` says whether the sync fails. Returns false where the first thread wasn't done before that sync, else what
+/// `write` returned.
+fn is_sync_handed_on(fails: bool, write: impl FnOnce(Write<'_>) -> bool + Send) -> bool {
     let [rotating, syncing] = [Gate::default(), Gate::default()];
     let hooked = Hooked::new(&MemoryFiles::new(), |call: Call<'_>| match call {
         Call::Rotate(_) => {
@@ -278,7 +281,7 @@ fn hands_the_sync_on(fails: bool, write: impl FnOnce(Write<'_>) -> bool + Send) 
 #[test]
 fn who_writes_for_others_makes_no_sync_that_it_doesnt_want() {
     for fails in [false, true] {
-        let goes_on = || hands_the_sync_on(fails, |write| write(&mut batch(7, 1), false).is_ok());
+        let goes_on = || is_sync_handed_on(fails, |write| write(&mut batch(7, 1), false).is_ok());
         // a thread that comes late waits for the other one's sync
         assert!((0..10).any(|_| goes_on()));
     }
@@ -288,7 +291,7 @@ fn who_writes_for_others_makes_no_sync_that_it_doesnt_want() {
 fn whose_batch_is_refused_makes_no_sync_for_others() {
     for fails in [false, true] {
         let goes_on = || {
-            hands_the_sync_on(fails, |write| {
+            is_sync_handed_on(fails, |write| {
                 let mut hole = batch(7, 1);
                 hole.add_entries(7, 5, &["behind a hole"]).unwrap();
                 write(&mut hole, true).unwrap_err().item == Some(1)
@@ -322,8 +325,8 @@ fn reading_waits_for_no_sync() {
     });
 }
 
-/// Files whose writes wait at one gate and whose syncs at another one.
-fn gated(
+/// Opens an engine over files whose writes wait at one gate, and whose syncs wait at another.
+fn gated_engine(
     writes: &Gate,
     syncs: &Gate,
 ) -> Engine<Hooked<impl Fn(Call<'_>) -> io::Result<()> + Send + Sync>> {
@@ -341,7 +344,7 @@ fn gated(
 #[test]
 fn the_newest_entry_is_read_while_its_bytes_are_on_their_way() {
     let [writes, syncs] = [Gate::default(), Gate::default()];
-    let engine = gated(&writes, &syncs);
+    let engine = gated_engine(&writes, &syncs);
     let read = |newest: u64| {
         let text = newest.to_string().into_bytes();
         assert_eq!(engine.entry(7, newest).unwrap(), Some(text));
@@ -385,7 +388,7 @@ fn what_is_written_is_read_from_its_file() {
 #[test]
 fn an_entry_is_read_while_its_bytes_move() {
     let [writes, syncs] = [Gate::default(), Gate::default()];
-    let engine = gated(&writes, &syncs);
+    let engine = gated_engine(&writes, &syncs);
     for index in 1..=3 {
         engine.write(&mut batch(7, index), false).unwrap();
     }

@@ -1,4 +1,4 @@
-//! Each program of examples/ runs and says what it is to say. `ten_lines` is killed in a test of its own.
+//! Tests that each program of examples/ runs, and prints what it should. `ten_lines` has a test of its own, which kills it.
 
 mod common;
 
@@ -8,7 +8,7 @@ use std::path::{Path, PathBuf};
 use std::process::Command;
 use std::{env, fs};
 
-/// The programs that this file runs, and those of `killed.rs`.
+/// The programs that are tested here and in `killed.rs`.
 const PROGRAMS: [&str; 7] = [
     "look",
     "phases",
@@ -19,8 +19,8 @@ const PROGRAMS: [&str; 7] = [
     "write",
 ];
 
-/// A program, which `cargo test` builds beside the tests.
-fn program(name: &str) -> PathBuf {
+/// Returns the path of a program, which `cargo test` builds beside the tests.
+fn program_path(name: &str) -> PathBuf {
     let tests = env::current_exe().unwrap();
     let path = tests
         .ancestors()
@@ -36,9 +36,12 @@ fn program(name: &str) -> PathBuf {
     path
 }
 
-/// Runs a program, and returns the lines that it says.
-fn said(name: &str, words: &[&Path]) -> Vec<String> {
-    let output = Command::new(program(name)).args(words).output().unwrap();
+/// Runs a program with these arguments, and returns the lines that it prints.
+fn output_lines(name: &str, words: &[&Path]) -> Vec<String> {
+    let output = Command::new(program_path(name))
+        .args(words)
+        .output()
+        .unwrap();
     let error = String::from_utf8_lossy(&output.stderr);
     assert!(output.status.success(), "{name}: {error}");
     let said = String::from_utf8(output.stdout).unwrap();
@@ -60,11 +63,11 @@ fn the_log_store_appends_an_entry_each_time() {
     let room = TempFolder::new();
     for index in 1..=3 {
         assert_eq!(
-            said("raft_storage", &[room.path()]),
+            output_lines("raft_storage", &[room.path()]),
             [format!("entry {index}")]
         );
     }
-    let look = said("look", &[room.path()]);
+    let look = output_lines("look", &[room.path()]);
     assert!(
         look.contains(&"region 1: entries 1 to 3, 0 keys".to_owned()),
         "{look:?}"
@@ -76,26 +79,26 @@ fn the_log_store_appends_an_entry_each_time() {
     let mut bytes = fs::read(&torn).unwrap();
     bytes.extend(b"torn");
     fs::write(&torn, &bytes).unwrap();
-    let look = said("look", &[room.path()]);
+    let look = output_lines("look", &[room.path()]);
     assert!(
         look[0].starts_with("left out: append file 1, offset "),
         "{look:?}"
     );
     assert_eq!(fs::read(&torn).unwrap(), bytes);
-    assert_eq!(said("raft_storage", &[room.path()]), ["entry 4"]);
+    assert_eq!(output_lines("raft_storage", &[room.path()]), ["entry 4"]);
 }
 
 #[test]
 fn files_are_recovered() {
     let expected: Vec<_> = lines().lines().map(str::to_owned).collect();
-    assert_eq!(said("recover", &[&top().join("demo")]), expected);
+    assert_eq!(output_lines("recover", &[&top().join("demo")]), expected);
 }
 
 #[test]
 fn four_threads_write_a_file_and_it_is_recovered() {
     let room = TempFolder::new();
     let path = room.path().join("file");
-    let said = said("write", &[&path]);
+    let said = output_lines("write", &[&path]);
     let (torn, recovered) = said.split_first().unwrap();
     let len = fs::metadata(path).unwrap().len();
     assert!(torn.contains(&format!(" of {} bytes: ", len - 1)), "{torn}");
@@ -110,7 +113,7 @@ fn four_threads_write_a_file_and_it_is_recovered() {
 fn the_times_of_an_engine_are_told() {
     let room = TempFolder::new();
     let folder = room.path().join("new");
-    let said = said("speed", &[&folder, Path::new("1"), Path::new("1")]);
+    let said = output_lines("speed", &[&folder, Path::new("1"), Path::new("1")]);
     let written = said
         .iter()
         .filter(|line| line.contains(" batches a second"));
@@ -128,7 +131,7 @@ fn the_times_of_an_engine_are_told() {
 
 #[test]
 fn each_phase_of_an_engine_is_told() {
-    let said = said("phases", &[Path::new("1")]);
+    let said = output_lines("phases", &[Path::new("1")]);
     let phases: Vec<Vec<_>> = said.iter().map(|line| line.split('\t').collect()).collect();
     let numbers = phases.iter().map(|phase| [phase[1], phase[3]]);
     assert!(
@@ -144,7 +147,7 @@ fn each_phase_of_an_engine_is_told() {
 #[test]
 fn a_program_without_its_words_says_what_it_takes() {
     for name in ["look", "raft_storage", "recover", "speed", "ten_lines"] {
-        let output = Command::new(program(name)).output().unwrap();
+        let output = Command::new(program_path(name)).output().unwrap();
         let error = String::from_utf8_lossy(&output.stderr);
         assert!(
             !output.status.success() && error.contains(&format!("{name} <folder>")),

@@ -1,4 +1,4 @@
-//! The files of an engine in a folder.
+//! Tests the files of an engine in a folder.
 
 mod common;
 
@@ -19,7 +19,7 @@ const FIRST: FileId = FileId::new(Queue::Append, 1);
 const SECOND: FileId = FileId::new(Queue::Append, 2);
 const REWRITTEN: FileId = FileId::new(Queue::Rewrite, 1);
 
-/// The names in a folder, in order.
+/// Returns the names in a folder, in order.
 fn names(folder: &TempFolder) -> Vec<String> {
     let entries = fs::read_dir(folder.path()).unwrap();
     let mut names: Vec<_> = entries
@@ -29,7 +29,7 @@ fn names(folder: &TempFolder) -> Vec<String> {
     names
 }
 
-/// Bytes of a file.
+/// Reads `len` bytes of a file from `offset` on.
 fn read(files: &FolderFiles, file: FileId, offset: u64, len: usize) -> io::Result<Vec<u8>> {
     let mut bytes = vec![0; len];
     files.read(file, offset, &mut bytes)?;
@@ -291,7 +291,7 @@ fn after_a_change_that_failed_none_is_made_and_files_can_be_read() {
     }
 }
 
-/// Counts the files of a folder that are open and have no name any more.
+/// Returns how many files of a folder are open in this process after their names were deleted.
 #[cfg(target_os = "linux")]
 fn count_open_without_name(folder: &TempFolder) -> usize {
     let folder = fs::canonicalize(folder.path()).unwrap();

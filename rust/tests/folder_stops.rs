@@ -1,5 +1,5 @@
-//! What a run of an engine over a folder asks of the system, by `strace`, and each folder that a stop of the machine may leave of
-//! it. Without `strace` nothing is tested here.
+//! Records by `strace` what a run of an engine over a folder asks of the system, and opens each folder that a crash of the
+//! machine may leave of it. Without `strace` nothing is tested.
 
 mod common;
 
@@ -13,13 +13,14 @@ use std::path::Path;
 use std::process::{Command, Stdio};
 use std::{env, fs};
 
-/// The variable that names the folder of a run.
+/// The environment variable that names the folder of a run.
 const FOLDER: &str = "RAFT_RECOVER_FOLDER";
 
-/// The calls of the system on files and names.
+/// The system calls that are recorded: those on files and names.
 const CALLS: &str = "openat,flock,mkdir,write,fsync,fdatasync,ftruncate,unlink";
 
-/// The batches of a run: what each of them puts into region 7. The last one of each third takes away what moved before.
+/// Fills the batch of a run that has this number: what it puts into region 7. Each eighth batch compacts entries, some of which
+/// have moved before.
 fn fill(number: u64, batch: &mut LogBatch) {
     if number.is_multiple_of(8) {
         batch.compact(7, number - 3).unwrap();
@@ -28,7 +29,7 @@ fn fill(number: u64, batch: &mut LogBatch) {
     batch.put(7, b"a", &number.to_le_bytes()).unwrap();
 }
 
-/// What region 7 has after so many batches.
+/// Returns what region 7 has after the first `count` batches.
 fn expected(count: u64) -> Region {
     let first = if count < 8 { 1 } else { count / 8 * 8 - 3 };
     let entries = (first..=count).map(|number| (number, number.to_string().into_bytes()));
@@ -39,7 +40,8 @@ fn expected(count: u64) -> Region {
     }
 }
 
-/// Opens the folder of a run, writes, begins and deletes files, and says what lasts. It is started by the other test.
+/// Opens the folder of a run three times, writes, begins and deletes files, and prints which batches are synced. The other test
+/// starts it.
 #[test]
 #[ignore = "the other test starts it"]
 fn run() {
@@ -83,13 +85,14 @@ fn run() {
     }
 }
 
-/// A file: its bytes on the disk, and what was done to it since.
+/// A file: its bytes on the disk, and the changes that aren't synced.
 #[derive(Clone, Default)]
 struct File {
     synced: Vec<u8>,
     since: Vec<Change>,
 }
 
+/// A change of a file: bytes that were appended, or the length to which it was cut.
 #[derive(Clone)]
 enum Change {
     Bytes(Vec<u8>),
@@ -97,7 +100,7 @@ enum Change {
 }
 
 impl File {
-    /// All bytes that a stop may leave.
+    /// Returns all contents that a crash may leave of the file, oldest first.
     fn versions(&self) -> Vec<Vec<u8>> {
         let mut bytes = self.synced.clone();
         let mut versions = vec![bytes.clone()];
@@ -118,34 +121,40 @@ impl File {
         versions
     }
 
+    /// Puts all changes on the disk.
     fn sync(&mut self) {
         self.synced = self.versions().pop().unwrap();
         self.since.clear();
     }
 }
 
-/// A folder: the files that it has, by numbers of their own, under the names on the disk, and the names made and deleted since.
+/// A folder as the system has it, and as the disk has it.
 #[derive(Default)]
 struct Disk {
+    /// All files that there ever were. Elsewhere a file is its position here.
     files: Vec<File>,
+    /// The names of the files as the system has them.
     now: BTreeMap<String, usize>,
+    /// The names of the files that are synced.
     names: BTreeMap<String, usize>,
+    /// The names that were made or deleted (`None`) since then, in order.
     since: Vec<(String, Option<usize>)>,
-    /// Whether it was opened, and the names that were found aren't synced.
+    /// Whether the folder was opened, and the names that were found aren't synced yet.
     is_found: bool,
-    /// How many of its two locks were taken since it was opened.
+    /// How many of the two locks were taken since the folder was opened.
     locks: usize,
     /// How many files were cut.
     cuts: usize,
 }
 
-/// The names and bytes of files that a stop leaves.
+/// The files that a crash leaves, by their names.
 type Left = BTreeMap<String, Vec<u8>>;
 
 impl Disk {
-    /// What a stop may leave: each version of one file, with the first and with the last version of the others.
-    fn lefts(&self) -> BTreeSet<Left> {
-        let mut lefts = BTreeSet::new();
+    /// Returns the folders that a crash may leave: behind each change of a name, each version of one file with the first and with
+    /// the last version of all others.
+    fn folders_after_crash(&self) -> BTreeSet<Left> {
+        let mut folders_after_crash = BTreeSet::new();
         for count in 0..=self.since.len() {
             let mut names = self.names.clone();
             for (name, file) in &self.since[..count] {
@@ -175,20 +184,20 @@ impl Disk {
                     for version in versions {
                         let mut left = ends.clone();
                         left.insert(name.to_string(), version.clone());
-                        lefts.insert(left);
+                        folders_after_crash.insert(left);
                     }
                 }
-                lefts.insert(ends);
+                folders_after_crash.insert(ends);
             }
         }
-        lefts
+        folders_after_crash
     }
 
-    /// Takes in a call of the system on a name in the folder, and tells whether it changes what a stop may leave. Names of log
-    /// files that were found, made or deleted are synced before anything else, and so is a file that was cut. What is cut is on the
-    /// disk before, in a file of its own. The locks are taken before anything else is read or made, and no file is synced that
-    /// has no new bytes.
-    fn take(&mut self, call: &Call) -> bool {
+    /// Applies a system call on a name in the folder, and returns whether it changes what a crash may leave. It tests that names
+    /// of log files which were found, made or deleted are synced before anything else is done, and so is a file that was cut;
+    /// that what is cut off is on the disk before, in a file of its own; that the locks are taken before anything else is read or
+    /// made; and that no file is synced that has no new bytes.
+    fn apply_call(&mut self, call: &Call) -> bool {
         let name = call.name.clone();
         let file = self.now.get(&name).copied();
         let is_change = matches!(call.what.as_str(), "write" | "ftruncate" | "unlink");
@@ -247,15 +256,19 @@ impl Disk {
     }
 }
 
-/// A call of the system: the name in the folder, the bytes that it writes, and all its words.
+/// A system call.
 struct Call {
+    /// Which call it is, such as `write`.
     what: String,
+    /// The name in the folder that it is about; empty for the folder itself.
     name: String,
+    /// The bytes that it writes, if it writes some.
     bytes: Vec<u8>,
+    /// All its arguments, as `strace` shows them.
     rest: String,
 }
 
-/// The strings of a line of `strace`, which come as `\x61\x62`.
+/// Returns the strings in a line of `strace`, which shows them as `\x61\x62`.
 fn strings(line: &str) -> Vec<Vec<u8>> {
     let quoted = line
         .split(['"', '<', '>'])
@@ -270,8 +283,9 @@ fn strings(line: &str) -> Vec<Vec<u8>> {
         .collect()
 }
 
-/// Reads a line: a call on the folder, or what the run says lasts.
-fn read(line: &str, folder: &Path) -> Option<Result<Call, u64>> {
+/// Reads a line of `strace`: a call on the folder; as an `Err` the number up to which the run has printed that batches are
+/// synced; or `None` for any other call, or one that failed.
+fn read_line(line: &str, folder: &Path) -> Option<Result<Call, u64>> {
     let (_, line) = line.split_once(' ')?;
     let (what, words) = line.trim_start().split_once('(')?;
     let (rest, result) = words.rsplit_once(") ")?;
@@ -299,8 +313,9 @@ fn read(line: &str, folder: &Path) -> Option<Result<Call, u64>> {
     }))
 }
 
-/// The lines that `strace` writes of a run in a folder, if there is `strace`, and it may.
-fn traced(room: &TempFolder, folder: &Path) -> Option<String> {
+/// Runs the run in a folder under `strace`, and returns the lines that this writes; `None` where there is no `strace`, or it
+/// isn't allowed.
+fn trace_run(room: &TempFolder, folder: &Path) -> Option<String> {
     let log = room.path().join("calls");
     let status = Command::new("strace")
         .args(["-f", "-y", "-xx", "-s", "1000000", "-o"])
@@ -316,7 +331,7 @@ fn traced(room: &TempFolder, folder: &Path) -> Option<String> {
     status.success().then(|| fs::read_to_string(log).unwrap())
 }
 
-/// Which line has a call on this path.
+/// Returns the position of the first line with a call `what` on a path.
 fn line_of(log: &str, what: &str, path: &Path) -> Option<usize> {
     let path = path.to_str().unwrap().as_bytes();
     let is_it = |line: &str| line.contains(what) && strings(line).iter().any(|text| text == path);
@@ -327,7 +342,7 @@ fn line_of(log: &str, what: &str, path: &Path) -> Option<usize> {
 fn each_folder_that_a_stop_may_leave_has_what_was_synced() {
     let room = TempFolder::new();
     let folder = room.path().join("run");
-    let Some(log) = traced(&room, &folder) else {
+    let Some(log) = trace_run(&room, &folder) else {
         return println!("there is no strace: nothing was tested");
     };
     // the name of the folder itself is on the disk before anything lasts
@@ -337,17 +352,17 @@ fn each_folder_that_a_stop_may_leave_has_what_was_synced() {
     );
     let lasts = log
         .lines()
-        .position(|line| matches!(read(line, &folder), Some(Err(_))));
+        .position(|line| matches!(read_line(line, &folder), Some(Err(_))));
     assert!(made.is_some() && made < synced && synced < lasts);
     let (mut disk, mut certain, mut stops, mut opened) = (Disk::default(), 0, 0, 0);
     let mut tried = BTreeSet::new();
     for line in log.lines() {
-        match read(line, &folder) {
-            Some(Ok(call)) if disk.take(&call) => stops += 1,
+        match read_line(line, &folder) {
+            Some(Ok(call)) if disk.apply_call(&call) => stops += 1,
             Some(Err(lasts)) => certain = lasts,
             _ => continue,
         }
-        for left in disk.lefts() {
+        for left in disk.folders_after_crash() {
             if !tried.insert((certain, left.clone())) {
                 continue;
             }

@@ -1,5 +1,5 @@
-//! Which files of a folder are synced when, and what a sync that fails leaves. The functions of C behind `File::sync_all` and
-//! `File::sync_data` are here this program's own.
+//! Tests which files of a folder are synced when, and what holds after a sync that failed. The C functions behind
+//! `File::sync_all` and `File::sync_data` are replaced by ones of this program.
 
 mod common;
 
@@ -15,24 +15,27 @@ const SECOND: FileId = FileId::new(Queue::Append, 2);
 const REWRITTEN: FileId = FileId::new(Queue::Rewrite, 1);
 
 thread_local! {
-    /// The names of what this thread has synced.
+    /// The names of the files and folders that this thread has synced.
     static SYNCED: RefCell<Vec<String>> = const { RefCell::new(Vec::new()) };
-    /// How many syncs of this thread end well before one fails.
+    /// How many syncs of this thread succeed before one fails.
     static GOOD: Cell<usize> = const { Cell::new(usize::MAX) };
 }
 
+/// Notes the sync of a file, in place of the call of the system.
 #[unsafe(no_mangle)]
 extern "C" fn fsync(file: c_int) -> c_int {
-    sync(file)
+    note_sync(file)
 }
 
+/// Notes the sync of a file, in place of the call of the system.
 #[unsafe(no_mangle)]
 extern "C" fn fdatasync(file: c_int) -> c_int {
-    sync(file)
+    note_sync(file)
 }
 
-/// Notes a sync, and fails where that is its turn, once: the system may have dropped bytes, and says so of one sync alone.
-fn sync(file: c_int) -> c_int {
+/// Notes the name of what is synced. It fails once, when it is that sync's turn; the next one succeeds again, as systems do that
+/// report dropped bytes only once.
+fn note_sync(file: c_int) -> c_int {
     let path = fs::read_link(format!("/proc/self/fd/{file}")).unwrap();
     let name = path.file_name().unwrap().to_string_lossy();
     SYNCED.with_borrow_mut(|synced| synced.push(name.into_owned()));
@@ -41,13 +44,13 @@ fn sync(file: c_int) -> c_int {
     if good == 0 { -1 } else { 0 }
 }
 
-/// The names of what was synced since this was asked before.
-fn synced() -> Vec<String> {
+/// Returns the names of what was synced since the last call of this.
+fn take_synced() -> Vec<String> {
     SYNCED.with_borrow_mut(mem::take)
 }
 
-/// The name of a folder or file.
-fn name(path: &Path) -> String {
+/// Returns the last name in a path.
+fn last_name(path: &Path) -> String {
     path.file_name().unwrap().to_str().unwrap().to_owned()
 }
 
@@ -56,8 +59,8 @@ fn a_file_without_new_bytes_isnt_synced_again() {
     let room = TempFolder::new();
     let path = room.path().join("folder");
     let files = FolderFiles::open(&path).unwrap();
-    assert_eq!(synced(), ["folder".to_owned(), name(room.path())]);
-    let [first, second] = [FIRST, SECOND].map(|file| name(&files.path_of(file)));
+    assert_eq!(take_synced(), ["folder".to_owned(), last_name(room.path())]);
+    let [first, second] = [FIRST, SECOND].map(|file| last_name(&files.path_of(file)));
     let kept = format!("{second}.7.cut");
     type Step<'a> = (&'a str, &'a dyn Fn() -> io::Result<()>, &'a [&'a str]);
     let steps: [Step<'_>; 18] = [
@@ -86,13 +89,16 @@ fn a_file_without_new_bytes_isnt_synced_again() {
     ];
     for (at, (what, step, expected)) in steps.iter().enumerate() {
         step().unwrap();
-        assert_eq!(synced(), *expected, "{at}: {what}");
+        assert_eq!(take_synced(), *expected, "{at}: {what}");
     }
     files.write(SECOND, b"not synced").unwrap();
     drop(files);
     FolderFiles::open(&path).unwrap();
-    let mut again = synced();
-    assert_eq!(again.split_off(2), ["folder".to_owned(), name(room.path())]);
+    let mut again = take_synced();
+    assert_eq!(
+        again.split_off(2),
+        ["folder".to_owned(), last_name(room.path())]
+    );
     again.sort();
     assert_eq!(again, ["0000000000000001.rewrite".to_owned(), second]);
 }
@@ -103,29 +109,29 @@ fn bytes_of_a_deleted_file_are_synced_no_more() {
     let files = FolderFiles::open(room.path()).unwrap();
     files.rotate(FIRST).unwrap();
     files.write(FIRST, b"bytes").unwrap();
-    synced();
+    take_synced();
     files.delete(FIRST).unwrap();
     files.sync(Queue::Append).unwrap();
     files.rotate(SECOND).unwrap();
-    let folder = name(room.path());
-    assert_eq!(synced(), [folder.clone(), folder]);
+    let folder = last_name(room.path());
+    assert_eq!(take_synced(), [folder.clone(), folder]);
 }
 
 #[test]
 fn an_engine_syncs_its_files_where_bytes_are_to_last() {
     let room = TempFolder::new();
     let engine = Engine::open(room.path(), Options::new()).unwrap();
-    synced();
+    take_synced();
     let mut batch = LogBatch::new().unwrap();
     for (sync, expected) in [(false, 0), (true, 1), (true, 1), (false, 0)] {
         batch.put(7, b"key", b"value").unwrap();
         engine.write(&mut batch, sync).unwrap();
-        assert_eq!(synced().len(), expected);
+        assert_eq!(take_synced().len(), expected);
     }
     engine.sync().unwrap();
-    assert_eq!(synced(), [name(&engine.files().path_of(FIRST))]);
+    assert_eq!(take_synced(), [last_name(&engine.files().path_of(FIRST))]);
     engine.sync().unwrap();
-    assert_eq!(synced(), [""; 0]);
+    assert_eq!(take_synced(), [""; 0]);
 }
 
 #[test]
@@ -146,13 +152,13 @@ fn after_a_sync_that_failed_nothing_more_is_changed() {
             files.write(FIRST, b"bytes").unwrap();
             GOOD.set(good);
             change(&files).unwrap_err();
-            synced();
+            take_synced();
             for (change, _) in changes {
                 let e = change(&files).unwrap_err();
                 assert_eq!(e.to_string(), "an earlier change failed", "{at} {good}");
             }
             assert!(files.write(FIRST, b"more").is_err());
-            assert_eq!(synced(), [""; 0], "{at} {good}");
+            assert_eq!(take_synced(), [""; 0], "{at} {good}");
         }
     }
 }

@@ -1,4 +1,5 @@
-//! A full disk. Those tests that need one mount a small file system in memory, and test nothing where they may not.
+//! Tests an engine on a full disk. Tests that need a real one mount a small file system in memory, and test nothing where that
+//! isn't allowed.
 
 mod common;
 
@@ -17,19 +18,19 @@ use std::{fs, io};
 
 const FIRST: FileId = FileId::new(Queue::Append, 1);
 
-/// How many bytes an entry has.
+/// The length of an entry, in bytes.
 const ENTRY: usize = 10_000;
 
-/// Held as long as a small disk is: a process that another test starts has this one's open files until its program begins,
-/// and a deleted file that is open anywhere still takes its room.
+/// A lock that is held as long as there is a small disk, so that there is one at a time. A process that another test starts
+/// shares this one's open files until its own program begins; and a deleted file that is open anywhere still takes room.
 static ONE_DISK: Mutex<()> = Mutex::new(());
 
-/// A file system of 256 KiB in pages of 4 KiB, the only one at its time, which is taken away at the end.
+/// A file system of 256 KiB in pages of 4 KiB, which is unmounted when this is dropped.
 struct SmallDisk(TempFolder, #[expect(dead_code)] MutexGuard<'static, ()>);
 
 impl SmallDisk {
-    /// Mounts one, where this user may.
-    fn mounted() -> Option<SmallDisk> {
+    /// Mounts one; `None` where this user isn't allowed to.
+    fn mount() -> Option<SmallDisk> {
         let alone = ONE_DISK.lock().unwrap_or_else(PoisonError::into_inner);
         let disk = SmallDisk(TempFolder::new(), alone);
         let mut mount = Command::new("mount");
@@ -42,16 +43,17 @@ impl SmallDisk {
         None
     }
 
+    /// Returns the path of the folder on it that an engine is opened in.
     fn path(&self) -> PathBuf {
         self.0.path().join("logs")
     }
 
-    /// Puts a file of 64 KiB on the disk.
+    /// Makes a file of 64 KiB on the disk.
     fn fill(&self) {
         fs::write(self.0.path().join("other"), vec![7; 64 << 10]).unwrap();
     }
 
-    /// Takes it away again.
+    /// Deletes that file.
     fn make_room(&self) {
         fs::remove_file(self.0.path().join("other")).unwrap();
     }
@@ -63,7 +65,7 @@ impl Drop for SmallDisk {
     }
 }
 
-/// Writes entry after entry until there is no room, and returns how many were written, and the refusal.
+/// Writes entry after entry until there is no room. Returns how many were written, and the error.
 fn write_until_full<F: Files>(engine: &Engine<F>) -> (u64, Error) {
     let first = engine.last_index(7).unwrap().map_or(1, |last| last + 1);
     let mut batch = LogBatch::new().unwrap();
@@ -78,7 +80,7 @@ fn write_until_full<F: Files>(engine: &Engine<F>) -> (u64, Error) {
     unreachable!()
 }
 
-/// Tests that an engine has so many of these entries at least, and reads them.
+/// Tests that an engine has at least the first `written` of these entries, and reads all that it has.
 fn assert_read<F: Files>(engine: &Engine<F>, written: u64) {
     let entries: Vec<_> = engine.entries(7, ..).unwrap().collect();
     assert!(entries.len() as u64 >= written);
@@ -87,7 +89,7 @@ fn assert_read<F: Files>(engine: &Engine<F>, written: u64) {
     }
 }
 
-/// Tests that a call was refused for want of room.
+/// Tests that an error says that there is no room.
 fn assert_full(e: &Error) {
     assert_eq!(e.kind, ErrorKind::Io, "{e}");
     let source = std::error::Error::source(e).unwrap();
@@ -96,7 +98,7 @@ fn assert_full(e: &Error) {
     assert_eq!(e.io_kind(), Some(io::ErrorKind::StorageFull));
 }
 
-/// The files in a folder.
+/// Returns the files in a folder, by their names.
 fn files_in(folder: &Path) -> BTreeMap<String, Vec<u8>> {
     let entries = fs::read_dir(folder).unwrap().map(io::Result::unwrap);
     let seen = entries.map(|entry| {
@@ -106,8 +108,9 @@ fn files_in(folder: &Path) -> BTreeMap<String, Vec<u8>> {
     seen.collect()
 }
 
-/// Opens a folder on a full disk, of which nothing is to be cut: nothing is written, so no room is needed.
-fn opened_without_room(folder: &Path) -> Engine {
+/// Opens a folder on a full disk, in which nothing has to be cut, and returns the engine. Nothing is written, so no room is
+/// needed.
+fn open_without_room(folder: &Path) -> Engine {
     let before = files_in(folder);
     let engine = Engine::open(folder, Options::new()).unwrap();
     assert_eq!(files_in(folder), before);
@@ -116,7 +119,7 @@ fn opened_without_room(folder: &Path) -> Engine {
 
 #[test]
 fn a_full_disk_is_read_and_goes_on_once_there_is_room() {
-    let Some(disk) = SmallDisk::mounted() else {
+    let Some(disk) = SmallDisk::mount() else {
         return;
     };
     disk.fill();
@@ -134,7 +137,7 @@ fn a_full_disk_is_read_and_goes_on_once_there_is_room() {
     assert_eq!(engine.last_index(7).unwrap(), Some(written));
     assert_read(&engine, written);
     drop(engine);
-    let engine = opened_without_room(&disk.path());
+    let engine = open_without_room(&disk.path());
     assert_eq!(engine.recovered().cuts().count(), 0);
     assert_read(&engine, written);
     drop(engine);
@@ -148,7 +151,7 @@ fn a_full_disk_is_read_and_goes_on_once_there_is_room() {
 }
 
 /// Writes entries of ten thousand bytes to small files until there is no room, each with a compaction that leaves three of them.
-/// Returns the last one's index.
+/// Returns the index of the last one.
 fn write_three_until_full(engine: &Engine) -> u64 {
     let first = engine.last_index(7).unwrap().map_or(1, |last| last + 1);
     let mut batch = LogBatch::new().unwrap();
@@ -164,7 +167,7 @@ fn write_three_until_full(engine: &Engine) -> u64 {
     unreachable!()
 }
 
-/// Tests that an engine has the last three entries up to an index, or one more, which was being written.
+/// Tests that an engine has the last three entries up to an index, or up to the next one, which was just being written.
 fn assert_three(engine: &Engine, last: u64) {
     let entries = engine.entries(7, ..).unwrap();
     let indexes: Vec<_> = entries.iter().map(|(index, _)| index).collect();
@@ -180,7 +183,7 @@ fn assert_three(engine: &Engine, last: u64) {
 
 #[test]
 fn a_full_disk_is_freed_by_a_purge_and_goes_on() {
-    let Some(disk) = SmallDisk::mounted() else {
+    let Some(disk) = SmallDisk::mount() else {
         return;
     };
     let options = || Options::new().target_file_size(3 * ENTRY as u64);
@@ -194,7 +197,7 @@ fn a_full_disk_is_freed_by_a_purge_and_goes_on() {
         assert_three(&engine, last);
         assert_full(&engine.purge().unwrap_err());
         drop(engine);
-        let engine = opened_without_room(&disk.path());
+        let engine = open_without_room(&disk.path());
         assert_three(&engine, last);
         let asked = engine.stats();
         let purged = engine.purge().unwrap();
@@ -208,7 +211,7 @@ fn a_full_disk_is_freed_by_a_purge_and_goes_on() {
 
 #[test]
 fn an_engine_that_found_no_room_in_the_midst_of_a_write_goes_on_once_there_is_some() {
-    let Some(disk) = SmallDisk::mounted() else {
+    let Some(disk) = SmallDisk::mount() else {
         return;
     };
     disk.fill();
@@ -246,7 +249,7 @@ fn an_engine_that_found_no_room_in_the_midst_of_a_write_goes_on_once_there_is_so
     assert!(more > written + 4);
     assert_read(&engine, more);
     drop(engine);
-    let engine = opened_without_room(&disk.path());
+    let engine = open_without_room(&disk.path());
     assert_eq!(engine.recovered().cuts().count(), 0);
     assert_eq!(engine.last_index(7).unwrap(), Some(more));
     assert_read(&engine, more);
@@ -254,7 +257,7 @@ fn an_engine_that_found_no_room_in_the_midst_of_a_write_goes_on_once_there_is_so
 
 #[test]
 fn a_tail_that_finds_no_room_beside_its_file_stays_uncut() {
-    let Some(disk) = SmallDisk::mounted() else {
+    let Some(disk) = SmallDisk::mount() else {
         return;
     };
     disk.fill();
@@ -286,7 +289,7 @@ fn a_tail_that_finds_no_room_beside_its_file_stays_uncut() {
 
 #[test]
 fn bytes_that_find_no_room_are_taken_back() -> io::Result<()> {
-    let Some(disk) = SmallDisk::mounted() else {
+    let Some(disk) = SmallDisk::mount() else {
         return Ok(());
     };
     let files = FolderFiles::open(disk.path()).unwrap();

@@ -1,5 +1,5 @@
-//! With the feature `global-allocator` the library's memory comes from the program's allocator, and goes back there as it came. It is
-//! refused in turn.
+//! Tests that with the feature `global-allocator` the library's memory comes from the program's allocator, and goes back there
+//! with the same layout. Each request is also refused once.
 #![cfg(feature = "global-allocator")]
 
 mod common;
@@ -12,10 +12,10 @@ use std::alloc::{GlobalAlloc, Layout, System};
 use std::cell::Cell;
 use std::sync::atomic::{AtomicUsize, Ordering::SeqCst};
 
-/// The alignment of the library's blocks, which no block of these tests has.
+/// The alignment of the library's blocks, which no other block of these tests has.
 const OF_LIBRARY: usize = 16;
 
-/// Blocks that went back with another size or alignment than they came with.
+/// How many blocks went back with another size or alignment than they came with.
 static WRONG: AtomicUsize = AtomicUsize::new(0);
 
 thread_local! {
@@ -25,10 +25,11 @@ thread_local! {
     static GRANTED: Cell<u64> = const { Cell::new(u64::MAX) };
 }
 
+/// The allocator, which notes the layout of each block before it.
 struct Noting;
 
-/// A block with room in front, where its layout is noted.
-fn noted(layout: Layout) -> (Layout, usize) {
+/// Returns the layout of a block with room for a note of `layout` before it, and how many bytes that room has.
+fn layout_with_note(layout: Layout) -> (Layout, usize) {
     let front = layout.align().max(OF_LIBRARY);
     let size = layout.size() + front;
     (Layout::from_size_align(size, front).unwrap(), front)
@@ -44,8 +45,8 @@ unsafe impl GlobalAlloc for Noting {
             GRANTED.set(GRANTED.get() - 1);
             LIVE.set(LIVE.get() + 1);
         }
-        let (whole, front) = noted(layout);
-        // SAFETY: the block has room for two numbers in front of what is handed out.
+        let (whole, front) = layout_with_note(layout);
+        // SAFETY: the block has room for two numbers before what is handed out.
         unsafe {
             let at = System.alloc(whole).add(front);
             at.cast::<[usize; 2]>()
@@ -65,7 +66,7 @@ unsafe impl GlobalAlloc for Noting {
             if align == OF_LIBRARY {
                 LIVE.set(LIVE.get() - 1);
             }
-            let (whole, front) = noted(Layout::from_size_align_unchecked(size, align));
+            let (whole, front) = layout_with_note(Layout::from_size_align_unchecked(size, align));
             System.dealloc(at.sub(front), whole);
         }
     }
@@ -74,7 +75,7 @@ unsafe impl GlobalAlloc for Noting {
 #[global_allocator]
 static NOTING: Noting = Noting;
 
-/// Writes, moves and deletes in an engine, reads it, and opens its files again.
+/// Writes, moves and deletes in an engine, opens its files again, and returns how many entries it has.
 fn engine_steps() -> Result<usize> {
     let files = MemoryFiles::new();
     let options = Options::new().recovery_threads(1);
@@ -92,7 +93,7 @@ fn engine_steps() -> Result<usize> {
     Ok(Engine::with_files(files, options)?.entries(7, ..)?.len())
 }
 
-/// Recovers files, and reads a batch item by item.
+/// Recovers the files of demo/, reads a batch item by item, and returns how many regions and items there were.
 fn recovery_steps() -> Result<usize> {
     let files = files();
     let mut regions = recover(&parts(&files), Queue::Append, 1)?.regions()?.len();

@@ -1,4 +1,4 @@
-//! The program of ten lines is killed while it writes, and finds what it wrote.
+//! Kills the program of ten lines while it writes, and tests that it finds what it wrote.
 
 mod common;
 
@@ -9,8 +9,8 @@ use std::io::{BufRead, BufReader};
 use std::path::PathBuf;
 use std::process::{Command, Stdio};
 
-/// The program, which `cargo test` builds beside the tests.
-fn program() -> PathBuf {
+/// Returns the path of the program, which `cargo test` builds beside the tests.
+fn program_path() -> PathBuf {
     let tests = env::current_exe().unwrap();
     let path = tests.ancestors().nth(2).unwrap().join("examples/ten_lines");
     assert!(
@@ -26,7 +26,7 @@ fn a_program_that_is_killed_while_it_writes_finds_what_it_wrote() {
     let room = TempFolder::new();
     let mut wrote = 0;
     for round in 1..=5 {
-        let mut child = Command::new(program())
+        let mut child = Command::new(program_path())
             .arg(room.path())
             .stdout(Stdio::piped())
             .spawn()

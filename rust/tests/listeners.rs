@@ -1,4 +1,4 @@
-//! What an engine does to its files is told to a listener.
+//! Tests what a listener is told of an engine.
 
 mod common;
 
@@ -14,7 +14,7 @@ use std::sync::{Arc, Mutex, OnceLock, Weak};
 use std::time::Duration;
 use std::{fs, thread};
 
-/// Notes what it is told.
+/// A listener that notes its calls.
 #[derive(Default)]
 struct Noting {
     told: Mutex<Vec<String>>,
@@ -22,10 +22,12 @@ struct Noting {
 }
 
 impl Noting {
+    /// Notes a call.
     fn note(&self, text: String) {
         self.told.lock().unwrap().push(text);
     }
 
+    /// Returns the calls that were noted since the last call of this.
     fn take(&self) -> Vec<String> {
         std::mem::take(&mut self.told.lock().unwrap())
     }
@@ -54,7 +56,7 @@ impl Listener for Noting {
     }
 }
 
-/// The changes of files but for those of their bytes.
+/// Returns what was asked of files, as words, without writes.
 fn asked(files: &MemoryFiles) -> Vec<String> {
     let asks = files.asks().into_iter();
     let shown = asks.filter_map(|ask| match ask {
@@ -162,7 +164,7 @@ fn what_is_cut_in_a_folder_is_told_with_its_reason() {
     assert!(engine.stats().opening > Duration::ZERO);
 }
 
-/// Makes calls of the engine that tells it something, and has another thread make some.
+/// A listener that makes calls of the engine which tells it something, and has another thread make some.
 #[derive(Default)]
 struct Calling {
     engine: OnceLock<Weak<Engine<MemoryFiles>>>,
@@ -171,6 +173,8 @@ struct Calling {
 }
 
 impl Calling {
+    /// Tests that no other call of the listener runs. Then writes, reads and purges in the engine, in this thread and in
+    /// another one.
     fn call(&self) {
         assert!(!self.is_within.swap(true, SeqCst), "two calls at once");
         let count = self.told.fetch_add(1, SeqCst) as u64;

@@ -1,5 +1,5 @@
-//! The log store of examples/ beside plain maps: a log that is drawn, with conflicts, compactions and snapshots. The machine stops
-//! anywhere, and the process is killed: all that was acknowledged is there again.
+//! Compares the log store of examples/ with plain maps: random logs, with conflicts, compactions and snapshots. The machine
+//! crashes anywhere, and the process is killed: all that was acknowledged has to be there again.
 
 mod common;
 
@@ -33,7 +33,7 @@ struct Model {
     snapshot: SnapshotMetadata,
 }
 
-/// What a node does to its log.
+/// A step that a node takes: a change of its log.
 enum Step {
     Append(Vec<Entry>),
     SetHardState(HardState),
@@ -42,22 +42,24 @@ enum Step {
 }
 
 impl Model {
+    /// Returns the index of the last entry; without entries that of the snapshot.
     fn last(&self) -> u64 {
         let last = self.entries.keys().next_back().copied();
         last.unwrap_or(self.snapshot.index)
     }
 
+    /// Returns the term of an entry; that of the snapshot where there is no such entry.
     fn term(&self, index: u64) -> u64 {
         let entry = self.entries.get(&index);
         entry.map_or(self.snapshot.term, |entry| entry.term)
     }
 
-    /// Up to where entries are committed.
+    /// Returns the index up to which entries are committed.
     fn commit(&self) -> u64 {
         self.hard_state.commit.max(self.snapshot.index)
     }
 
-    /// Draws what a node does next.
+    /// Draws the next step of a node.
     fn draw(&self, draw: &mut Draw) -> Step {
         let (first, last, commit) = (self.snapshot.index + 1, self.last(), self.commit());
         let mut below = |end: u64| draw.below(end as usize) as u64;
@@ -94,6 +96,7 @@ impl Model {
         }
     }
 
+    /// Returns a snapshot up to an index, whose last entry has this term, and which has so many members.
     fn snapshot_at(&self, index: u64, term: u64, members: u64) -> SnapshotMetadata {
         let conf_state: ConfState = (0..members).collect();
         SnapshotMetadata {
@@ -103,7 +106,8 @@ impl Model {
         }
     }
 
-    fn take(&mut self, step: &Step) {
+    /// Applies a step.
+    fn apply(&mut self, step: &Step) {
         match step {
             Step::Append(entries) => {
                 self.entries.split_off(&entries[0].index);
@@ -123,6 +127,7 @@ impl Model {
     }
 }
 
+/// Takes a step by the calls of a log.
 fn take<F: Files>(log: &mut RaftStorage<F>, step: Step) -> Result<()> {
     match step {
         Step::Append(entries) => log.append(&entries),
@@ -132,8 +137,8 @@ fn take<F: Files>(log: &mut RaftStorage<F>, step: Step) -> Result<()> {
     }
 }
 
-/// Whether a log has what it has to have, by its six calls.
-fn has<F: Files>(log: &RaftStorage<F>, model: &Model) -> bool {
+/// Tests, by the six calls of a log, whether it has what it has to have.
+fn has_all<F: Files>(log: &RaftStorage<F>, model: &Model) -> bool {
     let (first, last) = (model.snapshot.index + 1, model.last());
     if (log.first_index().unwrap(), log.last_index().unwrap()) != (first, last) {
         return false;
@@ -150,7 +155,7 @@ fn has<F: Files>(log: &RaftStorage<F>, model: &Model) -> bool {
         && log.snapshot(first - 1, 1).unwrap() == model.snapshot
 }
 
-/// Tests what a log refuses, and that the bytes of entries are limited.
+/// Tests what a log refuses, and that it keeps to a limit on the bytes of entries.
 fn assert_refuses<F: Files>(log: &mut RaftStorage<F>) {
     let (first, end) = (log.first_index().unwrap(), log.last_index().unwrap() + 1);
     let entry = |index| Entry {
@@ -198,13 +203,13 @@ fn assert_refuses<F: Files>(log: &mut RaftStorage<F>) {
     log.append(&[]).unwrap();
 }
 
-/// Small files, so that records move, and files go.
+/// Returns options with files so small that records move, and files are deleted.
 fn options() -> Options {
     Options::new().target_file_size(1000).purge_above(2000)
 }
 
-/// The files that a stop leaves once so much was asked of them.
-fn left(files: &MemoryFiles, asks: usize, draw: &mut Draw) -> MemoryFiles {
+/// Returns the files that a random crash leaves behind the first `asks` asks.
+fn draw_left(files: &MemoryFiles, asks: usize, draw: &mut Draw) -> MemoryFiles {
     let [append, rewrite] = [Queue::Append, Queue::Rewrite].map(|queue| {
         let Unsynced { steps, deletions } = files.unsynced(asks, queue);
         Unsynced {
@@ -223,16 +228,16 @@ fn a_log_has_what_was_acknowledged_wherever_the_machine_stops() {
         for _life in 0..8 {
             let engine = Arc::new(Engine::with_files(files.clone(), options()).unwrap());
             let mut log = RaftStorage::open(engine.clone(), REGION).unwrap();
-            assert!(has(&log, &model));
+            assert!(has_all(&log, &model));
             let (mut before, mut asked) = (model.clone(), files.asked());
             let mut acknowledged = asked;
             for _ in 0..1 + draw.below(30) {
                 (before, asked) = (model.clone(), files.asked());
                 let step = model.draw(&mut draw);
-                model.take(&step);
+                model.apply(&step);
                 take(&mut log, step).unwrap();
                 acknowledged = files.asked();
-                assert!(has(&log, &model));
+                assert!(has_all(&log, &model));
                 assert_refuses(&mut log);
                 if draw.once_in(10) {
                     engine.purge().unwrap();
@@ -240,11 +245,11 @@ fn a_log_has_what_was_acknowledged_wherever_the_machine_stops() {
             }
             // the machine stops in the midst of the last step, or behind it
             let asks = asked + draw.below(files.asked() - asked + 1);
-            files = left(&files, asks, &mut draw);
+            files = draw_left(&files, asks, &mut draw);
             let engine = Arc::new(Engine::with_files(files.clone(), options()).unwrap());
             let log = RaftStorage::open(engine, REGION).unwrap();
-            if !has(&log, &model) {
-                assert!(asks < acknowledged && has(&log, &before), "seed {seed}");
+            if !has_all(&log, &model) {
+                assert!(asks < acknowledged && has_all(&log, &before), "seed {seed}");
                 model = before;
             }
         }
@@ -276,27 +281,29 @@ fn terms_cost_no_read() {
     assert!(reads.load(SeqCst) > 0, "reads are counted");
 }
 
-/// The environment of a process that is killed names its folder.
+/// The environment variable that gives a process that is killed its folder.
 const FOLDER: &str = "RAFT_STORAGE_FOLDER";
 
-/// The environment has the seed of the history too, and how many of its steps were taken already.
+/// The environment variable that gives it the seed of its history, and the number of steps that were taken already.
 const HISTORY: &str = "RAFT_STORAGE_HISTORY";
 
-/// A history that is drawn, the same one for a seed.
+/// A random history, the same one for the same seed.
 struct History {
     draw: Draw,
     model: Model,
 }
 
 impl History {
+    /// Returns the history of a seed, of which no step is taken yet.
     fn new(seed: u64) -> History {
         let (draw, model) = (Draw::new(seed), Model::default());
         History { draw, model }
     }
 
+    /// Draws the next step, and applies it to the model.
     fn next(&mut self) -> Step {
         let step = self.model.draw(&mut self.draw);
-        self.model.take(&step);
+        self.model.apply(&step);
         step
     }
 }
@@ -323,8 +330,9 @@ fn writes_until_it_is_killed() {
     }
 }
 
-/// Starts the test that writes, kills it, and returns the number of the last step that it said to have taken.
-fn killed(folder: &TempFolder, seed: u64, taken: u64, draw: &mut Draw) -> u64 {
+/// Starts the test that writes, kills it, and returns the number of the last step that it has printed as taken. `taken` steps of
+/// the history were taken before.
+fn write_until_killed(folder: &TempFolder, seed: u64, taken: u64, draw: &mut Draw) -> u64 {
     let mut child = Command::new(env::current_exe().unwrap())
         .args(["--exact", "writes_until_it_is_killed"])
         .args(["--ignored", "--nocapture"])
@@ -348,7 +356,8 @@ fn killed(folder: &TempFolder, seed: u64, taken: u64, draw: &mut Draw) -> u64 {
 /// How often a process that writes a history is killed.
 const KILLS: u64 = 10;
 
-/// As `SEED=100 HISTORIES=20` it writes twenty histories of these seeds, and kills their processes two hundred times.
+/// With `SEED=100 HISTORIES=20`, for example, it writes twenty histories from seed 100 on, and kills their processes two hundred
+/// times.
 #[test]
 fn a_log_has_what_was_acknowledged_whenever_its_process_is_killed() {
     let (first, count) = (number("SEED", 0), number("HISTORIES", 3));
@@ -358,7 +367,7 @@ fn a_log_has_what_was_acknowledged_whenever_its_process_is_killed() {
         let mut history = History::new(seed);
         let mut taken = 0;
         for _ in 0..KILLS {
-            let said = killed(&room, seed, taken, &mut draw);
+            let said = write_until_killed(&room, seed, taken, &mut draw);
             assert!(said > taken);
             while taken < said {
                 history.next();
@@ -366,11 +375,11 @@ fn a_log_has_what_was_acknowledged_whenever_its_process_is_killed() {
             }
             let engine = Arc::new(Engine::open(room.path(), options()).unwrap());
             let log = RaftStorage::open(engine, REGION).unwrap();
-            if !has(&log, &history.model) {
+            if !has_all(&log, &history.model) {
                 // the step that it was taking when it was killed may be there
                 history.next();
                 taken += 1;
-                assert!(has(&log, &history.model), "seed {seed}, step {said}");
+                assert!(has_all(&log, &history.model), "seed {seed}, step {said}");
             }
         }
         steps += taken;

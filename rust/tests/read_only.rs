@@ -1,4 +1,4 @@
-//! Engines that are opened to be read alone.
+//! Tests engines that are opened for reading only.
 
 mod common;
 
@@ -19,11 +19,11 @@ use std::process::Command;
 use std::time::Duration;
 use std::{env, fs, io};
 
-/// The variable that names the folder which another user reads.
+/// The environment variable that names the folder which another user reads.
 const FOLDER: &str = "RAFT_RECOVER_READ_ONLY";
 
-/// The refusals of every change by an engine, with their names.
-fn changes<F: Files>(engine: &Engine<F>) -> [(&'static str, raft_recover::Error); 6] {
+/// Returns the errors of all kinds of changes of an engine, each with the name of its call.
+fn errors_of_changes<F: Files>(engine: &Engine<F>) -> [(&'static str, raft_recover::Error); 6] {
     let mut batch = LogBatch::new().unwrap();
     batch.put(7, b"key", b"value").unwrap();
     let size = batch.approximate_size();
@@ -39,7 +39,7 @@ fn changes<F: Files>(engine: &Engine<F>) -> [(&'static str, raft_recover::Error)
     ]
 }
 
-/// Files with what moved and what didn't, and torn tails of both queues.
+/// Returns files with records that have moved and others that haven't, and torn tails of both queues.
 fn torn_files() -> MemoryFiles {
     let engine = Engine::with_files(MemoryFiles::new(), Options::new()).unwrap();
     for index in 1..=6 {
@@ -60,7 +60,7 @@ fn torn_files() -> MemoryFiles {
     MemoryFiles::found(append, rewrite)
 }
 
-/// What region 7 of these has.
+/// Returns what region 7 of these files has.
 fn expected() -> Region {
     let entries = (1..=6).map(|index: u64| (index, index.to_string().into_bytes()));
     let keys = [(b"a".to_vec(), 6u64.to_le_bytes().to_vec())];
@@ -86,7 +86,7 @@ fn nothing_is_asked_but_to_read_and_every_change_is_refused_by_name() {
     assert!(engine.is_read_only());
     assert_eq!(region_of(&engine, 7).unwrap(), expected());
     assert_eq!(engine.regions().unwrap(), [7]);
-    for (name, e) in changes(&engine) {
+    for (name, e) in errors_of_changes(&engine) {
         assert_eq!(e.kind, ErrorKind::InvalidArgument);
         let text = format!("Invalid Argument: {name}: the engine is open for reading alone");
         assert_eq!(e.text, text);
@@ -125,7 +125,7 @@ fn what_an_opening_refuses_is_refused() {
     assert_eq!(e.file, Some(FileId::new(Queue::Append, 2)));
 }
 
-/// The files of a folder, with when each of them was changed last.
+/// Returns the files in a folder by their names: the bytes of each, and when it was changed last.
 fn files_in(folder: &Path) -> BTreeMap<String, (Vec<u8>, i64, i64)> {
     let entries = fs::read_dir(folder).unwrap().map(Result::unwrap);
     let seen = entries.map(|entry| {
@@ -138,7 +138,7 @@ fn files_in(folder: &Path) -> BTreeMap<String, (Vec<u8>, i64, i64)> {
 }
 
 /// Writes the torn files into a folder.
-fn fill(folder: &Path) {
+fn write_torn_files(folder: &Path) {
     let files = torn_files();
     for (queue, ending) in [(Queue::Append, "raftlog"), (Queue::Rewrite, "rewrite")] {
         for (seq, bytes) in files.files(queue) {
@@ -150,12 +150,15 @@ fn fill(folder: &Path) {
 #[test]
 fn a_folder_stays_as_it_is() {
     let room = TempFolder::new();
-    fill(room.path());
+    write_torn_files(room.path());
     let before = files_in(room.path());
     assert_eq!(before.len(), 2);
     let engine = Engine::open_read_only(room.path(), Options::new()).unwrap();
     assert_eq!(region_of(&engine, 7).unwrap(), expected());
-    assert_eq!(changes(&engine)[0].1.kind, ErrorKind::InvalidArgument);
+    assert_eq!(
+        errors_of_changes(&engine)[0].1.kind,
+        ErrorKind::InvalidArgument
+    );
     drop(engine);
     assert_eq!(files_in(room.path()), before);
 
@@ -208,7 +211,7 @@ fn files_that_are_read_alone_refuse_every_change() {
         |files| files.truncate(FileId::new(Queue::Append, 2), 0),
     ];
     let room = TempFolder::new();
-    fill(room.path());
+    write_torn_files(room.path());
     let before = files_in(room.path());
     let files = FolderFiles::open_read_only(room.path()).unwrap();
     for change in changes {
@@ -225,7 +228,7 @@ fn files_that_are_read_alone_refuse_every_change() {
     assert_eq!(files_in(room.path()), before);
 }
 
-/// Reads a folder that another test names, which its user may only read.
+/// Reads a folder that another test names, and in which this process may not write.
 #[test]
 #[ignore = "another test starts it"]
 fn reads_a_folder_as_another_user() {
@@ -247,7 +250,7 @@ fn a_folder_that_may_only_be_read_is_opened() {
     let room = TempFolder::new();
     let folder = room.path().join("folder");
     fs::create_dir(&folder).unwrap();
-    fill(&folder);
+    write_torn_files(&folder);
     fs::write(folder.join("LOCK"), "").unwrap();
     for entry in fs::read_dir(&folder).unwrap() {
         fs::set_permissions(entry.unwrap().path(), Permissions::from_mode(0o444)).unwrap();

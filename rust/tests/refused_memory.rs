@@ -1,4 +1,4 @@
-//! Each request of the library for memory is refused in turn, by a heap of this test's own.
+//! Refuses each request of the library for memory in turn, by a heap of this test's own.
 //!
 //! The library takes memory by three functions (`rattle_alloc` ..), which the kit's `liblibc_c.a` defines over `malloc`.
 //! A program may define them itself, as here: then nothing of that archive is linked.
@@ -15,26 +15,32 @@ use std::alloc::{Layout, alloc, dealloc, realloc};
 use std::sync::Mutex;
 use std::sync::atomic::{AtomicI64, AtomicU64, Ordering::SeqCst};
 
-/// How many requests are granted before one is refused.
+/// How many requests are granted before one is refused; negative once one was.
 static GRANTED: AtomicI64 = AtomicI64::new(i64::MAX);
+/// How many blocks the library has.
 static LIVE: AtomicU64 = AtomicU64::new(0);
 
-/// Which test counts blocks.
+/// The lock of the test that is counting blocks.
 static TURN: Mutex<()> = Mutex::new(());
 
+/// The answer to a request for memory, as the library reads it: whether it is granted, and the block.
 #[repr(C)]
 struct Tried {
     ok: bool,
     p: *mut u8,
 }
 
+/// How many bytes are allocated before each block; its size stands there.
 const HEAD: usize = 16;
 
+/// Returns the layout of a block of `n` bytes with the bytes before it.
 fn layout(n: usize) -> Layout {
     Layout::from_size_align(n + HEAD, HEAD).unwrap()
 }
 
-fn tried(p: *mut u8, n: usize) -> Tried {
+/// Returns the answer to a request for `n` bytes, which were allocated at `p`, with the bytes before the block. It is a
+/// refusal if `p` is null.
+fn answer_request(p: *mut u8, n: usize) -> Tried {
     if p.is_null() {
         return refusal();
     }
@@ -48,9 +54,10 @@ fn tried(p: *mut u8, n: usize) -> Tried {
     }
 }
 
-/// What a refusal points to: the library asks for a pointer that leads somewhere, and nothing of it.
+/// What the pointer of a refused request points to. It has to point somewhere, and nobody reads or writes there.
 static NOTHING: AtomicU64 = AtomicU64::new(0);
 
+/// Returns the answer that refuses a request.
 fn refusal() -> Tried {
     Tried {
         ok: false,
@@ -58,10 +65,12 @@ fn refusal() -> Tried {
     }
 }
 
+/// Counts a request, and returns whether it is the one to refuse.
 fn is_refused() -> bool {
     GRANTED.fetch_sub(1, SeqCst) == 0
 }
 
+/// Allocates a block for the library, unless the request is to be refused.
 #[unsafe(no_mangle)]
 extern "C" fn rattle_alloc(n: usize, _a: usize) -> Tried {
     if is_refused() {
@@ -69,35 +78,38 @@ extern "C" fn rattle_alloc(n: usize, _a: usize) -> Tried {
     }
     LIVE.fetch_add(1, SeqCst);
     // SAFETY: the layout isn't empty.
-    tried(unsafe { alloc(layout(n)) }, n)
+    answer_request(unsafe { alloc(layout(n)) }, n)
 }
 
+/// Gives a block of the library another size, unless the request is to be refused.
 #[unsafe(no_mangle)]
 unsafe extern "C" fn rattle_realloc(p: *mut u8, _kept: usize, n: usize, _a: usize) -> Tried {
     if is_refused() {
         return refusal();
     }
-    // SAFETY: the block came from `tried`.
+    // SAFETY: the block came from `answer_request`.
     unsafe {
         let block = p.sub(HEAD);
         let old = block.cast::<usize>().read();
-        tried(realloc(block, layout(old), n + HEAD), n)
+        answer_request(realloc(block, layout(old), n + HEAD), n)
     }
 }
 
+/// Frees a block of the library.
 #[unsafe(no_mangle)]
 unsafe extern "C" fn rattle_dealloc(p: *mut u8) {
     LIVE.fetch_sub(1, SeqCst);
-    // SAFETY: the block came from `tried`.
+    // SAFETY: the block came from `answer_request`.
     unsafe {
         let block = p.sub(HEAD);
         dealloc(block, layout(block.cast::<usize>().read()));
     }
 }
 
-/// Makes a call with each request for memory refused in turn, and returns how often it was refused. An answer shows as `whole`,
-/// and nothing is left of it.
-fn refused_in_turn<T>(
+/// Makes a call again and again, and refuses a later request for memory each time, until none is refused. Tests that it fails
+/// with `Memory`, or returns an answer that `shown` shows as `whole`, and that no block of memory is left. Returns how often it
+/// failed.
+fn refuse_in_turn<T>(
     whole: &str,
     call: impl Fn() -> Result<T>,
     shown: impl Fn(T) -> String,
@@ -126,7 +138,7 @@ fn refused_in_turn<T>(
     refused
 }
 
-/// A batch with entries and keys.
+/// Makes a batch with entries and a key.
 fn batch() -> LogBatch {
     let mut batch = LogBatch::new().unwrap();
     batch.add_entries(7, 10, &["one", "three"]).unwrap();
@@ -134,7 +146,7 @@ fn batch() -> LogBatch {
     batch
 }
 
-/// Tables with entries of a region.
+/// Makes tables with entries of a region in a queue.
 fn tables(queue: Queue) -> Tables {
     let mut tables = Tables::new().unwrap();
     tables.append(7, &run(Queue::Append, 1, 1..9)).unwrap();
@@ -145,7 +157,7 @@ fn tables(queue: Queue) -> Tables {
     tables
 }
 
-/// Makes batches and items, which are let go at each stage.
+/// Makes batches and items, and drops them at each stage.
 fn batches_and_items() {
     drop(batch());
     let mut encoded = batch();
@@ -163,7 +175,7 @@ fn batches_and_items() {
     Tables::new().unwrap().apply_append(items).unwrap();
 }
 
-/// Makes tables, slots and contexts, which are merged.
+/// Makes tables, slots and contexts, and merges them.
 fn tables_and_contexts() {
     let mut older = tables(Queue::Append);
     older.merge_newer(tables(Queue::Append)).unwrap();
@@ -198,11 +210,11 @@ fn every_request_refused_in_turn() {
     let whole = recovered().unwrap().to_string();
     let live = recovered().unwrap().live(Queue::Append).to_string();
     assert_eq!(LIVE.load(SeqCst), 0);
-    let refused = refused_in_turn(&whole, recovered, |tables| tables.to_string());
+    let refused = refuse_in_turn(&whole, recovered, |tables| tables.to_string());
     // Where a way that is tried first finds no memory, the other one asks again, and gets it.
     assert!(refused > 20, "{refused}");
     println!("{refused} requests refused");
-    refused_in_turn(
+    refuse_in_turn(
         &live,
         || recovered()?.into_slots(),
         |slots| {
@@ -212,7 +224,7 @@ fn every_request_refused_in_turn() {
     );
 }
 
-/// A slot to which its share of a batch was written.
+/// Makes a slot to which its items of a batch were applied.
 fn slot_with_share() -> Result<Slot> {
     let mut batch = LogBatch::new()?;
     batch.add_entries(7, 10, &["one", "three"])?;
@@ -233,7 +245,7 @@ fn slot_with_share() -> Result<Slot> {
 fn a_share_is_tested_and_written_without_leaks_where_memory_is_refused() {
     let _turn = TURN.lock();
     let live = |slot: Slot| slot.live(Queue::Append).to_string();
-    let refused = refused_in_turn("3", slot_with_share, live);
+    let refused = refuse_in_turn("3", slot_with_share, live);
     assert!(refused > 20, "{refused}");
 }
 
@@ -259,7 +271,7 @@ fn what_is_lent_for_moves_is_let_go() {
     assert_eq!(first, later);
 }
 
-/// Does with an engine all that it does. Counts the batches that it took.
+/// Takes all kinds of steps of an engine, and adds to `written` how many batches were written.
 fn engine_steps(engine: &Engine<MemoryFiles>, written: &mut u64) -> Result<()> {
     for index in 1..=4 {
         let mut batch = LogBatch::new()?;
@@ -279,8 +291,8 @@ fn engine_steps(engine: &Engine<MemoryFiles>, written: &mut u64) -> Result<()> {
     engine.sync()
 }
 
-/// Opens an engine over files, and takes the steps, with so many requests granted. Where the engine has failed every call says so.
-/// Returns whether no request was refused.
+/// Opens an engine over files, and takes the steps, with `granted` requests for memory granted. Tests that either all calls of
+/// the engine fail then, or none. Returns whether no request was refused.
 fn engine_run(files: &MemoryFiles, granted: i64, written: &mut u64) -> Result<bool> {
     GRANTED.store(granted, SeqCst);
     let opened = Engine::with_files(files.clone(), Options::new());
@@ -337,7 +349,7 @@ fn damaged_batches_that_are_found_without_memory_are_all_named_or_nothing_is_ope
     };
     let whole: String = shown(open().unwrap());
     assert_eq!(whole.lines().count(), 3);
-    assert!(refused_in_turn(&whole, open, shown) > 10);
+    assert!(refuse_in_turn(&whole, open, shown) > 10);
 }
 
 #[test]

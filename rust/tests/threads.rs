@@ -1,4 +1,4 @@
-//! Which threads recovery starts: to start one takes memory of the program, which is counted on the thread that starts it.
+//! Tests how many threads recovery starts, by the requests for memory of the thread that starts them.
 #![cfg(not(feature = "global-allocator"))]
 
 use raft_recover::{FilePart, LogFile, Queue, Version, recover};
@@ -10,6 +10,7 @@ thread_local! {
     static REQUESTS: Cell<usize> = const { Cell::new(0) };
 }
 
+/// The allocator, which counts the requests of each thread.
 struct Counting;
 
 // SAFETY: the system's allocator does the work.
@@ -29,7 +30,7 @@ unsafe impl GlobalAlloc for Counting {
 #[global_allocator]
 static COUNTING: Counting = Counting;
 
-/// Recovers parts, and counts the requests of this thread.
+/// Recovers parts, and returns how many requests this thread made meanwhile.
 fn requests(parts: &[FilePart<'_>], workers: usize) -> usize {
     let before = REQUESTS.get();
     let tables = recover(parts, Queue::Append, workers).unwrap();

@@ -1,4 +1,4 @@
-//! Who writes gets in between while records move.
+//! Tests that threads which write get in between while records move.
 
 mod common;
 
@@ -9,6 +9,7 @@ use std::sync::atomic::{AtomicBool, Ordering::SeqCst};
 use std::thread;
 use std::time::Duration;
 
+/// Returns a batch with an entry of `len` bytes.
 fn batch(region: u64, index: u64, len: usize) -> LogBatch {
     let mut batch = LogBatch::new().unwrap();
     batch.add_entries(region, index, &[vec![7; len]]).unwrap();

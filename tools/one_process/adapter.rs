@@ -6,7 +6,7 @@ use crate::pipe_log::{FileId, LogQueue, Version};
 use crate::GlobalStats;
 use std::sync::Arc;
 
-/// Log files in memory, with the threads that read them.
+/// Log files in memory, and the threads that read them.
 pub struct Files {
     queue: LogQueue,
     parts: Vec<Part>,
@@ -17,10 +17,11 @@ pub struct Files {
 /// The tables of all regions.
 pub struct Tables(MemTables, Arc<GlobalStats>);
 
-/// An entry: index, file of the rewrite queue, number of the file, offset and length of its block, offset and length in it.
+/// An entry: its index; whether its file is of the rewrite queue; the number of the file; the offset and the length of its block;
+/// its offset and its length within the block.
 pub type Entry = (u64, bool, u64, u64, usize, u32, u32);
 
-/// What a region's table has.
+/// What the table of a region has, as plain data.
 pub struct Region {
     pub id: u64,
     pub entries: Vec<Entry>,
@@ -42,7 +43,7 @@ impl Files {
         Files { queue, parts: parts.collect(), workers, pool: pool(workers) }
     }
 
-    /// Recovers the tables: on one thread by one context, and else as the engine does.
+    /// Recovers the tables: with one worker by a single context, else on several threads, as raft-engine does.
     pub fn recover(&self) -> Result<Tables, String> {
         let context = match self.workers {
             1 => replay_one(&self.parts),
@@ -54,7 +55,7 @@ impl Files {
 }
 
 impl Tables {
-    /// Returns what the tables have, in the order of the regions.
+    /// Returns what each region's table has, in the order of the regions' numbers.
     pub fn regions(&self) -> Vec<Region> {
         let mut found: Vec<Region> = self.0.collect(|_| true).iter().map(|t| region(&t.read())).collect();
         found.sort_by_key(|region| region.id);

@@ -3,10 +3,10 @@
 #
 #   tools/one_process/build.sh <harness> <folder to build in>
 #
-# The harness is no part of this repository: a cargo package `raft-engine` that has raft-engine's modules `memtable` and `pipe_log`
-# under a module `peer`, which reads the batches of a file in memory (`read::{Part, new_context, replay_one, replay_as_crate, pool}`)
-# and shows what a table keeps private (`peer_kvs`, `peer_cleaned`). adapter.rs is put beside `peer::read`; main.rs says how the
-# program is called. RAFT_FFI_ARCHIVE names the archive, as for the tests of rust/.
+# The harness isn't part of this repository. It is a cargo package `raft-engine` with raft-engine's modules `memtable` and `pipe_log`, and a
+# module `peer`, which reads the batches of a file in memory (`read::{Part, new_context, replay_one, replay_as_crate, pool}`) and gives access
+# to what a table keeps private (`peer_kvs`, `peer_cleaned`). adapter.rs is put beside `peer::read`. main.rs says how the program is called.
+# The environment variable RAFT_FFI_ARCHIVE names the archive, as for the tests of rust/. The last line is the path of the program.
 set -euo pipefail
 [ $# = 2 ] || { sed -n '4p' "$0" | sed 's/^# */usage: /' >&2; exit 2; }
 here=$(cd "$(dirname "$0")" && pwd)

@@ -12,7 +12,7 @@ use std::path::{Path, PathBuf};
 use std::time::{Duration, Instant};
 use std::{env, fs, process};
 
-/// Log files in memory.
+/// The files of a case or of a log, in memory.
 struct Case {
     queue: Queue,
     version: Version,
@@ -73,7 +73,7 @@ impl Case {
     }
 }
 
-/// Returns the entries of a table, as the other side has them.
+/// Returns the entries of a region's table, in the form that the adapter has.
 fn entries(tables: &Tables, region: u64) -> Vec<adapter::Entry> {
     let summary = tables.summary(region).expect("a region has a table");
     let first = summary.first_index.unwrap_or_default();
@@ -96,7 +96,7 @@ fn entries(tables: &Tables, region: u64) -> Vec<adapter::Entry> {
     found.into_iter().map(entry).collect()
 }
 
-/// Returns what is different of a region, if something is.
+/// Returns in a word what of a region is different; `None` where nothing is.
 fn region_difference(ours: &Tables, region: &adapter::Region) -> Option<&'static str> {
     let id = region.id;
     if entries(ours, id) != region.entries {
@@ -114,7 +114,8 @@ fn region_difference(ours: &Tables, region: &adapter::Region) -> Option<&'static
     None
 }
 
-/// Returns what is different, if something is, and counts entries and keys.
+/// Returns in words what is different between the tables; `None` where nothing is. It adds the numbers of entries and keys that
+/// it compared to `counted`.
 fn difference(
     ours: &Tables,
     theirs: &adapter::Tables,
@@ -148,6 +149,7 @@ fn difference(
     None
 }
 
+/// Compares both recoveries of each case in a folder, prints what is different, and returns in how many cases something is.
 fn compare(workers: usize, folder: &Path) -> usize {
     let mut cases: Vec<PathBuf> = fs::read_dir(folder)
         .expect("a folder")
@@ -185,7 +187,7 @@ fn compare(workers: usize, folder: &Path) -> usize {
     different
 }
 
-/// Returns how many milliseconds of processor time this process has taken on all its threads.
+/// Returns how many milliseconds of processor time all threads of this process have taken so far.
 fn processor_ms() -> u64 {
     let stat = fs::read_to_string("/proc/self/stat").expect("Linux says how long a process ran");
     let fields: Vec<&str> = stat
@@ -198,7 +200,7 @@ fn processor_ms() -> u64 {
     (ticks(11) + ticks(12)) * 10
 }
 
-/// What the rounds of one side took.
+/// The times of the rounds of one side: of each round by the clock, and the processor time of all together.
 #[derive(Default)]
 struct Times {
     walls: Vec<Duration>,
@@ -206,7 +208,7 @@ struct Times {
 }
 
 impl Times {
-    /// Runs a recovery and keeps its times.
+    /// Makes a recovery, keeps its times, and returns its result.
     fn of<T>(&mut self, recovery: impl FnOnce() -> T) -> T {
         let (start, processor) = (Instant::now(), processor_ms());
         let tables = recovery();
@@ -215,17 +217,18 @@ impl Times {
         tables
     }
 
-    /// Returns the best time in milliseconds.
+    /// Returns the shortest time by the clock, in milliseconds.
     fn best(&self) -> f64 {
         self.walls.iter().min().map_or(0.0, Duration::as_secs_f64) * 1e3
     }
 
-    /// Returns the mean processor time in milliseconds.
+    /// Returns the mean processor time of a round, in milliseconds.
     fn processor(&self) -> f64 {
         self.processor_ms as f64 / self.walls.len() as f64
     }
 }
 
+/// Makes both recoveries of a log in turns, and prints a row with the best times, the processor times and the ratios.
 fn time(workers: usize, rounds: usize, folder: &Path) {
     let case = Case::read(folder);
     let (parts, files) = (case.parts(), case.theirs(workers));

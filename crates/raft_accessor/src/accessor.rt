@@ -32,7 +32,7 @@ pub fn slot_of(id: u64) -> usize
     (hash_u64(id) % 128) as usize
 }
 
-/// Returns `table`, with an `AllocError` made into `Memory`.
+/// Returns the lent table of `table`, its `AllocError` turned into `Memory`.
 ///
 /// # Errors
 ///
@@ -44,11 +44,14 @@ fn lent<'a>(table: AllocResult<&'a MemTable>) -> Result<&'a MemTable>
 }
 
 /// The tables of all regions, how many of their records are live, and a list of the regions that were
-/// cleaned.
+/// cleaned. The tables stand in 128 hash maps (slots), by the hash of their region's id.
 #[derive(Drop)]
 pub struct MemTableAccessor {
+    /// The tables of the 128 slots, slot n at index n.
     slots: Vec<RegionTables>,
+    /// How many records of all tables are live in each queue.
     stats: GlobalStats,
+    /// The ids of the regions that were cleaned, in order.
     cleaned: Vec<u64>,
 }
 
@@ -74,7 +77,7 @@ impl MemTableAccessor {
     ghost use denote.Follow.{follows_so};
     ghost use Rattle.raft_accessor.specs.contracts.accessor.MemTableAccessor.{the_row};
 
-    /// Returns an accessor without tables.
+    /// Returns an accessor without tables, cleaned regions and live records.
     ///
     /// # Errors
     ///
@@ -115,7 +118,7 @@ impl MemTableAccessor {
         self.slots[slot_of(id)].get(id)
     }
 
-    /// Returns the table of the region `id`, and makes an empty one if it has none.
+    /// Returns the table of the region `id`, for which an empty one is made first if it has none.
     ///
     /// # Errors
     ///
@@ -129,13 +132,14 @@ impl MemTableAccessor {
         lent(self.lend(id))
     }
 
-    /// Does what [`MemTableAccessor::get_or_insert`] does for the region `id`, so it makes a table if there is none, but fails
-    /// with `AllocError`, a type that owns no memory: only for such an error can the clause `ends` be proved, which says what the
-    /// accessor is once the borrow of the table ends.
+    /// Returns the table of the region `id`, and makes an empty one if it has none, as
+    /// [`MemTableAccessor::get_or_insert`] does. It fails with `AllocError`, since that type owns no memory:
+    /// only for such an error can the clause `ends` be proved, which says what the accessor is once the
+    /// borrow of the table ends.
     ///
     /// # Errors
     ///
-    /// `AllocError`. The tables are unchanged then.
+    /// `AllocError` if there is no memory. The tables are unchanged then.
     fn lend(&mut self, id: u64) -> AllocResult<&MemTable>
         ensures* ends { sem 𝓛 (follows_so the_row the_row self.entry.ghost_name none (λ _ _. ⊤)
             (λ new. IsTableMade id result self.old new)) }
@@ -145,12 +149,12 @@ impl MemTableAccessor {
         Ok(self.made(id))
     }
 
-    /// Does what [`MemTableAccessor::make`] does for the region `id`, with an error that owns no memory, as
+    /// Makes an empty table for the region `id`, unless it has one. Its error owns no memory, as
     /// [`MemTableAccessor::lend`] needs it.
     ///
     /// # Errors
     ///
-    /// `AllocError`. The tables are unchanged then.
+    /// `AllocError` if there is no memory. The tables are unchanged then.
     fn make_table(&mut self, id: u64) -> AllocResult<()>
         ensures { IsTableMade id result self.old self.new }
     {
@@ -181,12 +185,13 @@ impl MemTableAccessor {
         self.slots[slot_of(id)].make(id, &mut self.stats)
     }
 
-    /// Makes one change of the table of the region `id`, which is made if there is none. Returns how many
-    /// entries a compaction or a truncation dropped, and 0 for any other change.
+    /// Makes one change of the table of the region `id`, for which an empty one is made first if it has none.
+    /// Returns how many entries a compaction or a truncation dropped, and 0 for any other change.
     ///
     /// # Errors
     ///
-    /// Those of [`MemTable::change`]; `Memory`. Tables and counts are unchanged then.
+    /// Those of [`MemTable::change`]; `Memory`. Tables and counts are unchanged then, and no table has been
+    /// made.
     pub fn change(&mut self, id: u64, change: TableChange) -> Result<u64>
         ensures changed { IsTableChanged (after_change (table_in self.old.tables id) change)
             (IsChangeFault (table_in self.old.tables id) self.old.counts change) id result self.old
@@ -200,10 +205,10 @@ impl MemTableAccessor {
         self.slots[slot_of(id)].change(id, change, &mut self.stats)
     }
 
-    /// Sets the first and the last file of the atomic group of the region `id` to `start` and `end`, of
-    /// which `start` is the lesser or the same. Its table is made if there is none. Call it once the End of
-    /// the group is written, for each region that the group names ([`MemTable::apply_rewrite_atomic_group`]
-    /// says why).
+    /// Sets the first and the last file of the atomic group of the region `id` in the rewrite queue to
+    /// `start` and `end`, of which `start` is the lesser or the same. If the region has no table, an empty
+    /// one is made first. Call it for each region that a group names, once the End of the group is written
+    /// ([`MemTable::apply_rewrite_atomic_group`] says why).
     ///
     /// # Errors
     ///
@@ -223,13 +228,13 @@ impl MemTableAccessor {
         self.slots[slot_of(id)].apply_rewrite_atomic_group(id, start, end, &mut self.stats)
     }
 
-    /// Puts `table` under its region's id, in place of the one that is there, which is returned, and counts
-    /// the change.
+    /// Puts `table` under its region's id `id`, and counts its records as live. Returns the table that it
+    /// replaces, whose records are no longer counted, or `None` if there was none.
     ///
     /// # Errors
     ///
-    /// `Full` if more than 2^64 - 1 records would be live in a queue beside those of the table that is
-    /// replaced; `Memory`. Tables and counts are unchanged then, and `table` is dropped.
+    /// `Full` if a queue would have more than 2^64 - 1 live records, those of the replaced table counted too;
+    /// `Memory`. Tables and counts are unchanged then, and `table` is dropped.
     pub fn insert(&mut self, id: u64, table: MemTable) -> Result<Option<MemTable>>
         requires { table.region_id ≡ id }
         ensures ok { OnOk result (self.new.tables ≡ finite.insert self.old.tables id table) }
@@ -247,13 +252,13 @@ impl MemTableAccessor {
         self.slots[slot_of(id)].insert(id, table, &mut self.stats)
     }
 
-    /// Removes the table of the region `id` and returns it, or `None` if it has none, and subtracts its
-    /// records from the live counts. With `record_tombstone` the region is listed as cleaned, even if it has
-    /// no table.
+    /// Removes the table of the region `id` and returns it, or `None` if there is none. Its records are
+    /// subtracted from the live counts. With `record_tombstone` the region is also appended to the cleaned
+    /// regions, even if it has no table.
     ///
     /// # Errors
     ///
-    /// `Memory` alone, and only if the region is to be listed. The accessor is unchanged then.
+    /// `Memory`, which can come only with `record_tombstone`. The accessor is unchanged then.
     pub fn remove(&mut self, id: u64, record_tombstone: bool) -> Result<Option<MemTable>>
         ensures tables { OnOk result (self.new.tables ≡ finite.remove self.old.tables id) }
         ensures removed { IfOk result (λ t. t ≡ finite.get self.old.tables id) }
@@ -270,13 +275,15 @@ impl MemTableAccessor {
         Ok(unboxed(self.take(id)))
     }
 
-    /// Merges the tables of a newer neighbor, each into the table of its region, which is made if there is
-    /// none ([`MemTable::merge_newer_neighbor`]). The list of cleaned regions of `rhs` is dropped.
+    /// Merges each table of `rhs` into the table of its region, as [`MemTable::merge_newer_neighbor`] does:
+    /// `rhs` has what comes directly after these tables in the same queue. A region without a table gets an
+    /// empty one first. The list of cleaned regions of `rhs` is dropped.
     ///
     /// # Errors
     ///
     /// Those of [`MemTable::merge_newer_neighbor`], for the first table that is refused. Each other table is
-    /// then merged or unchanged, and so is that one unless memory was refused; the rest of `rhs` is lost.
+    /// merged or unchanged then. The refused one is unchanged unless the error is `Memory`. What is left of
+    /// `rhs` is dropped, and the counts still agree with the tables.
     pub fn merge_newer_neighbor(&mut self, rhs: MemTableAccessor) -> Result<()>
         ensures ok { OnOk result (AreTablesMerged with_newer self.old.tables rhs.tables
             self.new.tables) }
@@ -291,13 +298,15 @@ impl MemTableAccessor {
         self.merge_neighbors(Neighbor::Newer, rhs)
     }
 
-    /// Merges the appended tables of `rhs`, each into the rewritten table of its region, which is made if
-    /// there is none ([`MemTable::merge_append_table`]). The list of cleaned regions of `rhs` is dropped.
+    /// Merges each table of `rhs`, which are those of the append queue, into the rewritten table of its
+    /// region, as [`MemTable::merge_append_table`] does. A region without a table gets an empty one first.
+    /// The list of cleaned regions of `rhs` is dropped.
     ///
     /// # Errors
     ///
     /// Those of [`MemTable::merge_append_table`], for the first table that is refused. Each other table is
-    /// then merged or unchanged, and so is that one unless memory was refused; the rest of `rhs` is lost.
+    /// merged or unchanged then. The refused one is unchanged unless the error is `Memory`. What is left of
+    /// `rhs` is dropped, and the counts still agree with the tables.
     pub fn merge_append_table(&mut self, rhs: MemTableAccessor) -> Result<()>
         ensures ok { OnOk result (AreTablesMerged with_appended self.old.tables rhs.tables
             self.new.tables) }
@@ -324,8 +333,8 @@ impl MemTableAccessor {
         true
     }
 
-    /// Returns what `f` makes of `init` and all tables: it is called with what it returned before, and each
-    /// table once, in no set order.
+    /// Calls `f` with `init` and a table, then with what it returned and the next table, and so on, once for
+    /// each table, in no set order. Returns what the last call returned, or `init` if there are no tables.
     pub fn fold<B: Drop, F: FnMut(B, &MemTable) -> B>(&self, init: B, mut f: F) -> B
     where
         F: Drop,
@@ -356,7 +365,7 @@ impl MemTableAccessor {
         self.collect(all)
     }
 
-    /// Returns the tables for which `f` returns true. It is called with each table once, in no set order.
+    /// Returns the tables for which `f` returns true, in no set order. `f` is called once with each table.
     ///
     /// # Errors
     ///
@@ -375,7 +384,7 @@ impl MemTableAccessor {
         Ok(kept)
     }
 
-    /// Returns how many entries all tables have together, and how many keys with a value.
+    /// Returns two totals over all tables: how many entries they have, and how many keys with a value.
     pub fn totals(&self) -> (u128, u128)
         ensures entries { result.0 ≡ total (λ (t : Table). length t.entries) self.now.tables }
         ensures keys { result.1 ≡ total (λ (t : Table). finite.len t.keys) self.now.tables }
@@ -389,8 +398,8 @@ impl MemTableAccessor {
         (entries, records - entries)
     }
 
-    /// Removes the table of the region `id` and returns it in its box, or `None` if it has none, and
-    /// subtracts its records from the live counts.
+    /// Removes the table of the region `id` and returns it in its box, or `None` if there is none. Its
+    /// records are subtracted from the live counts.
     #[doc(hidden)]
     pub fn take(&mut self, id: u64) -> Option<BoxedTable>
         ensures taken { IsTableTaken id result self.old self.new }
@@ -398,13 +407,13 @@ impl MemTableAccessor {
         self.slots[slot_of(id)].take(id, &mut self.stats)
     }
 
-    /// Merges the tables of `rhs`, each into the table of its region: newer ones, or appended ones, as `kind`
-    /// says.
+    /// Merges each table of `rhs` into the table of its region, which is made if there is none. `kind` says
+    /// what they are: newer ones of the same queue, or those of the append queue over rewritten ones.
     ///
     /// # Errors
     ///
     /// Those of [`MemTable::merge_newer_neighbor`] or [`MemTable::merge_append_table`], for the first table
-    /// that is refused. Each other table is then merged or unchanged; the rest of `rhs` is lost.
+    /// that is refused. Each other table is merged or unchanged then, and what is left of `rhs` is dropped.
     fn merge_neighbors(&mut self, kind: Neighbor, rhs: MemTableAccessor) -> Result<()>
         ensures { AreMerged kind self.old rhs.tables result self.new }
     {
@@ -414,12 +423,12 @@ impl MemTableAccessor {
         Ok(())
     }
 
-    /// Merges the tables of one slot, each into the table of its region.
+    /// Merges each table of one slot, `newer`, into the table of its region, as `kind` says.
     ///
     /// # Errors
     ///
-    /// Those of [`merge_neighbors`](MemTableAccessor::merge_neighbors). Some tables are merged then, and the
-    /// rest of `newer` is lost.
+    /// Those of [`merge_neighbors`](MemTableAccessor::merge_neighbors). Some tables are merged then, and what
+    /// is left of `newer` is dropped.
     fn merge_slot(&mut self, kind: Neighbor, newer: RegionTables) -> Result<()>
         ensures { AreMerged kind self.old newer result self.new }
     {
@@ -429,12 +438,13 @@ impl MemTableAccessor {
         Ok(())
     }
 
-    /// Merges `newer` into the table of the region `id`, which is made if there is none.
+    /// Merges `newer`, a table of the region `id`, into the table of that region, as `kind` says. If the
+    /// region has none, an empty one is made first.
     ///
     /// # Errors
     ///
     /// Those of [`merge_neighbors`](MemTableAccessor::merge_neighbors). The table of the region is unchanged
-    /// then, unless memory was refused.
+    /// then, unless the error is `Memory`. `newer` is dropped.
     fn merge_table(&mut self, kind: Neighbor, id: u64, newer: BoxedTable) -> Result<()>
         requires { newer.region_id ≡ id }
         ensures { IsMergedIn kind id newer self.old result self.new }

@@ -1,4 +1,4 @@
-//! A test of new items: whether the tables would accept them.
+//! A check of new items: whether the tables would accept them, one after the other.
 
 ghost use Rattle.std.specs.Prelude.{◌≡◌, ℕ, List, [], IfOk, IfErr, OnOk, option_map};
 ghost use Rattle.raft_accessor.specs.Common.{EntryIndex, item_of, pair_of, table_of, below, from, Tables, table_in, IsExtentOf, commanded, TakesRun, IsRunCheckFault, AreBefore, TakesNext, IsNextFault, IsPairAccepted, IsPairCheckFault, known_extents};
@@ -9,7 +9,8 @@ use raft_records::{Command, KeyValue, LogItem, LogItemContent, OpType, is_reserv
 use raft_table::{MemTable, hole_error};
 use std::alloc::Global;
 
-/// The index of the first entry of a region, and the index after its last one. Both are 0 without entries.
+/// Where the entries of a region begin and end: the index of the first one, and the index after the last one.
+/// Both are 0 without entries.
 #[derive(Clone, Copy, Debug)]
 pub(crate) struct Extent {
     first: u64,
@@ -42,7 +43,7 @@ impl Extent {
         }
     }
 
-    /// Returns the extent of the entries that a compaction to `index` leaves: those at or above it.
+    /// Returns what is left of the extent by a compaction to `index`: the entries at or above it.
     fn compacted(self, index: u64) -> Extent
         ensures { (es : List EntryIndex) → IsExtentOf self es → IsExtentOf result (from index es) }
     {
@@ -55,7 +56,7 @@ impl Extent {
         }
     }
 
-    /// Returns the extent of the entries that a truncation at `index` leaves: those below it.
+    /// Returns what is left of the extent by a truncation at `index`: the entries below it.
     fn truncated(self, index: u64) -> Extent
         ensures { (es : List EntryIndex) → IsExtentOf self es → IsExtentOf result (below index es) }
     {
@@ -68,7 +69,8 @@ impl Extent {
         }
     }
 
-    /// Returns the extent of the entries that `command` leaves.
+    /// Returns the extent after `command`: none after a `Clean`, else what the compaction or truncation
+    /// leaves.
     fn commanded(self, command: &Command) -> Extent
         ensures { (es : List EntryIndex) → IsExtentOf self es
             → IsExtentOf result (commanded command.now es) }
@@ -80,13 +82,13 @@ impl Extent {
         }
     }
 
-    /// Returns the extent of the entries of the region `id` once `run` has been appended, as
-    /// [`MemTable::append`] would do it. A run without entries changes nothing.
+    /// Returns the extent after `run` has been appended, by the rules of [`MemTable::append`]. A run without
+    /// entries changes nothing. `id` is the region, for the text of an error.
     ///
     /// # Errors
     ///
-    /// `Corruption` if its indexes aren't consecutive, or it begins below the first entry or leaves a hole
-    /// behind the last one; `Memory` if there is none for the text.
+    /// `Corruption` if the indexes of the run aren't consecutive, or it begins below the first entry or
+    /// leaves a hole after the last one; `Memory` if there is none for the text.
     fn with_run(self, alloc: Global, id: u64, run: &[EntryIndex]) -> Result<Extent>
         ensures ok { IfOk result (TakesRun self run.now) }
         ensures fault { IfErr result (IsRunCheckFault self run.now) }
@@ -117,8 +119,8 @@ impl Extent {
     }
 }
 
-/// Where the entries of regions begin and end after the items so far. A region that no item named so far has
-/// the entries of its table.
+/// Checks items one after the other, each as if those before it had been written. It keeps the extents of the
+/// regions whose entries they change. Any other region has the extent of its table.
 #[derive(Drop)]
 pub(crate) struct AppendCheck {
     extents: KnownExtents,
@@ -126,7 +128,7 @@ pub(crate) struct AppendCheck {
 }
 
 impl AppendCheck {
-    /// Returns a check that has seen no item.
+    /// Returns a check that has seen no item. It allocates nothing yet.
     pub(crate) fn new(alloc: Global) -> AppendCheck
         ensures { known_extents result.extents ≡ [] }
     {
@@ -136,11 +138,13 @@ impl AppendCheck {
         }
     }
 
-    /// Takes in the next item. `table` is the table that its region had before all items, if there was one.
+    /// Checks the next item, and notes where the entries of its region begin and end after it. `table` is the
+    /// table that this region had before all items, or `None` if it had none.
     ///
     /// # Errors
     ///
-    /// `Corruption` if the tables would refuse the item, with the region and the reason; `Memory`.
+    /// `Corruption` if the tables would refuse the item, with the region and the reason; `Memory`. Nothing is
+    /// noted then.
     pub(crate) fn take(&mut self, item: &LogItem, table: Option<&MemTable>) -> Result<()>
         ensures ok { OnOk result (TakesNext (known_extents self.old.extents)
             (option_map (λ t. t.now) table.entry) (item_of item.now) (known_extents self.new.extents)) }
@@ -161,8 +165,8 @@ impl AppendCheck {
         }
     }
 
-    /// Returns the extent of the entries of the region `id` after the items so far. `table` is the table that
-    /// the region had before all items, if there was one.
+    /// Returns the extent of the region `id` after the items so far. `table` is the table that the region had
+    /// before all items, or `None` if it had none.
     fn extent(&self, id: u64, table: Option<&MemTable>) -> Extent
         ensures { (before now : Tables)
             → AreBefore (known_extents self.now.extents) id (option_map (λ t. t.now) table.entry) before now
@@ -175,12 +179,12 @@ impl AppendCheck {
     }
 }
 
-/// Checks that `kv`, a change of a key of the region `id`, can be taken in: all can but a put without a
-/// value, unless it is under the key of group markers.
+/// Checks that `kv`, a change of a key of the region `id`, has a value if it is a put. Under the reserved key
+/// of group markers it may lack one.
 ///
 /// # Errors
 ///
-/// `Corruption` if it can't; `Memory` if there is none for its text.
+/// `Corruption` for a put without a value; `Memory` if there is none for its text.
 fn check_pair(alloc: Global, id: u64, kv: &KeyValue) -> Result<()>
     ensures ok { OnOk result (IsPairAccepted (pair_of kv.now)) }
     ensures fault { IfErr result (IsPairCheckFault (pair_of kv.now)) }

@@ -1,4 +1,4 @@
-//! A table as a slot keeps it.
+//! A table in a box of its own, as the map of a slot keeps it.
 
 ghost use Rattle.std.specs.Prelude.{◌≡◌, IfOk};
 ghost use Rattle.raft_accessor.specs.Common.{empty_table};
@@ -8,9 +8,10 @@ use raft_table::MemTable;
 use std::alloc::Global;
 use std::marker::Model;
 
-/// A table in a box, so that a map of many tables is small, and moves little when it grows.
+/// A table in a box of its own. So a map of many tables is small, and moves little when it grows.
 #[derive(Drop)]
 pub struct BoxedTable {
+    /// The box with the table.
     pub(crate) boxed: Box<MemTable>,
 }
 
@@ -49,7 +50,7 @@ impl BoxedTable {
         BoxedTable::new(alloc, MemTable::new(alloc, id))
     }
 
-    /// Returns the table in the box, to be read.
+    /// Returns the table, to be read.
     #[doc(hidden)]
     pub fn get(&self) -> &MemTable
         ensures { result.now ≡ self.now }
@@ -57,7 +58,7 @@ impl BoxedTable {
         &self.boxed
     }
 
-    /// Takes the table out of its box.
+    /// Returns the table, and frees its box.
     pub(crate) fn into_table(self) -> MemTable
         ensures { result ≡ self }
     {
@@ -65,7 +66,7 @@ impl BoxedTable {
     }
 }
 
-/// Takes `table` out of its box, if there is one.
+/// Takes `table` out of its box, if there is one, and frees the box.
 pub(crate) fn unboxed(table: Option<BoxedTable>) -> Option<MemTable>
     ensures { result ≡ table }
 {

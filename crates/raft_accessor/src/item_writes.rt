@@ -1,4 +1,4 @@
-//! Log items written to the tables of their regions.
+//! Log items written to the tables of one slot: new ones, ones that are read again, and rewritten ones.
 
 ghost use Rattle.std.specs.Prelude.{◌≢◌, ℕ, List, map, Option, OnOk, IfErr};
 ghost use Rattle.raft_accessor.specs.Common.{IsCorruption, item_of, content_of, entries_item, command_item, pair, pair_of, Counts, Table, IsCounted, table_in, AreAcceptedOncePlaced, AreRefusedOncePlaced, IsAppendCheckFault, IsItemWritten};
@@ -11,21 +11,28 @@ use raft_history::RegionStep;
 use raft_records::{Command, KeyValue, LogItem, LogItemContent, OpType, is_reserved};
 use raft_table::{GlobalStats, MemTable, is_run};
 
-/// How items are written.
+/// How items are written to tables.
 #[doc(hidden)]
 #[derive(Clone, Copy)]
 pub enum Writing {
     /// As new ones of the append queue.
     Appending,
-    /// As read again from a queue.
+    /// As ones that were read again from this queue.
     Replaying(LogQueue),
-    /// By a rewriting with this gate to the file of this number.
+    /// As ones that were rewritten to the file of the rewrite queue that has the second number. The first is
+    /// the gate, which limits what moves ([`RegionTables::rewrite_item`]).
     Rewriting(Option<FileSeq>, FileSeq),
 }
 
 impl RegionTables {
-    /// Does what [`MemTableAccessor::check_append_writes`](crate::MemTableAccessor::check_append_writes) does
-    /// for `items` whose regions are all in this slot, with its errors.
+    /// Checks that [`append_item`](RegionTables::append_item) would accept `items`, in order, once their
+    /// entries have a place and their key values a file in the append queue, whatever place and file. All
+    /// their regions are of this slot. It changes nothing.
+    ///
+    /// # Errors
+    ///
+    /// `Corruption` if an item would be refused; the text names the region and the reason and, for entries,
+    /// the index at which they begin. `Memory`.
     pub fn check_append_items(&self, items: &[LogItem]) -> Result<()>
         ensures ok { OnOk result (AreAcceptedOncePlaced self.now (map item_of items.now)) }
         ensures refused { IfErr result (λ e. e ≢ Error.Memory
@@ -39,13 +46,14 @@ impl RegionTables {
         Ok(())
     }
 
-    /// Writes one item to the table of its region, as `how` says. In the append queue an item that cleans its
-    /// region appends it to `cleaned`.
+    /// Writes one item to the table of its region, as `how` says. Unless it is rewritten or read from the
+    /// rewrite queue, a `Clean` also appends its region to `cleaned`. `stats` are the live counts, which
+    /// follow the change.
     ///
     /// # Errors
     ///
     /// Those of [`RegionTables::append_item`], [`RegionTables::replay_item`] or
-    /// [`RegionTables::rewrite_item`]. Tables, counts and list are unchanged then.
+    /// [`RegionTables::rewrite_item`]. Tables, counts and `cleaned` are unchanged then.
     #[inline(always)]
     pub fn write_item(
         &mut self,
@@ -65,14 +73,15 @@ impl RegionTables {
         }
     }
 
-    /// Writes a new item of the append queue to the table of its region. An item that cleans its region
-    /// appends it to `cleaned`.
+    /// Writes a new item of the append queue to the table of its region. A `Clean` also appends the region to
+    /// `cleaned`. `stats` are the live counts, which follow the change.
     ///
     /// # Errors
     ///
-    /// `Corruption` if the entries aren't a run of the append queue or the start rule of [`MemTable::append`]
-    /// refuses them, and if a put has no value, no file or a file of the rewrite queue; `Full` if more than
-    /// 2^64 - 1 records would be live; `Memory`. Tables, counts and list are unchanged then.
+    /// `Corruption` if the entries aren't a run of the append queue or [`MemTable::append`] refuses where
+    /// they start, and if a put has no value, no file or a file of the rewrite queue; `Full` if more than
+    /// 2^64 - 1 records would be live in the queue; `Memory`. Tables, counts and `cleaned` are unchanged
+    /// then.
     pub fn append_item(
         &mut self,
         item: LogItem,
@@ -101,16 +110,17 @@ impl RegionTables {
         }
     }
 
-    /// Writes an item that was read from `queue` to the table of its region, by its step. In the append queue
-    /// an item that cleans its region appends it to `cleaned`. Recovery takes the same steps beside the
-    /// region marks, by `MarkedTables::take_step` of `raft_contexts`.
+    /// Writes an item that was read from `queue` to the table of its region, by its step; a group marker
+    /// changes nothing. In the append queue a `Clean` also appends the region to `cleaned`. `stats` are the
+    /// live counts, which follow the change. Recovery takes the same steps beside the region marks, by
+    /// `MarkedTables::take_step` of `raft_contexts`.
     ///
     /// # Errors
     ///
-    /// `Corruption` if the entries aren't a run of `queue` or the start rule of its replay refuses them, and
-    /// if a put has no value, no file or a file of the other queue; `InvalidArgument` for entries if the
-    /// table has records of the other queue; `Full` if more than 2^64 - 1 records would be live; `Memory`.
-    /// Tables, counts and list are unchanged then.
+    /// `Corruption` if the entries aren't a run of `queue` or would leave a hole in the append queue, and if
+    /// a put has no value, no file or a file of the other queue; `InvalidArgument` for entries if the table
+    /// has records of the other queue; `Full` if more than 2^64 - 1 records would be live in the queue;
+    /// `Memory`. Tables, counts and `cleaned` are unchanged then.
     pub fn replay_item(
         &mut self,
         queue: LogQueue,
@@ -130,13 +140,17 @@ impl RegionTables {
     }
 
     /// Writes an item that was rewritten to the file numbered `seq` of the rewrite queue to the table of its
-    /// region: the places of its entries, or the file of its key. A `Clean` changes nothing.
+    /// region: entries get their new places, or a key its new file. `gate` limits what moves. With one,
+    /// entries move whose file is numbered at or below it; without one, those that are rewritten already. A
+    /// key value in an append file moves only with a gate at or above that file, a rewritten one always. A
+    /// `Clean` and a group marker change nothing. `stats` are the live counts, which follow the change.
     ///
     /// # Errors
     ///
     /// `Corruption` for a `Compact`, a `Truncate`, a deletion and a put without a value, if the entries
-    /// aren't a run of the rewrite queue, and if the table's call refuses what it is asked; `Full` if more
-    /// than 2^64 - 1 records would be live; `Memory`. Tables and counts are unchanged then.
+    /// aren't a run of the rewrite queue, and where [`MemTable::rewrite`] or [`MemTable::rewrite_key`]
+    /// returns it; `Full` if more than 2^64 - 1 records would be live in the rewrite queue; `Memory`. Tables
+    /// and counts are unchanged then.
     pub fn rewrite_item(
         &mut self,
         item: LogItem,
@@ -162,19 +176,19 @@ impl RegionTables {
         }
     }
 
-    /// Returns a `Corruption` with `text`, or `Memory` if there is none for it.
+    /// Returns a `Corruption` with the text `text`, or `Memory` if there is none for the text.
     fn corruption(&self, text: &str) -> Error
         ensures { IsCorruption text.now result }
     {
         Error::corruption(self.alloc, text)
     }
 
-    /// Writes new entries of the append queue to the table of the region `id`.
+    /// Appends `run`, new entries of the append queue, to the table of the region `id`.
     ///
     /// # Errors
     ///
-    /// `Corruption` if they aren't a run of the append queue or [`MemTable::append`] refuses them so; `Full`;
-    /// `Memory`. Tables and counts are unchanged then.
+    /// `Corruption` if they aren't a run of the append queue; those of [`MemTable::append`]. Tables and
+    /// counts are unchanged then.
     fn append_entries(
         &mut self,
         id: u64,
@@ -194,12 +208,14 @@ impl RegionTables {
         self.append_run(id, run, stats)
     }
 
-    /// Gives entries of the region `id` the places of `run`, which was rewritten.
+    /// Gives entries of the region `id` the places of `run`, which was written to the rewrite queue. With a
+    /// `gate`, entries move whose file is numbered at or below it; without one, those that are rewritten
+    /// already.
     ///
     /// # Errors
     ///
-    /// `Corruption` if it isn't a run of the rewrite queue or [`MemTable::rewrite`] refuses it so; `Full`;
-    /// `Memory`. Tables and counts are unchanged then.
+    /// `Corruption` if `run` isn't a run of the rewrite queue; those of [`MemTable::rewrite`]. Tables and
+    /// counts are unchanged then.
     fn rewrite_entries(
         &mut self,
         id: u64,
@@ -221,7 +237,8 @@ impl RegionTables {
         self.rewrite_run(id, run, gate, stats)
     }
 
-    /// Accepts a `Clean` among rewritten items, which changes nothing there, and refuses any other command.
+    /// Checks a command among rewritten items: a `Clean` is accepted and changes nothing, any other is
+    /// refused.
     ///
     /// # Errors
     ///
@@ -238,12 +255,13 @@ impl RegionTables {
         }
     }
 
-    /// Checks that `item` may be in `queue`.
+    /// Checks that `item`, which was read from `queue`, may stand there.
     ///
     /// # Errors
     ///
-    /// `Corruption` if its entries aren't a run of the queue, or a put, other than one under the key of group
-    /// markers, has no value, no file or a file of the other queue; `Memory` if there is none for the text.
+    /// `Corruption` if its entries aren't a run of the queue, or a put, other than one under the reserved key
+    /// of group markers, has no value, no file or a file of the other queue; `Memory` if there is none for
+    /// the text.
     fn check_replayed(&self, queue: LogQueue, item: &LogItem) -> Result<()>
         ensures ok { OnOk result (IsReplayed queue (content_of item.now.content)) }
         ensures fault { (id : ℕ) (o : Option Table) (live : ℕ) → IfErr result
@@ -261,7 +279,8 @@ impl RegionTables {
         }
     }
 
-    /// Checks that a change of a key may be in `queue`. Under the key of group markers any may.
+    /// Checks that `kv`, a change of a key that was read from `queue`, may stand there. Under the reserved
+    /// key of group markers any may.
     ///
     /// # Errors
     ///
@@ -288,13 +307,14 @@ impl RegionTables {
         }
     }
 
-    /// Moves a key value of the region `id` that was rewritten to the file numbered `seq`, if the `gate` lets
-    /// it. A group marker changes nothing.
+    /// Moves the value of a key of the region `id` to the file numbered `seq` of the rewrite queue. One in an
+    /// append file moves only with a `gate` at or above that file, a rewritten one always. A group marker
+    /// changes nothing.
     ///
     /// # Errors
     ///
-    /// `Corruption` for a deletion and a put without a value, and if [`MemTable::rewrite_key`] refuses it;
-    /// `Full`; `Memory`. Tables and counts are unchanged then.
+    /// `Corruption` for a deletion and a put without a value; those of [`MemTable::rewrite_key`]. Tables and
+    /// counts are unchanged then.
     fn rewrite_pair(
         &mut self,
         id: u64,

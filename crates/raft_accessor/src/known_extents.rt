@@ -1,4 +1,4 @@
-//! Where the entries of regions begin and end.
+//! Where the entries of some regions begin and end, by the id of the region.
 
 ghost use Rattle.std.specs.Prelude.{◌≡◌, ◌↔◌, ℕ, [], cond, nat_eq, IfErr, IsTrue, OnOk, Some};
 ghost use Rattle.raft_accessor.specs.Common.{IsFirst, known_extents, lookup};
@@ -8,16 +8,18 @@ use raft_base::{Error, Result};
 use std::alloc::Global;
 use std::collections::HashMap;
 
-/// Where the entries of some regions begin and end. What is known of the first region is kept beside the map
-/// of the others, so that items of one region need no map.
+/// The extents of some regions, each by the region's id. The first region that is noted is kept beside the
+/// map of the others, so that items of one region alone need no map.
 #[derive(Drop)]
 pub(crate) struct KnownExtents {
+    /// The first region that was noted, with its extent.
     first: Option<(u64, Extent)>,
+    /// The extents of the other regions.
     others: HashMap<u64, Extent>,
 }
 
 impl KnownExtents {
-    /// Returns the extents of no region. It allocates nothing yet.
+    /// Returns a set without extents. It allocates nothing yet.
     pub(crate) fn new(alloc: Global) -> KnownExtents
         ensures { known_extents result ≡ [] }
     {
@@ -27,7 +29,7 @@ impl KnownExtents {
         }
     }
 
-    /// Returns where the entries of the region `id` begin and end, or `None` if that isn't known.
+    /// Returns the extent of the region `id`, or `None` if none was noted.
     pub(crate) fn get(&self, id: u64) -> Option<Extent>
         ensures { result ≡ lookup (nat_eq id) (known_extents self.now) }
     {
@@ -43,18 +45,19 @@ impl KnownExtents {
         }
     }
 
-    /// Returns what is known of the region `id`, which isn't the first one.
+    /// Returns the extent of the region `id` in the map, or `None` if it isn't there. The first region isn't
+    /// in the map.
     fn of_other(&self, id: u64) -> Option<Extent>
         ensures { result ≡ lookup (nat_eq id) self.now.others.entries }
     {
         self.others.get(&id).copied()
     }
 
-    /// Notes where the entries of the region `id` begin and end now, in place of what was known of it.
+    /// Notes `extent` as the extent of the region `id`, in place of the one that was noted.
     ///
     /// # Errors
     ///
-    /// `Memory` alone.
+    /// `Memory` alone. What was noted is unchanged then.
     pub(crate) fn insert(&mut self, id: u64, extent: Extent) -> Result<()>
         ensures ok { OnOk result ((q : ℕ) → lookup (nat_eq q) (known_extents self.new)
             ≡ cond (nat_eq id q) (Some extent) (lookup (nat_eq q) (known_extents self.old))) }
@@ -68,7 +71,7 @@ impl KnownExtents {
         Ok(())
     }
 
-    /// Tests whether `id` is the first region, or becomes it, since nothing is known of any.
+    /// Tests whether `id` is the region that is kept beside the map, or will be, since none was noted yet.
     fn is_first(&self, id: u64) -> bool
         ensures { IsTrue result ↔ IsFirst id self.now.first }
     {

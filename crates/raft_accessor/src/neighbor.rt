@@ -1,10 +1,10 @@
-//! Which tables are merged into those that are there.
+//! The two ways in which tables are merged into others.
 
-/// Which kind of tables is merged into those that are there.
+/// How tables that are merged into others are related to these.
 #[derive(Clone, Copy, PartialEq, Eq, Debug)]
 pub enum Neighbor {
-    /// Those of the steps that follow, in the same queue.
+    /// They have the steps that follow directly, in the same queue.
     Newer,
-    /// Those of the append queue, into those of the rewrite queue.
+    /// They are those of the append queue; the others are those of the rewrite queue.
     Appended,
 }

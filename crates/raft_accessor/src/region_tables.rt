@@ -1,4 +1,4 @@
-//! The tables of some regions.
+//! The tables of the regions of one slot.
 
 ghost use Rattle.std.specs.Prelude.{◌≡◌, ◌≢◌, ◌≤◌, ◌+◌, ◌↔◌, ℕ, nat_eq, List, map, length, IsPermutation, IsTrue, OnOk, IfErr, IfSome, Some, None, option_map};
 ghost use Rattle.raft_accessor.specs.Common.{IsChangeTried, IsDistinct, FoldsTo, keys_of, lookup, LogQueue, Append, Rewrite, total, Tables, run_shown, Table, IsCounted, IsRecounted, IsRunIn, table_in, live_in_all, with_neighbor};
@@ -20,12 +20,14 @@ use std::collections::HashMap;
 use std::collections::hash_map::IntoIter;
 use std::marker::Model;
 
-/// The tables of the regions of one slot, each under its region's id. Calls that change their records also
-/// change the live counts `stats`, in which these records must be counted.
+/// The tables of the regions of one slot, each under its region's id. Calls that change records also change
+/// the live counts, `stats`, which the caller keeps. The records of the tables must be counted there.
 #[doc(hidden)]
 #[derive(Drop)]
 pub struct RegionTables {
+    /// The tables, each under its region's id.
     tables: HashMap<u64, BoxedTable>,
+    /// The allocator of new tables.
     pub(crate) alloc: Global,
 }
 
@@ -75,8 +77,8 @@ impl RegionTables {
         }
     }
 
-    /// Appends the tables for which `f` returns true to `tables`, in no set order: the part of
-    /// [`MemTableAccessor::collect`](crate::MemTableAccessor::collect) for one slot.
+    /// Appends the tables for which `f` returns true to `tables`, in no set order. `f` is called once with
+    /// each table of the slot.
     ///
     /// # Errors
     ///
@@ -117,8 +119,9 @@ impl RegionTables {
         count
     }
 
-    /// Returns what `f` makes of `init` and all tables: it is called with what it returned before, and each
-    /// table once, in no set order.
+    /// Calls `f` with `init` and a table of the slot, then with what it returned and the next table, and so
+    /// on, once for each table, in no set order. Returns what the last call returned, or `init` if there are
+    /// no tables.
     pub fn fold<B: Drop, F: FnMut(B, &MemTable) -> B>(&self, init: B, f: &mut F) -> B
         requires { (state : F) (x : _) (t : _) → F.pre state x t }
         ensures { (ts : List Table) × IsPermutation ts (finite.values self.now)
@@ -132,6 +135,7 @@ impl RegionTables {
     }
 
     /// Appends the region ids of the tables for which `wanted` returns true to `ids`, in no set order.
+    /// `wanted` is called once with each table of the slot.
     ///
     /// # Errors
     ///
@@ -163,7 +167,7 @@ impl RegionTables {
         let _ = &self.tables;
     }
 
-    /// Makes an empty table for the region `id`, unless it has one.
+    /// Makes an empty table for the region `id`, unless it has one. The live counts `stats` stay the same.
     ///
     /// # Errors
     ///
@@ -177,7 +181,13 @@ impl RegionTables {
         self.update(id, stats, |_, _| Ok(()))
     }
 
-    /// Does what [`MemTableAccessor::change`](crate::MemTableAccessor::change) does, with its errors.
+    /// Makes one change of the table of the region `id`, for which an empty one is made first if it has none.
+    /// Returns how many entries a compaction or a truncation dropped, and 0 for any other change.
+    ///
+    /// # Errors
+    ///
+    /// Those of [`MemTable::change`]; `Memory`. Tables and counts are unchanged then, and no table has been
+    /// made.
     pub fn change(&mut self, id: u64, change: TableChange, stats: &mut GlobalStats) -> Result<u64>
         requires { IsCounted (table_in self.old id) stats.old }
         ensures { IsChangeTried change id self.old stats.old result self.new stats.new }
@@ -185,10 +195,11 @@ impl RegionTables {
         self.update(id, stats, move |table, stats| table.change(change, stats))
     }
 
-    /// Puts a run that was read from `queue` into the table of the region `id`, which is made if there is
-    /// none. Returns the index of the first entry that the table had before, and the index after the last
-    /// one; both are 0 without entries. Returns `None`, and changes nothing, if the table refuses the run or
-    /// there is no memory.
+    /// Puts `run`, which was read from `queue`, into the table of the region `id`. A region without a table
+    /// gets an empty one first. Returns the index of the first entry that the table had before and the index
+    /// after the last one, both 0 if it had none.
+    ///
+    /// Returns `None`, and changes nothing, if the table would refuse the run or there is no memory.
     #[inline(always)]
     pub(crate) fn try_replay(
         &mut self,
@@ -212,7 +223,9 @@ impl RegionTables {
         Some(ends)
     }
 
-    /// Does what [`RegionTables::try_replay`] does for a region `id` without a table.
+    /// Puts `run`, which was read from `queue`, into a new table of the region `id`, which has none. Returns
+    /// two zeros, as [`RegionTables::try_replay`] does for a table that had no entries. Returns `None`, and
+    /// makes no table, if that would refuse the run or there is no memory.
     #[inline(always)]
     fn try_replay_first(
         &mut self,
@@ -241,8 +254,9 @@ impl RegionTables {
         }
     }
 
-    /// Sets the first and the last file of the atomic group of the region `id` to `start` and `end`, of
-    /// which `start` is the lesser or the same. Its table is made if there is none.
+    /// Sets the first and the last file of the atomic group of the region `id` in the rewrite queue to
+    /// `start` and `end`, of which `start` is the lesser or the same. If the region has no table, an empty
+    /// one is made first. The live counts stay the same.
     ///
     /// # Errors
     ///
@@ -276,12 +290,13 @@ impl RegionTables {
         self.tables.into_iter()
     }
 
-    /// Merges `newer` into the table of the region `id`, which is made if there is none, as `kind` says.
+    /// Merges `newer`, a table of the region `id`, into the table of that region, as `kind` says. If the
+    /// region has none, an empty one is made first, which stays even if the merge is refused.
     ///
     /// # Errors
     ///
     /// Those of [`MemTable::merge_newer_neighbor`] or [`MemTable::merge_append_table`]. The table of the
-    /// region is unchanged then, unless memory was refused.
+    /// region is unchanged then, unless the error is `Memory`. `newer` is dropped.
     pub(crate) fn merge_neighbor(
         &mut self,
         kind: Neighbor,
@@ -300,12 +315,13 @@ impl RegionTables {
         })
     }
 
-    /// Does what [`RegionTables::update`] does, but keeps what a refused change leaves, also in a table that
-    /// was made for it.
+    /// Calls `change` with the table of the region `id` and the live counts, and returns its answer. If the
+    /// region has no table, an empty one is made first. What `change` leaves is kept even if it fails, in a
+    /// new table too; [`RegionTables::update`] drops a new one then.
     ///
     /// # Errors
     ///
-    /// Those of `change`, and `Memory`.
+    /// Those of `change`; `Memory` if no table can be made, and nothing has changed then.
     #[inline(always)]
     fn alter<R: Drop, F: FnOnce(&mut MemTable, &mut GlobalStats) -> Result<R>>(
         &mut self,
@@ -332,12 +348,14 @@ impl RegionTables {
         }
     }
 
-    /// Applies `change` to the table of the region `id`, which is made if there is none. The table is looked
-    /// up once.
+    /// Calls `change` with the table of the region `id` and the live counts, and returns its answer. If the
+    /// region has no table, an empty one is made first. The table is looked up once. A `change` that fails
+    /// must leave table and counts as they were.
     ///
     /// # Errors
     ///
-    /// Those of `change`, and `Memory`. No table has been made then.
+    /// Those of `change`; `Memory` if no table can be made. Nothing has changed then, and no table has been
+    /// made.
     #[inline(always)]
     pub(crate) fn update<R: Drop, F: FnOnce(&mut MemTable, &mut GlobalStats) -> Result<R>>(
         &mut self,
@@ -364,12 +382,13 @@ impl RegionTables {
     }
 }
 
-/// Merges `newer` into `table`, as its newer neighbor or as an appended table, as `kind` says.
+/// Merges `newer` into `table`, of the same region, as `kind` says: as the table of its newer neighbor, or as
+/// one of the append queue.
 ///
 /// # Errors
 ///
 /// Those of [`MemTable::merge_newer_neighbor`] or [`MemTable::merge_append_table`]. `table` is unchanged
-/// then, unless memory was refused.
+/// then, unless the error is `Memory`. `newer` is dropped.
 fn merge(
     kind: Neighbor,
     table: &mut MemTable,

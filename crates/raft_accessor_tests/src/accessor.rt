@@ -1,4 +1,5 @@
-//! Calls of an accessor answer, count and leave what their rows say. A region has the slot that raft-engine gives it.
+//! Tests that calls of an accessor answer, count and leave what their rows say, and that a region has the slot that
+//! raft-engine gives it.
 
 use crate::calls::{Call, call_core, tables_of};
 use crate::items::{Item, NEW, answered};
@@ -8,6 +9,8 @@ use raft_memtable::{LogQueue, MemTable, MemTableAccessor, Result, slot_of};
 use raft_trials::again;
 use std::alloc::Global;
 
+/// Returns the first index of a table, the one past its last index, and how many records it has in each queue; 0 for
+/// an index where it has no entries.
 fn outline(table: &MemTable) -> Outline {
     (
         table.first_index().unwrap_or(0),
@@ -17,7 +20,7 @@ fn outline(table: &MemTable) -> Outline {
     )
 }
 
-/// Tests whether a call returns and leaves what its row says.
+/// Makes the call of a row, and tests whether it returns and leaves what the row says.
 fn is_kept(alloc: Global, core: &mut MemTableAccessor, row: &Row) -> Result<bool> {
     let (call, expected, numbers, (region, table)) = *row;
     let answer = answered(call_core(alloc, core, call))?.map(|answer| answer.0);
@@ -25,6 +28,7 @@ fn is_kept(alloc: Global, core: &mut MemTableAccessor, row: &Row) -> Result<bool
     Ok(answer == expected && is_counted && core.get(region).map(outline) == table)
 }
 
+/// Tests the calls of each list of rows, one after another on a new accessor.
 fn are_kept(alloc: Global) -> Result<bool> {
     for rows in lists() {
         let mut core = MemTableAccessor::new(alloc)?;
@@ -42,11 +46,11 @@ fn each_call_changes_tables_and_is_counted(rt: HostRuntime) {
     assert!(rt; matches!(again!(are_kept(rt.alloc())), Ok(true)));
 }
 
-/// A call, a region, and the table that `get_or_insert` hands out for it then: its outline, and the value of `k` in it;
-/// and how many tables there are.
+/// A call, a region, and the table that `get_or_insert` returns for it then: its outline and its value of `k`; and how
+/// many tables there are.
 type Handed = (Call, u64, Outline, Option<&'static [u8]>, usize);
 
-/// Calls of an accessor without tables, one after the other. The regions 3 and 73 have one slot.
+/// Rows of calls on an accessor without tables, one after the other. The regions 3 and 73 belong to one slot.
 static HANDED: [Handed; 12] = [
     (Call::Nothing, 3, (0, 0, 0, 0), None, 1),
     (
@@ -92,17 +96,18 @@ static HANDED: [Handed; 12] = [
     (Call::Nothing, u64::MAX, (0, 0, 0, 0), None, 4),
 ];
 
+/// Returns the rows of tables that are handed out.
 fn handed_out() -> &'static [Handed] {
     &HANDED
 }
 
-/// Tests whether a table is the region's own, as in the row.
+/// Tests whether a table is that of the row's region, with the outline and the value that the row has.
 fn is_own(table: &MemTable, row: &Handed) -> bool {
     let (_, region, expected, value, _) = *row;
     table.region_id() == region && outline(table) == expected && table.get(b"k") == value
 }
 
-/// Tests whether the table of the row is handed out after the row's call, by a second call again, and by `get`.
+/// Makes the call of a row, and tests whether `get_or_insert` then returns the row's table, twice, and so does `get`.
 fn is_handed(alloc: Global, core: &mut MemTableAccessor, row: &Handed) -> Result<bool> {
     let (call, region, _, _, count) = *row;
     call_core(alloc, core, call)?;
@@ -112,6 +117,7 @@ fn is_handed(alloc: Global, core: &mut MemTableAccessor, row: &Handed) -> Result
     Ok(is_first && is_second && is_found && core.tables()?.len() == count)
 }
 
+/// Tests each row, one after another on one accessor.
 fn are_handed(alloc: Global) -> Result<bool> {
     let mut core = MemTableAccessor::new(alloc)?;
     for row in handed_out() {
@@ -127,13 +133,13 @@ fn a_region_is_handed_its_own_table(rt: HostRuntime) {
     assert!(rt; matches!(again!(are_handed(rt.alloc())), Ok(true)));
 }
 
-/// Cleans of three regions, one of them twice.
+/// Calls that clean the regions 3, 5 and 3 again.
 const CLEANED: &[Call] = &[Call::Replay(
     LogQueue::Append,
     &[Item::Clean(3), Item::Clean(5), Item::Clean(3)],
 )];
 
-/// Tests whether cleaned regions are handed out in order, a `Clean` for each, and once.
+/// Tests whether the cleaned regions are taken in order, with a `Clean` for each, and only once.
 fn are_handed_out(alloc: Global) -> Result<bool> {
     let mut core = tables_of(alloc, CLEANED)?;
     let listed = core.cleaned_regions() == [3, 5, 3].as_slice();
@@ -147,7 +153,7 @@ fn cleaned_regions_are_handed_out(rt: HostRuntime) {
     assert!(rt; matches!(again!(are_handed_out(rt.alloc())), Ok(true)));
 }
 
-/// Tests that the numbers are those that raft-engine gives.
+/// Tests that the numbers of slots are those that raft-engine gives.
 #[test]
 fn a_region_has_one_slot(rt: HostRuntime) {
     for &(region, slot) in &[

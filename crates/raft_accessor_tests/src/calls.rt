@@ -13,16 +13,16 @@ use std::alloc::Global;
 /// A change of a table.
 #[derive(Clone, Copy)]
 pub(crate) enum Change {
-    /// Entries from an index to below another, in a file.
+    /// Appends entries from an index on and below another, which are in a file.
     Append(u64, u64, FileId),
-    /// The same, and the gate.
+    /// Rewrites such entries to a file, with a gate.
     Rewrite(u64, u64, FileId, Option<FileSeq>),
     Compact(u64),
     Truncate(u64),
     Put,
 }
 
-/// A call that changes tables. The first number of a call on one region is the region.
+/// A call that changes tables. The first number in a call on a single region is the region.
 #[derive(Clone, Copy)]
 pub(crate) enum Call {
     Nothing,
@@ -30,39 +30,43 @@ pub(crate) enum Call {
     Change(u64, Change),
     GetOrInsert(u64),
     Insert(u64),
-    /// Whether the region is listed as cleaned.
+    /// Removes the table of a region; the second field says whether the region is listed as cleaned.
     Remove(u64, bool),
     AppendWrites(&'static [Item]),
-    /// The gate, and the file to which keys are rewritten.
+    /// Applies rewritten items, with a gate and the file to which keys are rewritten.
     RewriteWrites(&'static [Item], Option<FileSeq>, FileSeq),
     AtomicGroup(u64),
     TakeCleaned,
-    /// Items that an accessor reads again from a queue.
+    /// Replays items of a queue.
     Replay(LogQueue, &'static [Item]),
-    /// Entries from an index to below another, in a file, that an accessor tries to read again.
+    /// Tries to replay entries of a region from an index on and below another, which are in a file.
     TryReplay(u64, u64, u64, FileId),
-    /// The tables of items that another accessor read again from a queue are merged as the newer neighbor.
+    /// Merges, as the newer neighbor, the tables of another accessor that has replayed items of a queue.
     MergeNewer(LogQueue, &'static [Item]),
-    /// They are merged as the appended tables.
+    /// Merges such tables as the appended ones.
     MergeAppend(LogQueue, &'static [Item]),
 }
 
-/// A number, and the table that is handed back.
+/// The number that a call returns, and the table, if it returns one.
 pub(crate) type Answer = (u64, Option<Shape>);
 
+/// Returns the answer of a call that returns nothing.
 pub(crate) fn done(called: Result<()>) -> Result<Answer> {
     called?;
     Ok((0, None))
 }
 
+/// Returns the answer of a call that returns a number.
 pub(crate) fn numbered(called: Result<u64>) -> Result<Answer> {
     Ok((called?, None))
 }
 
+/// Returns the answer of a call that returns a table, or none.
 pub(crate) fn handed(called: Result<Option<MemTable>>) -> Result<Answer> {
     Ok((0, called?.as_ref().map(shape)))
 }
 
+/// Returns a change that puts a key with the value `v`.
 fn put(alloc: Global, key: &[u8]) -> Result<TableChange> {
     Ok(TableChange::Put {
         key: Vec::from_slice(alloc, key)?,
@@ -71,6 +75,7 @@ fn put(alloc: Global, key: &[u8]) -> Result<TableChange> {
     })
 }
 
+/// Returns a change of a table as the value that the calls take.
 pub(crate) fn table_change(alloc: Global, change: Change) -> Result<TableChange> {
     match change {
         Change::Append(start, end, file) => {
@@ -86,7 +91,7 @@ pub(crate) fn table_change(alloc: Global, change: Change) -> Result<TableChange>
     }
 }
 
-/// Returns a table with other entries and another key.
+/// Returns a table of a region with other entries and another key than the calls make.
 pub(crate) fn other_table(alloc: Global, id: u64) -> Result<MemTable> {
     let mut core = MemTableAccessor::new(alloc)?;
     core.change(id, TableChange::Append(run(alloc, 50, 53, NEW)?))?;
@@ -97,7 +102,8 @@ pub(crate) fn other_table(alloc: Global, id: u64) -> Result<MemTable> {
     }
 }
 
-/// Drops all entries but the last of a table with a key, and those below 12 of any other.
+/// Returns a change that drops all entries but the last one, if the table has a key `k` and entries, else those below
+/// 12.
 pub(crate) fn compaction(table: &MemTable) -> TableChange {
     match (table.last_index(), table.get(b"k")) {
         (Some(index), Some(_)) => TableChange::Compact { index },
@@ -105,7 +111,7 @@ pub(crate) fn compaction(table: &MemTable) -> TableChange {
     }
 }
 
-/// Changes the table of an accessor as it is, an empty one where there is none.
+/// Makes the change that [`compaction`] returns for the table of a region, or for an empty one where there is none.
 fn change_core(alloc: Global, core: &mut MemTableAccessor, id: u64) -> Result<u64> {
     let change = match core.get(id) {
         Some(table) => compaction(table),
@@ -114,7 +120,7 @@ fn change_core(alloc: Global, core: &mut MemTableAccessor, id: u64) -> Result<u6
     core.change(id, change)
 }
 
-/// Calls an accessor.
+/// Makes a call of an accessor.
 pub(crate) fn call_core(alloc: Global, core: &mut MemTableAccessor, call: Call) -> Result<Answer> {
     match call {
         Call::Nothing => Ok((0, None)),
@@ -139,7 +145,7 @@ pub(crate) fn call_core(alloc: Global, core: &mut MemTableAccessor, call: Call) 
     }
 }
 
-/// Makes a call that shared tables don't have.
+/// Makes a call of an accessor that shared tables don't have; `Failed` for any other.
 fn call_alone(alloc: Global, core: &mut MemTableAccessor, call: Call) -> Result<u64> {
     match call {
         Call::Replay(queue, given) => replay(alloc, core, queue, given)?,
@@ -157,7 +163,7 @@ fn call_alone(alloc: Global, core: &mut MemTableAccessor, call: Call) -> Result<
     Ok(0)
 }
 
-/// Returns an accessor on which these calls were made.
+/// Returns a new accessor on which these calls were made.
 pub(crate) fn tables_of(alloc: Global, calls: &[Call]) -> Result<MemTableAccessor> {
     let mut core = MemTableAccessor::new(alloc)?;
     for call in calls {
@@ -166,6 +172,7 @@ pub(crate) fn tables_of(alloc: Global, calls: &[Call]) -> Result<MemTableAccesso
     Ok(core)
 }
 
+/// Replays items of a queue in an accessor.
 fn replay(
     alloc: Global,
     core: &mut MemTableAccessor,
@@ -179,14 +186,15 @@ fn replay(
     }
 }
 
-/// Returns the tables of items that were read again from a queue.
+/// Returns an accessor that has replayed items of a queue.
 fn replayed(alloc: Global, queue: LogQueue, given: &[Item]) -> Result<MemTableAccessor> {
     let mut core = MemTableAccessor::new(alloc)?;
     replay(alloc, &mut core, queue, given)?;
     Ok(core)
 }
 
-/// Tries a run that is read again, once more where it isn't put, as for want of memory.
+/// Tries to replay a run, and once more where it isn't put, which may be for lack of memory. Returns where the region's
+/// entries ended before; `None` where the run isn't put.
 fn try_twice(
     core: &mut MemTableAccessor,
     queue: LogQueue,
@@ -201,7 +209,8 @@ fn try_twice(
     }
 }
 
-/// Puts a run that is read again, and returns where the region's entries ended before.
+/// Replays a run, and returns where the region's entries ended before. `Failed` where it isn't a run of the queue, or
+/// isn't put.
 fn try_run(
     core: &mut MemTableAccessor,
     region: u64,

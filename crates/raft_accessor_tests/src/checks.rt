@@ -1,4 +1,4 @@
-//! New items that are tested before they have places.
+//! Tests the checks of new items, which have no places yet.
 
 use crate::calls::{Call, tables_of};
 use crate::items::{Item, NEW, items, unplaced};
@@ -8,11 +8,11 @@ use raft_recover::Slot;
 use raft_trials::again;
 use std::alloc::Global;
 
-/// What the tables have in front of all items.
+/// The calls that make the tables which the items are checked against.
 const FIRST: &[Call] = &[Call::AppendWrites(&[Item::Entries(1, 10, 20, NEW)])];
 
-/// Items, and the text by which they are refused; none where they are accepted. Region 1 has the entries 10 to
-/// 19 in front of all items, the others have no tables.
+/// Items, and the text with which they are refused; an empty text where they are accepted. Before them region 1 has the
+/// entries 10 to 19, and the other regions have no tables.
 static ROWS: [(&[Item], &str); 12] = [
     (
         &[
@@ -76,11 +76,12 @@ static ROWS: [(&[Item], &str); 12] = [
     ),
 ];
 
+/// Returns the rows of items, each with the text with which they are refused.
 fn rows() -> &'static [(&'static [Item], &'static str)] {
     &ROWS
 }
 
-/// Tests whether a test refuses items by this text, or accepts them where it is empty.
+/// Tests whether a check has refused items with this text, or accepted them, if it is empty.
 fn is_told(tested: Result<()>, text: &str) -> Result<bool> {
     match tested {
         Ok(()) => Ok(text.is_empty()),
@@ -89,7 +90,8 @@ fn is_told(tested: Result<()>, text: &str) -> Result<bool> {
     }
 }
 
-/// Tests whether the items of a row are refused by its text, or accepted, also by the slot of region 1.
+/// Tests whether the items of a row are refused with its text, or accepted, by the accessor and by the slot of region
+/// 1.
 fn is_checked(
     alloc: Global,
     tables: &MemTableAccessor,
@@ -104,6 +106,7 @@ fn is_checked(
     )
 }
 
+/// Tests each row.
 fn are_checked(alloc: Global) -> Result<bool> {
     let mut slot = Slot::new(alloc, slot_of(1));
     slot.take_tables(&mut tables_of(alloc, FIRST)?);
@@ -121,8 +124,8 @@ fn new_items_are_tested_before_they_are_written(rt: HostRuntime) {
     assert!(rt; matches!(again!(are_checked(rt.alloc())), Ok(true)));
 }
 
-/// Returns 300 items of one entry each, in regions from 1 on with the index 10, or all in region 1 from the index 1 on;
-/// and behind them one of region 1 with this index.
+/// Returns 300 items of one entry each, and one more. The 300 are in the regions from 1 on, each with index 10, if
+/// `is_apart`; else in region 1, from index 1 on. The last one is of region 1, with the index `last`.
 fn many_items(alloc: Global, is_apart: bool, last: u64) -> Result<Vec<LogItem>> {
     let mut items = Vec::new(alloc);
     for number in 1..=300 {
@@ -133,7 +136,8 @@ fn many_items(alloc: Global, is_apart: bool, last: u64) -> Result<Vec<LogItem>> 
     Ok(items)
 }
 
-/// Tests whether such items are refused by this text where there are no tables, or accepted where it is empty.
+/// Tests whether the items of [`many_items`] are refused with this text where there are no tables, or accepted, if it
+/// is empty.
 fn are_many_told(alloc: Global, is_apart: bool, last: u64, text: &str) -> Result<bool> {
     let items = many_items(alloc, is_apart, last)?;
     let tables = MemTableAccessor::new(alloc)?;
@@ -142,6 +146,7 @@ fn are_many_told(alloc: Global, is_apart: bool, last: u64, text: &str) -> Result
     Ok(is_told(tested, text)? && is_told(slot.check_append_writes(&items), text)?)
 }
 
+/// Tests lists of many items, which are accepted up to an index and refused behind it.
 fn are_all_many_told(alloc: Global) -> Result<bool> {
     for &(is_apart, last, text) in &[
         (true, 11, ""),

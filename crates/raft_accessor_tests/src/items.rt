@@ -1,4 +1,4 @@
-//! Items of several regions, and why calls are refused.
+//! Items of several regions, and the errors of calls.
 
 use raft_memtable::{EntryIndex, Error, FileBlockHandle, FileId, LogQueue, Result};
 use raft_records::{Command, LogItem, LogItemContent, OpType};
@@ -14,7 +14,7 @@ pub(crate) const NEWER: FileId = FileId {
     seq: 2,
 };
 
-/// Above each file to which a key is rewritten, so that those show as the least.
+/// A rewrite file numbered above each file to which a key is rewritten, so that those show as the oldest.
 pub(crate) const REWRITTEN: FileId = FileId {
     queue: LogQueue::Rewrite,
     seq: 70,
@@ -25,11 +25,11 @@ pub(crate) const REWRITTEN: FileId = FileId {
 pub(crate) enum Item {
     /// Entries from an index to below another, in a file.
     Entries(u64, u64, u64, FileId),
-    /// Entries of these indexes, without a place.
+    /// Entries of a region with these indexes, without places.
     Run(u64, &'static [u64]),
-    /// A key that is put, whether with a value, and in which file.
+    /// A key that is put, whether it has a value, and its file.
     Put(u64, &'static [u8], bool, Option<FileId>),
-    /// The eight bytes of the region's number, as a key that is put in a file.
+    /// The eight bytes of the region's number as a key that is put, in a file.
     PutOwnKey(u64, FileId),
     Delete(u64, &'static [u8]),
     Compact(u64, u64),
@@ -37,7 +37,7 @@ pub(crate) enum Item {
     Clean(u64),
 }
 
-/// Returns a run from `start` to below `end`, each entry another byte of one block of `file`.
+/// Returns entries from `start` on and below `end`, each of them another byte of one block of `file`.
 pub(crate) fn run(alloc: Global, start: u64, end: u64, file: FileId) -> Result<Vec<EntryIndex>> {
     let mut run = Vec::new(alloc);
     for index in start..end {
@@ -56,7 +56,7 @@ pub(crate) fn run(alloc: Global, start: u64, end: u64, file: FileId) -> Result<V
     Ok(run)
 }
 
-/// Returns entries of these indexes, without a place.
+/// Returns entries with these indexes, without places.
 pub(crate) fn unplaced(alloc: Global, indexes: &[u64]) -> Result<Vec<EntryIndex>> {
     let mut run = Vec::new(alloc);
     for &index in indexes {
@@ -89,6 +89,7 @@ fn put(
     Ok(item)
 }
 
+/// Returns the log item that an item of a list describes.
 fn log_item(alloc: Global, item: Item) -> Result<LogItem> {
     Ok(match item {
         Item::Entries(region, start, end, file) => {
@@ -110,7 +111,7 @@ fn log_item(alloc: Global, item: Item) -> Result<LogItem> {
     })
 }
 
-/// Returns the items of a list.
+/// Returns the log items that a list describes.
 pub(crate) fn items(alloc: Global, given: &[Item]) -> Result<Vec<LogItem>> {
     let mut items = Vec::new(alloc);
     for &one in given {
@@ -119,14 +120,14 @@ pub(crate) fn items(alloc: Global, given: &[Item]) -> Result<Vec<LogItem>> {
     Ok(items)
 }
 
-/// Why a call is refused.
+/// The kind of error with which a call is refused.
 #[derive(Clone, Copy, PartialEq)]
 pub(crate) enum Fault {
     Corruption,
     InvalidArgument,
 }
 
-/// Returns what a call returns; want of memory and other faults are handed on.
+/// Returns what a call returned: its result, or its fault. `Memory` and other errors are passed on.
 pub(crate) fn answered<X: Drop>(given: Result<X>) -> Result<std::result::Result<X, Fault>> {
     match given {
         Ok(answer) => Ok(Ok(answer)),

@@ -1,4 +1,4 @@
-//! Calls that are refused beside entries of one queue. Each leaves all as it was.
+//! Tests calls that are refused where tables have entries of a single queue. Each leaves all as it was.
 
 use crate::calls::Call;
 use crate::items::{Fault, Item, NEW, REWRITTEN};

@@ -1,15 +1,15 @@
-//! Calls of an accessor, one after the other: their answers, their counts, and the tables that they leave.
+//! Rows of calls on an accessor, one after the other: what they return, the counts, and the tables that they leave.
 
 use crate::calls::{Call, Change};
 use crate::items::{Fault, Item, NEW, REWRITTEN};
 use crate::refusals::{BESIDE_APPENDED, BESIDE_REWRITTEN};
 use raft_memtable::LogQueue;
 
-/// The first index of a table and the one past the last, 0 without entries, and its records in both queues.
+/// What a table has: its first index and the one past the last, 0 without entries, and how many records in each queue.
 pub(crate) type Outline = (u64, u64, u128, u128);
 
-/// A call, its answer, how many records are then live in the append queue, were written to the rewrite queue and were
-/// deleted from it, and a region with its table.
+/// A call; its answer; how many records are then live in the append queue, how many were written to the rewrite queue
+/// and how many deleted from it; and a region with what its table has.
 pub(crate) type Row = (
     Call,
     std::result::Result<u64, Fault>,
@@ -17,7 +17,7 @@ pub(crate) type Row = (
     (u64, Option<Outline>),
 );
 
-/// Lists of calls, each on an accessor without tables.
+/// Lists of rows. Each begins on an accessor without tables.
 static LISTS: [&[Row]; 14] = [
     // Each call counts written and deleted records of the rewrite queue apart.
     &[
@@ -403,6 +403,7 @@ static LISTS: [&[Row]; 14] = [
     ],
 ];
 
+/// Returns the lists of rows, each of which begins with a new accessor.
 pub(crate) fn lists() -> &'static [&'static [Row]] {
     &LISTS
 }

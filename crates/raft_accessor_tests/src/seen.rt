@@ -1,4 +1,4 @@
-//! What can be seen of an accessor and of shared tables.
+//! What an accessor, or shared tables, have: to be compared.
 
 use raft_memtable::{Error, FileSeq, GlobalStats, LogQueue, MemTable, MemTableAccessor, Result};
 use raft_records::{Command, LogBatch, LogItemContent};
@@ -6,14 +6,15 @@ use raft_recover::SharedAccessor;
 use std::alloc::Global;
 use std::sync::Wait;
 
-/// The region that is called at, and whose table is looked up.
+/// The region that most calls are for, and whose table is looked up.
 pub(crate) const REGION: u64 = 1;
 
-/// The number of an entry's file, the offset and the length of its place, and its span.
+/// The place of an entry: the number of its file, the offset and the length of its block, its offset and its length
+/// within the block.
 type Place = (FileSeq, u64, usize, u32, u32);
 
-/// A table's region, its first and last index, its records and its least file in both queues, its atomic
-/// group, and the place of its last entry with its keys and values.
+/// What a table has: its region, its first and last index, its records and its oldest file in each queue, its atomic
+/// group, the place of its last entry, and its keys and values.
 pub(crate) type Shape = (
     u64,
     (Option<u64>, Option<u64>),
@@ -23,6 +24,7 @@ pub(crate) type Shape = (
     (Option<Place>, u64),
 );
 
+/// Returns the place of a table's last entry; `None` where there is none.
 fn place(table: &MemTable) -> Option<Place> {
     let entry = table.get_entry(table.last_index()?)?;
     let handle = entry.entries?;
@@ -35,7 +37,7 @@ fn place(table: &MemTable) -> Option<Place> {
     ))
 }
 
-/// Returns the bytes of all keys and values in one number.
+/// Returns a hash of the bytes of all keys and values of a table.
 fn pairs(table: &MemTable) -> u64 {
     let mut seen = 0u64;
     let _ = table.scan(None, None, false, |key, value| {
@@ -47,6 +49,7 @@ fn pairs(table: &MemTable) -> u64 {
     seen
 }
 
+/// Returns what the tests compare of a table.
 pub(crate) fn shape(table: &MemTable) -> Shape {
     (
         table.region_id(),
@@ -73,13 +76,13 @@ pub(crate) fn counts(stats: &GlobalStats) -> (usize, usize, usize) {
     )
 }
 
-/// What can be seen: the table of the region that is called at, all tables by region, the live counts, whether there
-/// are no tables, and the cleaned regions by number.
+/// What an accessor or shared tables have: the table of `REGION`, all tables by region, the live counts, whether there
+/// are no tables, and the cleaned regions.
 #[derive(PartialEq, Drop)]
 pub(crate) struct Seen {
     found: Option<Shape>,
     tables: Vec<Shape>,
-    /// The sum of what a walk reads in the tables that it meets.
+    /// The sum of what [`read`] returns for all tables that a walk meets.
     read: u64,
     /// The regions whose tables have an entry and a key.
     full: Vec<u64>,
@@ -89,7 +92,7 @@ pub(crate) struct Seen {
 }
 
 impl Seen {
-    /// Tests whether there are so many tables and cleaned regions, and so many live records of both queues.
+    /// Tests whether there are so many tables, so many cleaned regions, and so many live records in each queue.
     pub(crate) fn has(&self, tables: usize, cleaned: usize, live: (u128, u128)) -> bool {
         (self.tables.len(), self.cleaned.len(), self.live) == (tables, cleaned, live)
     }
@@ -109,7 +112,7 @@ fn is_full(table: &MemTable) -> bool {
     table.first_index().is_some() && pairs(table) != 0
 }
 
-/// Returns the regions of the items of a batch, in order. An item that isn't a `Clean` is refused as `Failed`.
+/// Returns the regions that the items of a batch clean, in order; `Failed` where an item isn't a `Clean`.
 fn regions_of(alloc: Global, mut logs: LogBatch) -> Result<Vec<u64>> {
     let mut regions = Vec::new(alloc);
     for item in logs.drain() {
@@ -121,8 +124,8 @@ fn regions_of(alloc: Global, mut logs: LogBatch) -> Result<Vec<u64>> {
     Ok(regions)
 }
 
-/// Returns the cleaned regions of shared tables, in order. What a call took that ran out of memory is in the batch,
-/// and a second one takes the rest.
+/// Takes the cleaned regions of shared tables, and returns them in order. Where the call runs out of memory, what it
+/// took is in the batch, and a second call takes the rest.
 pub(crate) fn taken<R: Wait>(rt: &R, alloc: Global, shared: &SharedAccessor) -> Result<Vec<u64>> {
     let mut logs = LogBatch::default(alloc);
     if shared.take_cleaned_region_logs(rt, &mut logs).is_err() {
@@ -131,12 +134,12 @@ pub(crate) fn taken<R: Wait>(rt: &R, alloc: Global, shared: &SharedAccessor) -> 
     regions_of(alloc, logs)
 }
 
-/// Returns the cleaned regions of an accessor, in order. They are taken.
+/// Takes the cleaned regions of an accessor, and returns them in order.
 pub(crate) fn taken_of(alloc: Global, core: &mut MemTableAccessor) -> Result<Vec<u64>> {
     regions_of(alloc, core.take_cleaned_region_logs()?)
 }
 
-/// Returns the tables of an accessor by region.
+/// Returns what the tables of an accessor have, by region.
 fn shapes_of(alloc: Global, core: &MemTableAccessor) -> Result<Vec<Shape>> {
     let mut tables = Vec::new(alloc);
     for table in core.tables()? {
@@ -157,7 +160,7 @@ fn full_of(alloc: Global, core: &MemTableAccessor) -> Result<Vec<u64>> {
     Ok(full)
 }
 
-/// Returns what an accessor shows. Its cleaned regions are taken.
+/// Returns what an accessor has, and takes its cleaned regions.
 pub(crate) fn see_core(alloc: Global, core: &mut MemTableAccessor) -> Result<Seen> {
     let mut cleaned = taken_of(alloc, core)?;
     cleaned.sort()?;
@@ -178,11 +181,12 @@ pub(crate) fn see_core(alloc: Global, core: &mut MemTableAccessor) -> Result<See
     })
 }
 
+/// Returns the shape of a shared table; `None` where the region has none.
 fn shape_in<R: Wait>(rt: &R, shared: &SharedAccessor, region: u64) -> Option<Shape> {
     shared.with_table(rt, region, shape)
 }
 
-/// Returns the shapes of shared tables by region.
+/// Returns what shared tables have, by region.
 fn shapes_in<R: Wait>(rt: &R, alloc: Global, shared: &SharedAccessor) -> Result<Vec<Shape>> {
     let mut tables = Vec::new(alloc);
     for region in shared.collect(rt, |_: &MemTable| true)? {
@@ -201,7 +205,7 @@ fn full_in<R: Wait>(rt: &R, shared: &SharedAccessor) -> Result<Vec<u64>> {
     Ok(full)
 }
 
-/// Returns what shared tables show. Their cleaned regions are taken.
+/// Returns what shared tables have, and takes their cleaned regions.
 pub(crate) fn see_shared<R: Wait>(rt: &R, alloc: Global, shared: &SharedAccessor) -> Result<Seen> {
     let mut seen = Seen {
         found: shape_in(rt, shared, REGION),

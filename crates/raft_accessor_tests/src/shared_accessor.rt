@@ -1,4 +1,5 @@
-//! What threads append at once stands, and closures on tables of different slots run at once.
+//! Tests that what threads append at the same time is there, and that closures on tables of different slots run at the
+//! same time.
 
 mod calls;
 mod every_slot;
@@ -15,7 +16,7 @@ use std::thread;
 use std::thread::Threads;
 use std::time::Clock;
 
-/// Appends the entries from 1 to below 101 to a region, one a call.
+/// Appends the entries 1 to 100 to a region, each by a call.
 fn append_hundred<R: Wait>(
     rt: &R,
     alloc: Global,
@@ -29,7 +30,7 @@ fn append_hundred<R: Wait>(
     Ok(())
 }
 
-/// Tests whether all stands that four threads append, each to a region of its own.
+/// Tests whether all entries are there that four threads append, each to a region of its own.
 fn append_in_threads<R: Threads + Wait + Sync>(rt: &R, alloc: Global) -> Result<bool> {
     let shared = SharedAccessor::new(alloc);
     let append = |region: usize| append_hundred(rt, alloc, &shared, region as u64);
@@ -54,13 +55,13 @@ fn threads_append_at_once(rt: HostRuntime) {
     assert!(rt; matches!(again!(append_in_threads(&rt, rt.alloc())), Ok(true)));
 }
 
-/// Raises the own flag, and tells whether the other one is raised in time.
+/// Raises the flag `own`, and returns whether the flag `other` is raised in time.
 fn sees<R: Clock>(rt: &R, own: &AtomicU64, other: &AtomicU64) -> bool {
     own.store(1, Ordering::SeqCst);
     is_reached(rt, other, 1)
 }
 
-/// Tests whether a closure on a table of region 1, which may change it, sees that one of region 2 has begun.
+/// Tests whether a closure that may change the table of region 1 sees that one on that of region 2 has begun.
 fn change_sees<R: Wait + Clock>(
     rt: &R,
     shared: &SharedAccessor,
@@ -76,7 +77,7 @@ fn change_sees<R: Wait + Clock>(
     Ok(seen)
 }
 
-/// Tests whether two closures that may change tables of different slots see each other.
+/// Tests whether two closures that may change tables of different slots run at the same time.
 fn writers_meet<R: Threads + Wait + Clock + Sync>(rt: &R, alloc: Global) -> Result<bool> {
     let shared = SharedAccessor::new(alloc);
     let (one, two) = (AtomicU64::new(0), AtomicU64::new(0));
@@ -88,7 +89,7 @@ fn writers_meet<R: Threads + Wait + Clock + Sync>(rt: &R, alloc: Global) -> Resu
     Ok(first? && second?)
 }
 
-/// Tests whether a closure that reads a table and one that may change a table of another slot see each other.
+/// Tests whether a closure that reads a table and one that may change a table of another slot run at the same time.
 fn reader_meets_writer<R: Threads + Wait + Clock + Sync>(rt: &R, alloc: Global) -> Result<bool> {
     let shared = SharedAccessor::new(alloc);
     shared.get_or_insert(rt, 1)?;
@@ -101,7 +102,7 @@ fn reader_meets_writer<R: Threads + Wait + Clock + Sync>(rt: &R, alloc: Global) 
     Ok(read == Some(true) && written?)
 }
 
-/// Tests whether two closures that read one table see each other.
+/// Tests whether two closures that read the same table run at the same time.
 fn readers_meet<R: Threads + Wait + Clock + Sync>(rt: &R, alloc: Global) -> Result<bool> {
     let shared = SharedAccessor::new(alloc);
     shared.get_or_insert(rt, 1)?;
@@ -114,7 +115,8 @@ fn readers_meet<R: Threads + Wait + Clock + Sync>(rt: &R, alloc: Global) -> Resu
     Ok(read == (Some(true), Some(true)))
 }
 
-/// Walks over all tables once a closure that reads one of them has begun, and raises the other flag then.
+/// Waits until a closure that reads a table has raised `begun`, walks over all tables, and raises `walked`. Returns
+/// whether the closure had begun in time, and the walks met what there is.
 fn walk<R: Wait + Clock>(
     rt: &R,
     shared: &SharedAccessor,
@@ -129,7 +131,7 @@ fn walk<R: Wait + Clock>(
     Ok(is_begun && ids.len() == 1 && tables == 1 && is_met)
 }
 
-/// Tests whether a closure that reads a table sees that all tables are walked over meanwhile.
+/// Tests whether all tables can be walked over while a closure reads one of them.
 fn reader_meets_walks<R: Threads + Wait + Clock + Sync>(rt: &R, alloc: Global) -> Result<bool> {
     let shared = SharedAccessor::new(alloc);
     shared.get_or_insert(rt, 1)?;
@@ -142,7 +144,7 @@ fn reader_meets_walks<R: Threads + Wait + Clock + Sync>(rt: &R, alloc: Global) -
     Ok(walked? && read == Some(true))
 }
 
-/// Tests whether both pairs of closures meet.
+/// Tests whether closures on tables of different slots run at the same time, where one may change a table, or both.
 fn meet<R: Threads + Wait + Clock + Sync>(rt: &R, alloc: Global) -> Result<bool> {
     Ok(writers_meet(rt, alloc)? && reader_meets_writer(rt, alloc)?)
 }
@@ -153,7 +155,7 @@ fn slots_lock_apart(rt: HostRuntime) {
     assert!(rt; matches!(again!(meet(&rt, rt.alloc())), Ok(true)));
 }
 
-/// Tests whether those that read one table don't wait for each other.
+/// Tests whether closures and walks that read one table don't wait for one another.
 fn read_at_once<R: Threads + Wait + Clock + Sync>(rt: &R, alloc: Global) -> Result<bool> {
     Ok(readers_meet(rt, alloc)? && reader_meets_walks(rt, alloc)?)
 }

@@ -2,7 +2,7 @@
 
 use raft_base::util::crc32;
 
-/// Lengths, and the checksums of as many bytes that count up and begin anew after 250.
+/// Lengths, each with the checksum of so many bytes: the numbers 0 to 250, again and again.
 static CHECKSUMS: [(usize, u32); 23] = [
     (0, 0x00000000),
     (1, 0xd202ef8d),
@@ -29,15 +29,17 @@ static CHECKSUMS: [(usize, u32); 23] = [
     (5000, 0xc1607408),
 ];
 
+/// Returns the rows of checksums.
 fn checksums() -> &'static [(usize, u32)] {
     &CHECKSUMS
 }
 
+/// Returns the checksum of bytes.
 fn checksum_of(bytes: &[u8]) -> u32 {
     crc32(bytes)
 }
 
-/// Puts numbers that count up, and begin anew after 250, in place of bytes.
+/// Fills bytes with the numbers 0 to 250, again and again.
 fn count_up(bytes: &mut [u8]) {
     for (k, byte) in bytes.iter_mut().enumerate() {
         *byte = (k % 251) as u8;

@@ -8,7 +8,7 @@ use std::process::Abort;
 /// The greatest index that an entry can have.
 const GREATEST: u64 = 18_446_744_073_709_551_614;
 
-/// Indexes, and whether a list of entries with them is consecutive.
+/// Lists of indexes, each with whether entries with these indexes are consecutive.
 static INDEXES: [(&[u64], bool); 11] = [
     (&[], true),
     (&[0], true),
@@ -23,11 +23,12 @@ static INDEXES: [(&[u64], bool); 11] = [
     (&[u64::MAX], false),
 ];
 
+/// Returns the rows of indexes.
 fn index_rows() -> &'static [(&'static [u64], bool)] {
     &INDEXES
 }
 
-/// Tests whether a list of entries with these indexes is consecutive.
+/// Tests whether entries with these indexes are consecutive.
 fn are_consecutive(alloc: Global, indexes: &[u64]) -> Result<bool> {
     let mut entries = Vec::new(alloc);
     for index in indexes {
@@ -39,6 +40,7 @@ fn are_consecutive(alloc: Global, indexes: &[u64]) -> Result<bool> {
     Ok(is_consecutive(entries.as_slice()))
 }
 
+/// Tests for each row whether entries with its indexes are consecutive, as it says.
 fn lists_are_told_apart(rt: &impl Abort, alloc: Global) -> Result<()> {
     for &(indexes, consecutive) in index_rows() {
         assert!(rt;
@@ -54,7 +56,8 @@ fn consecutive_lists(rt: HostRuntime) {
     assert!(rt; again!(lists_are_told_apart(&rt, rt.alloc())).is_ok());
 }
 
-/// Tests whether a byte is a compression type, which stands for that byte, or is refused by name.
+/// Tests whether a byte is read as it should be: 0 as the compression type that is written as 0, any other byte not at
+/// all, with an error that names the byte.
 fn is_compression_row(alloc: Global, byte: u8) -> Result<bool> {
     match CompressionType::from_u8(alloc, byte) {
         Ok(compression_type) => Ok(byte == 0 && compression_type.to_u8() == 0),
@@ -66,6 +69,7 @@ fn is_compression_row(alloc: Global, byte: u8) -> Result<bool> {
     }
 }
 
+/// Tests each byte as a compression type.
 fn zero_alone_is_a_compression_type(rt: &impl Abort, alloc: Global) -> Result<()> {
     for byte in 0..=u8::MAX {
         assert!(rt; is_compression_row(alloc, byte)?, "{byte}");

@@ -5,8 +5,8 @@ use std::alloc::Global;
 use std::io;
 use std::io::ErrorKind;
 
-/// Tests whether the error is printed so, or begins so where the text has no end after a colon. Memory is refused once
-/// in a test at most.
+/// Tests whether an error prints as a text; a text that ends with a colon and a space needs to be only the beginning.
+/// It prints once more where it finds no memory, which happens once in a test at most.
 fn is_text_of(alloc: Global, text: &str, error: &Error) -> bool {
     let mut printed = error.to_string(alloc);
     if printed.is_err() {
@@ -16,7 +16,7 @@ fn is_text_of(alloc: Global, text: &str, error: &Error) -> bool {
         || text.ends_with(": ") && printed.starts_with(text))
 }
 
-/// Returns one of eleven errors, and its text.
+/// Returns an error by its number, below eleven, and the text that it has to print as.
 fn error_with_text(number: usize) -> (Error, &'static str) {
     match number {
         0 => (Error::EntryCompacted, "Entry Compacted"),
@@ -59,7 +59,7 @@ fn texts(rt: HostRuntime) {
     }
 }
 
-/// Returns one of four errors with this text.
+/// Returns an error by its number, below four, with a text.
 fn error_of(number: usize, text: String) -> Error {
     match number {
         0 => Error::InvalidArgument(text),

@@ -5,7 +5,7 @@ use raft_files::{Asked, EngineFiles, MemoryFiles};
 use raft_trials::again;
 use std::alloc::Global;
 
-/// Files that can't be read, and whose calls succeed or fail as they are told.
+/// Files whose calls all succeed or all fail, as `fails` says, and that can't be read.
 #[derive(Drop)]
 struct Deaf {
     asked: Asked,
@@ -13,6 +13,7 @@ struct Deaf {
 }
 
 impl Deaf {
+    /// Returns `Failed`, if the calls are to fail.
     fn answer(&self) -> Result<()> {
         if self.fails {
             Err(Error::Failed)
@@ -56,7 +57,7 @@ impl EngineFiles for Deaf {
     }
 }
 
-/// What files are asked for.
+/// A call of files that changes something.
 #[derive(Clone, Copy)]
 enum Ask {
     Rotate(FileSeq),
@@ -82,6 +83,7 @@ const ASKS: [(LogQueue, Ask); 12] = [
     (LogQueue::Rewrite, Ask::Append("xyz")),
 ];
 
+/// Makes a call of the files of a queue.
 fn ask_for<F: EngineFiles>(files: &mut F, queue: LogQueue, asked: Ask) -> Result<()> {
     match asked {
         Ask::Rotate(seq) => files.rotate(queue, seq),
@@ -100,18 +102,19 @@ fn ask_all<F: EngineFiles>(files: &mut F) -> Result<()> {
     Ok(())
 }
 
-/// Tests whether these are the files, with their bytes as text.
+/// Tests whether files have these numbers and these bytes, given as text.
 fn are(files: &Vec<(FileSeq, Vec<u8>)>, expected: &[(FileSeq, &str)]) -> bool {
     files.len() == expected.len()
         && files.iter().zip(expected).all(|(file, other)| file.0 == other.0
             && file.1.as_slice() == other.1.as_bytes())
 }
 
+/// Reads `len` bytes of a file from an offset on.
 fn read(files: &mut MemoryFiles, id: FileId, offset: u64, len: usize) -> Result<Vec<u8>> {
     files.read(FileBlockHandle { id, offset, len })
 }
 
-/// Tests whether a place has the text, or no bytes where there is none.
+/// Tests whether a read of `len` bytes at a place returns a text, or, where none is given, is refused.
 fn has(files: &mut MemoryFiles, id: FileId, offset: u64, text: Option<&str>, len: usize) -> bool {
     match (read(files, id, offset, len), text) {
         (Ok(bytes), Some(text)) => bytes.as_slice() == text.as_bytes(),
@@ -120,6 +123,7 @@ fn has(files: &mut MemoryFiles, id: FileId, offset: u64, text: Option<&str>, len
     }
 }
 
+/// Returns files of which all calls were made, each once.
 fn made(alloc: Global) -> Result<MemoryFiles> {
     let mut files = MemoryFiles::new(alloc);
     ask_all(&mut files)?;
@@ -134,7 +138,7 @@ fn memory_keeps_what_is_asked(rt: HostRuntime) -> Result<()> {
     Ok(())
 }
 
-/// Tests whether files that are found are those that were copied, and serve on.
+/// Tests whether files that are made of copies of others have their bytes, and take further calls.
 fn are_found(alloc: Global) -> Result<bool> {
     let left = made(alloc)?;
     let append = again!(left.copies(LogQueue::Append))?;
@@ -177,8 +181,8 @@ fn memory_is_read_by_place(rt: HostRuntime) -> Result<()> {
     Ok(())
 }
 
-/// Tests whether what no file can do is refused: bytes without a file, a number that isn't above the last one, the
-/// deletion of the last file.
+/// Tests whether calls that make no sense are refused: bytes without a file to put them into, a new file whose number
+/// isn't above the last one, the deletion of the last file.
 fn refuses(alloc: Global) -> Result<bool> {
     let mut files = MemoryFiles::new(alloc);
     let bytes = is_refused(&mut files, Ask::Append("a"));
@@ -189,6 +193,7 @@ fn refuses(alloc: Global) -> Result<bool> {
     Ok(bytes && cut && number && last && are(files.files(LogQueue::Append), &[(3, "")]))
 }
 
+/// Tests whether a call of the append files is refused as `InvalidArgument`.
 fn is_refused(files: &mut MemoryFiles, asked: Ask) -> bool {
     matches!(
         ask_for(files, LogQueue::Append, asked),

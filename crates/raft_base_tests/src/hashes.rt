@@ -2,7 +2,7 @@
 
 use raft_base::{hash_u64, round_down, round_up, unhash_u64};
 
-/// A number, what `hash_u64` makes of it, and what `unhash_u64` does.
+/// A number, what `hash_u64` returns for it, and what `unhash_u64` returns for it.
 type HashRow = (u64, u64, u64);
 
 static HASHES: [HashRow; 19] = [
@@ -39,7 +39,7 @@ static HASHES: [HashRow; 19] = [
     ),
 ];
 
-/// Offsets and alignments, and the multiples at or above and at or below.
+/// Offsets and alignments, each with the multiple of the alignment at or above the offset, and the one at or below it.
 const MULTIPLES: [(usize, usize, usize, usize); 6] = [
     (18, 4, 20, 16),
     (64, 16, 64, 64),
@@ -49,11 +49,13 @@ const MULTIPLES: [(usize, usize, usize, usize); 6] = [
     (4096, 4096, 4096, 4096),
 ];
 
+/// Returns the rows of hashes.
 fn hashes() -> &'static [HashRow] {
     &HASHES
 }
 
-/// Returns the multiples of the alignment, if there are any, at or above and at or below the offset.
+/// Returns the multiple of an alignment at or above an offset, and the one at or below it; `None` where one of them
+/// doesn't exist or doesn't fit.
 fn multiples_round(offset: usize, alignment: usize) -> Option<(usize, usize)> {
     Some((
         multiple_above(offset, alignment)?,
@@ -61,6 +63,8 @@ fn multiples_round(offset: usize, alignment: usize) -> Option<(usize, usize)> {
     ))
 }
 
+/// Returns the multiple of an alignment at or above an offset; `None` for the alignment 0, or close to the highest
+/// number.
 fn multiple_above(offset: usize, alignment: usize) -> Option<usize> {
     if alignment == 0 || offset > usize::MAX - alignment {
         return None;
@@ -68,6 +72,7 @@ fn multiple_above(offset: usize, alignment: usize) -> Option<usize> {
     Some(round_up(offset, alignment))
 }
 
+/// Returns the multiple of an alignment at or below an offset; `None` for the alignment 0.
 fn multiple_below(offset: usize, alignment: usize) -> Option<usize> {
     if alignment == 0 {
         return None;

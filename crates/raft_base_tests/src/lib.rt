@@ -1,4 +1,4 @@
-//! Tests of `raft_base`, of what it hands on, of `raft_size` and of `raft_files`.
+//! Tests of `raft_base`, of what it re-exports, of `raft_size` and of `raft_files`.
 #![tactic(auto)]
 
 #[cfg(test)]

@@ -1,4 +1,4 @@
-//! Numbers are written and read as the rows say.
+//! Tests that numbers are written and read as the rows say.
 
 mod rows;
 
@@ -16,7 +16,7 @@ use rows::{
 use std::io;
 use std::io::{ErrorKind, Write};
 
-/// Returns the numbers that three times eight bytes are, the first byte highest.
+/// Returns the numbers in three times eight bytes, each with its highest byte first.
 fn longs_of(bytes: &[u8; 24]) -> (u64, u64, u64) {
     (
         BigEndian::read_u64(&bytes[0..8]),
@@ -25,12 +25,14 @@ fn longs_of(bytes: &[u8; 24]) -> (u64, u64, u64) {
     )
 }
 
+/// Writes a number with its highest byte first, in descending order, and with its lowest byte first.
 fn write_u64(number: u64, mut out: &mut [u8]) -> codec::Result<()> {
     out.encode_u64(number)?;
     out.encode_u64_desc(number)?;
     out.encode_u64_le(number)
 }
 
+/// Reads the three numbers that `write_u64` writes.
 fn read_u64(mut buf: &[u8]) -> codec::Result<(u64, u64, u64)> {
     Ok((
         decode_u64(&mut buf)?,
@@ -39,7 +41,7 @@ fn read_u64(mut buf: &[u8]) -> codec::Result<(u64, u64, u64)> {
     ))
 }
 
-/// Tests whether the row is written, and read back.
+/// Tests whether the numbers of a row are written as its bytes, and read back from them.
 fn is_u64_row(row: LongRow) -> codec::Result<bool> {
     let (number, ascending, descending, lowest_first) = row;
     let mut bytes = [0; 24];
@@ -50,12 +52,14 @@ fn is_u64_row(row: LongRow) -> codec::Result<bool> {
     )
 }
 
+/// Writes a signed number with its highest byte first, in descending order, and with its lowest byte first.
 fn write_i64(number: i64, mut out: &mut [u8]) -> codec::Result<()> {
     out.encode_i64(number)?;
     out.encode_i64_desc(number)?;
     out.encode_i64_le(number)
 }
 
+/// Reads the three numbers that `write_i64` writes.
 fn read_i64(mut buf: &[u8]) -> codec::Result<(i64, i64, i64)> {
     Ok((
         decode_i64(&mut buf)?,
@@ -64,7 +68,7 @@ fn read_i64(mut buf: &[u8]) -> codec::Result<(i64, i64, i64)> {
     ))
 }
 
-/// Tests whether the row is written, and read back.
+/// Tests whether the numbers of a row are written as its bytes, and read back from them.
 fn is_i64_row(row: SignedRow) -> codec::Result<bool> {
     let (number, ascending, descending, lowest_first) = row;
     let mut bytes = [0; 24];
@@ -75,7 +79,7 @@ fn is_i64_row(row: SignedRow) -> codec::Result<bool> {
     )
 }
 
-/// Tests whether the row is written, and read back.
+/// Tests whether the numbers of a row are written as its bytes, and read back from them.
 fn is_short_row(row: ShortRow) -> codec::Result<bool> {
     let (
         long,
@@ -99,6 +103,7 @@ fn is_short_row(row: ShortRow) -> codec::Result<bool> {
     )
 }
 
+/// Writes two numbers, each with its highest byte first, and with its lowest byte first.
 fn write_shorts(long: u32, short: u16, mut out: &mut [u8]) -> codec::Result<()> {
     out.encode_u32(long)?;
     out.encode_u32_le(long)?;
@@ -106,7 +111,7 @@ fn write_shorts(long: u32, short: u16, mut out: &mut [u8]) -> codec::Result<()> 
     out.encode_u16_le(short)
 }
 
-/// Returns the numbers that twice four and twice two bytes are, the first byte highest.
+/// Returns the numbers in twice four and twice two bytes, each with its highest byte first.
 fn shorts_of(bytes: &[u8; 12]) -> (u32, u32, u16, u16) {
     (
         BigEndian::read_u32(&bytes[0..4]),
@@ -116,6 +121,7 @@ fn shorts_of(bytes: &[u8; 12]) -> (u32, u32, u16, u16) {
     )
 }
 
+/// Reads the four numbers that `write_shorts` writes.
 fn read_shorts(mut buf: &[u8]) -> codec::Result<(u32, u32, u16, u16)> {
     Ok((
         decode_u32(&mut buf)?,
@@ -125,7 +131,7 @@ fn read_shorts(mut buf: &[u8]) -> codec::Result<(u32, u32, u16, u16)> {
     ))
 }
 
-/// Tests whether the row is written, and read back.
+/// Tests whether the numbers of a row are written as its bytes, and read back from them.
 fn is_i32_row(row: (i32, u32)) -> codec::Result<bool> {
     let (number, lowest_first) = row;
     let mut bytes = [0; 4];
@@ -151,8 +157,8 @@ fn numbers_of_a_fixed_width(rt: HostRuntime) {
     }
 }
 
-/// Tests whether the bytes of a lower number come before those of a higher one, and after them where they are written
-/// in reverse.
+/// Tests whether the bytes of a lower number are less than those of a higher one, and greater where both are written in
+/// descending order.
 fn are_u64_in_order(low: u64, high: u64) -> codec::Result<bool> {
     let mut bytes = [0; 32];
     let mut out: &mut [u8] = &mut bytes;
@@ -163,6 +169,8 @@ fn are_u64_in_order(low: u64, high: u64) -> codec::Result<bool> {
     Ok(low < high && bytes[0..8] < bytes[8..16] && bytes[16..24] > bytes[24..32])
 }
 
+/// Tests for signed numbers whether the bytes of a lower one are less than those of a higher one, and greater where
+/// both are written in descending order.
 fn are_i64_in_order(low: i64, high: i64) -> codec::Result<bool> {
     let mut bytes = [0; 32];
     let mut out: &mut [u8] = &mut bytes;
@@ -173,6 +181,7 @@ fn are_i64_in_order(low: i64, high: i64) -> codec::Result<bool> {
     Ok(low < high && bytes[0..8] < bytes[8..16] && bytes[16..24] > bytes[24..32])
 }
 
+/// Tests whether the bytes of a lower number are less than those of a higher one.
 fn are_u32_in_order(low: u32, high: u32) -> codec::Result<bool> {
     let mut bytes = [0; 8];
     let mut out: &mut [u8] = &mut bytes;
@@ -181,6 +190,7 @@ fn are_u32_in_order(low: u32, high: u32) -> codec::Result<bool> {
     Ok(low < high && bytes[0..4] < bytes[4..8])
 }
 
+/// Tests whether the bytes of a lower number are less than those of a higher one.
 fn are_u16_in_order(low: u16, high: u16) -> codec::Result<bool> {
     let mut bytes = [0; 4];
     let mut out: &mut [u8] = &mut bytes;
@@ -189,7 +199,7 @@ fn are_u16_in_order(low: u16, high: u16) -> codec::Result<bool> {
     Ok(low < high && bytes[0..2] < bytes[2..4])
 }
 
-/// Tests that the numbers rise from row to row, and their bytes with them.
+/// Tests that the numbers rise from row to row, and that their bytes rise with them.
 #[test]
 fn bytes_are_in_the_order_of_the_numbers(rt: HostRuntime) {
     for pair in long_rows().windows(2) {
@@ -208,7 +218,7 @@ fn bytes_are_in_the_order_of_the_numbers(rt: HostRuntime) {
     }
 }
 
-/// Tests whether both numbers are written so, with nothing after them.
+/// Tests whether both numbers are written as `spelling`, and nothing more.
 fn are_written(number: u64, signed: i64, spelling: &[u8]) -> codec::Result<bool> {
     let mut bytes = [0; 20];
     let mut out: &mut [u8] = &mut bytes;
@@ -219,7 +229,7 @@ fn are_written(number: u64, signed: i64, spelling: &[u8]) -> codec::Result<bool>
     Ok(bytes.get(..middle) == Some(spelling) && bytes.get(middle..end) == Some(spelling))
 }
 
-/// Tests whether both decoders read these numbers, and leave so many bytes.
+/// Tests whether the decoders read `number` and `signed` from these bytes, and both leave `left` bytes.
 fn are_read(bytes: &[u8], number: u64, signed: i64, left: usize) -> codec::Result<bool> {
     let mut buf = bytes;
     let mut signed_buf = bytes;
@@ -231,7 +241,7 @@ fn are_read(bytes: &[u8], number: u64, signed: i64, left: usize) -> codec::Resul
     )
 }
 
-/// Tests whether the answer is a refusal of this kind.
+/// Tests whether a result is an io error of a kind.
 fn is_refusal<T: Drop>(read: codec::Result<T>, kind: ErrorKind) -> bool {
     matches!(read, Err(Error::Io(e)) if e.kind() == kind)
 }
@@ -262,7 +272,7 @@ fn numbers_in_base_128(rt: HostRuntime) {
     }
 }
 
-/// Tests that no number of eight bytes is written to seven, or read of them.
+/// Tests that a number of eight bytes isn't written to seven bytes, nor read from them.
 #[test]
 fn seven_bytes_hold_no_number(rt: HostRuntime) {
     let mut bytes = [0; 7];
@@ -296,7 +306,7 @@ fn slices_that_are_too_short(rt: HostRuntime) {
     assert!(rt; is_refusal(read_u8(&mut empty), ErrorKind::UnexpectedEof));
 }
 
-/// Writes a number by each encoder, and one that takes a byte.
+/// Writes a number by each encoder, and then one that takes a single byte.
 fn encode_all<W: Write>(out: &mut W) -> codec::Result<()> {
     encode_highest_first(out)?;
     encode_lowest_first(out)?;
@@ -305,6 +315,7 @@ fn encode_all<W: Write>(out: &mut W) -> codec::Result<()> {
     out.encode_var_u64(1)
 }
 
+/// Writes the number 1 by each encoder of a length that writes the highest byte first.
 fn encode_highest_first<W: Write>(out: &mut W) -> codec::Result<()> {
     out.encode_u64(1)?;
     out.encode_u32(1)?;
@@ -314,6 +325,7 @@ fn encode_highest_first<W: Write>(out: &mut W) -> codec::Result<()> {
     out.encode_i64_desc(1)
 }
 
+/// Writes a number by each encoder that writes the lowest byte first.
 fn encode_lowest_first<W: Write>(out: &mut W) -> codec::Result<()> {
     out.encode_u16_le(1)?;
     out.encode_u32_le(1)?;
@@ -322,7 +334,7 @@ fn encode_lowest_first<W: Write>(out: &mut W) -> codec::Result<()> {
     out.encode_i64_le(1)
 }
 
-/// What all encoders write, one after the other.
+/// The bytes that all encoders write, one after the other.
 const ALL_NUMBERS: &[u8] = b"\
     \x00\x00\x00\x00\x00\x00\x00\x01\
     \x00\x00\x00\x01\
@@ -339,10 +351,10 @@ const ALL_NUMBERS: &[u8] = b"\
     \xff\x0f\
     \x01";
 
-/// Where a number of these ends.
+/// The offsets in these bytes at which a number begins or ends.
 const ENDS: [usize; 15] = [0, 8, 12, 14, 22, 30, 38, 40, 44, 52, 56, 64, 66, 68, 69];
 
-/// A writer that takes all that it is given, so many times.
+/// A writer that takes a number of writes, each as a whole, and then fails.
 #[derive(Drop)]
 struct Limited {
     writes: usize,
@@ -362,8 +374,8 @@ impl Write for Limited {
     }
 }
 
-/// Tests that each of the fourteen numbers is one write, and its error is the writer's. A vector takes the whole of a
-/// write or nothing, so it never keeps a part of a number.
+/// Tests that each of the fourteen numbers is written by a single write, whose error is passed on. A vector takes a
+/// write as a whole or not at all, so it never has a part of a number.
 #[test]
 fn numbers_are_written_at_once(rt: HostRuntime) {
     for writes in 0..14 {
@@ -377,7 +389,7 @@ fn numbers_are_written_at_once(rt: HostRuntime) {
     assert!(rt; encode_all(&mut out).is_ok());
 }
 
-/// Tests that a vector that finds no memory for a number keeps the numbers before it, and no part of it.
+/// Tests that a vector which finds no memory for a number keeps the numbers before it, and no part of that number.
 #[test]
 fn vectors_take_whole_numbers(rt: HostRuntime) {
     let mut vector = Vec::new(rt.alloc());

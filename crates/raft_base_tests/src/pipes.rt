@@ -46,11 +46,12 @@ impl PipeLog for SmallPipe {
     }
 }
 
+/// Returns the append file at the fraction `num` / `den` of a small pipe.
 fn small_file_at(num: u64, den: u64) -> FileSeq {
     SmallPipe.file_at(LogQueue::Append, num, den.max(1))
 }
 
-/// Returns how many bytes the pipe appends.
+/// Returns the length that a pipe gives for appended bytes; `None` where it refuses them.
 fn appended_len(mut bytes: &&str) -> Option<usize> {
     match SmallPipe.append(LogQueue::Rewrite, &mut bytes) {
         Ok(place) => Some(place.len),
@@ -70,10 +71,12 @@ fn pipes_are_asked_for_parts(rt: HostRuntime) {
     assert!(rt; appended_len(bytes) == Some(4));
 }
 
+/// Tests whether a file comes before another.
 fn is_before(old: FileId, new: FileId) -> bool {
     old < new
 }
 
+/// Returns the file that comes after the other.
 fn later(old: FileId, new: FileId) -> FileId {
     new.max(old)
 }
@@ -89,12 +92,13 @@ fn files_and_queues_have_numbers(rt: HostRuntime) {
     assert!(rt; LogQueue::Rewrite as u8 == 1);
 }
 
-/// Tests whether a version is printed so.
+/// Tests whether a version prints as a text.
 fn is_printed(version: Version, text: &str) -> bool {
     let printed = InlineText::<32>::of(version);
     printed.as_str() == text
 }
 
+/// Returns the version with a number; `None` where there is none.
 fn version_of(number: u64) -> Option<Version> {
     Version::from_u64(number)
 }

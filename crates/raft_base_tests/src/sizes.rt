@@ -70,7 +70,8 @@ fn sizes_are_calculated(rt: HostRuntime) {
     assert_eq!(rt; ReadableSize::kb(3) * 2 / 4, ReadableSize(1536));
 }
 
-/// Returns the size of a text that is a value. Want of memory is an empty text.
+/// Returns the size that a text stands for as a TOML value. Without memory for the value it is refused as an empty
+/// text.
 fn read_value(alloc: Global, text: &str) -> Result<ReadableSize, SizeError> {
     match Value::string(alloc, text) {
         Ok(value) => size_from_value(&value),
@@ -110,6 +111,7 @@ impl Factory<ReadableSize> for Sizes {
     }
 }
 
+/// Returns two values that a factory makes.
 fn two_of<T: Drop, F: Factory<T>>(alloc: Global, factory: &F) -> raft_base::Result<(T, T)> {
     Ok((factory.new_target(alloc)?, factory.new_target(alloc)?))
 }
@@ -126,7 +128,7 @@ struct Settings {
     format: Version,
 }
 
-/// Returns what settings are written as that are read from a text.
+/// Reads settings from a text, and returns the text that they are written as; `None` where one of both fails.
 fn rewritten(alloc: Global, text: &str) -> Option<String> {
     let settings = toml::from_str::<Settings>(alloc, text).ok()?;
     toml::to_string(alloc, &settings).ok()

@@ -1,4 +1,4 @@
-//! Times log batches: their bytes are made and signed, and read again.
+//! Times log batches: how fast their bytes are made and signed, and how fast their items are read again.
 
 use crate::timing::{Noise, best_times, print_time_and_speed, time_work};
 use raft_records::codec::BytesSlice;
@@ -8,7 +8,7 @@ use raft_records::{
 };
 use std::alloc::Global;
 
-/// How many bytes an entry has.
+/// How many bytes each entry has.
 const ENTRY_SIZE: usize = 256;
 
 /// An entry whose message is its bytes.
@@ -23,7 +23,7 @@ impl Message for Entry {
 
     ghost refuses = { λ entry code. ⊥ };
 
-    /// Appends the bytes of the entry.
+    /// Appends the bytes of the entry to `buf`.
     ///
     /// # Errors
     ///
@@ -36,7 +36,7 @@ impl Message for Entry {
     }
 }
 
-/// The entries of the batches.
+/// The kind of entries that the batches have: each is an [`Entry`].
 struct Entries;
 
 impl MessageExt for Entries {
@@ -50,16 +50,20 @@ impl MessageExt for Entries {
     }
 }
 
-/// How batches look: each region brings entries, each fourth one a key value too, each eighth one a
-/// command.
+/// How many batches are timed, and what is in each. Each region adds entries, each fourth one a key value
+/// too, each eighth one a command.
 #[derive(Clone, Copy)]
 struct Shape {
+    /// How many batches there are.
     batches: u64,
+    /// How many regions each batch has.
     regions: u64,
+    /// How many entries each region adds.
     entries: u64,
 }
 
-/// Times batches as a store of many groups writes them, and larger ones.
+/// Times small batches, as a store of many groups writes them, and larger ones, and prints two lines for each
+/// shape.
 ///
 /// # Errors
 ///
@@ -89,12 +93,13 @@ pub(crate) fn time_batches(rt: &HostRuntime) -> Result<()> {
     Ok(())
 }
 
-/// Returns the context of the file that the batches are signed for.
+/// Returns the file for which the batches are signed.
 fn file_context() -> LogFileContext {
     LogFileContext::new(FileId::new(LogQueue::Append, 12), Version::V2)
 }
 
-/// Times how the bytes of batches of this `shape` are made and signed, prints a line, and returns the bytes.
+/// Times how long it takes to make and sign the bytes of batches of this `shape`, and prints a line. Returns
+/// the bytes of each batch.
 ///
 /// # Errors
 ///
@@ -113,8 +118,8 @@ fn time_writing(rt: &HostRuntime, shape: Shape) -> Result<Vec<Vec<u8>>> {
     Ok(encoded)
 }
 
-/// Returns how many nanoseconds it takes to make and sign the bytes of batches of this `shape`, whose entries
-/// are `messages`, and these bytes.
+/// Makes and signs the bytes of batches of this `shape`, whose entries are `messages`. Returns how many
+/// nanoseconds that takes, without the filling of the batches, and the bytes of each batch.
 ///
 /// # Errors
 ///
@@ -130,7 +135,7 @@ fn write_batches(
     Ok((taken, sealed_bytes(rt.alloc(), batches.as_slice())?))
 }
 
-/// Times how the items of the batches `encoded` are read, and prints a line.
+/// Times how long it takes to read the items of the batches whose bytes are `encoded`, and prints a line.
 ///
 /// # Errors
 ///
@@ -151,7 +156,7 @@ fn time_reading(rt: &HostRuntime, encoded: &[Vec<u8>]) -> Result<()> {
     Ok(())
 }
 
-/// Returns the entries that each region brings to a batch: `count` of 256 bytes, with the indexes from 0 on.
+/// Returns the entries that each region adds to a batch: `count` of 256 bytes, with the indexes from 0 on.
 ///
 /// # Errors
 ///
@@ -169,7 +174,7 @@ fn messages_of_region(alloc: Global, count: u64) -> Result<Vec<Entry>> {
     Ok(messages)
 }
 
-/// Returns open batches of this `shape`, in which each region brings the entries `messages`.
+/// Returns open batches of this `shape`, to each of which each region adds the entries `messages`.
 ///
 /// # Errors
 ///
@@ -186,12 +191,12 @@ fn fill_batches(alloc: Global, shape: Shape, messages: &[Entry]) -> Result<Vec<L
     Ok(batches)
 }
 
-/// Adds what `region` brings to `batch`: the entries `messages`, and for some regions a key value and a
+/// Adds the records of `region` to `batch`: the entries `messages`, and for some regions a key value and a
 /// command.
 ///
 /// # Errors
 ///
-/// Those of the batch's calls; `Memory`.
+/// Those of the batch's calls; `Memory`. Some of the records may have been added then.
 fn add_region(alloc: Global, batch: &mut LogBatch, region: u64, messages: &[Entry]) -> Result<()> {
     if batch.is_open() {
         batch.add_entries::<Entries>(region % 1_000 + 1, messages)?;
@@ -205,7 +210,7 @@ fn add_region(alloc: Global, batch: &mut LogBatch, region: u64, messages: &[Entr
     Ok(())
 }
 
-/// Adds a key value of `region` to a batch, if it is open.
+/// Adds a key value of `region` to `batch`, if it is open.
 ///
 /// # Errors
 ///
@@ -218,7 +223,7 @@ fn add_key_value(alloc: Global, batch: &mut LogBatch, region: u64) -> Result<()>
     Ok(())
 }
 
-/// Makes the bytes of `batches`, and signs them: the work that is timed.
+/// Makes the bytes of `batches`, and signs them. This is the work that is timed.
 ///
 /// # Errors
 ///
@@ -260,8 +265,8 @@ fn total_length(encoded: &[Vec<u8>]) -> usize {
     length
 }
 
-/// Reads the items of the batches `encoded`: the work that is timed. Returns how many items there are, and
-/// how many bytes the item batches have.
+/// Reads the items of the batches whose bytes are `encoded`. This is the work that is timed. Returns how many
+/// items there are, and how many bytes the item batches have.
 ///
 /// # Errors
 ///

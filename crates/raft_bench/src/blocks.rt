@@ -1,4 +1,4 @@
-//! Times tables by how many entries each of their blocks has, and counts the bytes of what is kept.
+//! Times tables with long and with short blocks (entries at one place), and counts the bytes that they take.
 
 use crate::tables::{
     APPENDED, REGIONS, REWRITTEN, Region, append_all_runs, count_found, empty_regions, run_from,
@@ -16,23 +16,23 @@ const ENTRIES: u64 = 2_048;
 /// How many blocks a table of many blocks has.
 const BLOCKS: u64 = 1_000;
 
-/// How many entries each of those has.
+/// How many entries each of those blocks has.
 const SPANS: u64 = 8;
 
-/// How many such tables are merged.
+/// How many pairs of such tables are merged.
 const PAIRS: u64 = 200;
 
 /// How many entries are looked up.
 const LOOKUPS: u64 = 1_000_000;
 
-/// How many entries a rewriting within a table moves.
+/// How many entries a rewriting of a part of a table moves.
 const STEP: u64 = 64;
 
-/// Times tables of long blocks and of short ones.
+/// Times tables of long blocks and of short ones, and prints a line for each work.
 ///
 /// # Errors
 ///
-/// Those of the clock and of the output, and want of memory.
+/// Those of the clock and of the output; lack of memory.
 pub(crate) fn time_blocks(rt: &HostRuntime) -> io::Result<()> {
     for &len in &[64, 8, 1] {
         time_appends(rt, len)?;
@@ -42,7 +42,8 @@ pub(crate) fn time_blocks(rt: &HostRuntime) -> io::Result<()> {
     time_merge(rt)
 }
 
-/// Returns how many bytes are allocated for the blocks of `region`, their first indexes and their spans.
+/// Returns how many bytes are allocated for the blocks of `region`, with their first indexes and the spans of
+/// their entries.
 fn allocated_bytes(region: &Region) -> usize {
     let blocks = region.blocks();
     let each = size_of::<Block>() + size_of::<u64>();
@@ -57,11 +58,12 @@ fn allocated_bytes(region: &Region) -> usize {
     bytes
 }
 
-/// Times appends of runs of `len` entries, each a block, and prints how many bytes are kept for an entry.
+/// Times appends of runs of `len` entries, each a block of its own, and prints how many bytes are kept for an
+/// entry and how long an entry takes.
 ///
 /// # Errors
 ///
-/// Those of the clock and of the output, and want of memory.
+/// Those of the clock and of the output; lack of memory.
 fn time_appends(rt: &HostRuntime, len: u64) -> io::Result<()> {
     let (best, bytes) = best_times(|| append_runs(rt, len))?;
     let entries = REGIONS * ENTRIES;
@@ -72,12 +74,12 @@ fn time_appends(rt: &HostRuntime, len: u64) -> io::Result<()> {
     print_time_per_unit(rt, "append", best, "entry", entries)
 }
 
-/// Returns how many nanoseconds it takes to append runs of `len` entries to regions without records, and how
-/// many bytes are kept then.
+/// Appends runs of `len` entries to regions without records. Returns how many nanoseconds that takes, and how
+/// many bytes are then kept for blocks.
 ///
 /// # Errors
 ///
-/// Those of the clock, and want of memory.
+/// Those of the clock; lack of memory.
 fn append_runs(rt: &HostRuntime, len: u64) -> io::Result<(u64, usize)> {
     let mut regions = empty_regions(rt.alloc())?;
     let runs = runs(rt.alloc(), REGIONS, ENTRIES, len, APPENDED)?;
@@ -90,11 +92,11 @@ fn append_runs(rt: &HostRuntime, len: u64) -> io::Result<(u64, usize)> {
 }
 
 /// Returns a table of 1,000 blocks of 8 entries, whose indexes rise from `first` on. If a run is refused, the
-/// table has those before it.
+/// table has only those before it.
 ///
 /// # Errors
 ///
-/// `AllocError` if there is no memory for it.
+/// `AllocError` if there is no memory.
 fn long_table(alloc: Global, first: u64) -> AllocResult<Region> {
     let mut region = Region::new(alloc, 1);
     let mut next = first;
@@ -108,11 +110,11 @@ fn long_table(alloc: Global, first: u64) -> AllocResult<Region> {
     Ok(region)
 }
 
-/// Times look-ups of entries in one table of many blocks.
+/// Times look-ups of entries in one table of many blocks, and prints a line.
 ///
 /// # Errors
 ///
-/// Those of the clock and of the output, and want of memory.
+/// Those of the clock and of the output; lack of memory.
 fn time_get(rt: &HostRuntime) -> io::Result<()> {
     let mut regions = Vec::new(rt.alloc());
     regions.push(long_table(rt.alloc(), 1)?)?;
@@ -134,7 +136,8 @@ fn time_get(rt: &HostRuntime) -> io::Result<()> {
     )
 }
 
-/// Rewrites a table of many blocks from its first entry on, one of `runs` a call: the work that is timed.
+/// Rewrites `region`, a table of many blocks, from its first entry on, by one call for each of `runs`. This
+/// is the work that is timed. It ends at a refusal.
 fn rewrite_by_steps(region: &mut Region, runs: Vec<Vec<EntryIndex>>) {
     for run in runs {
         if region.rewrite(run).is_err() {
@@ -143,11 +146,11 @@ fn rewrite_by_steps(region: &mut Region, runs: Vec<Vec<EntryIndex>>) {
     }
 }
 
-/// Times rewritings of one table of many blocks, 64 entries a call.
+/// Times rewritings of one table of many blocks, 64 entries a call, and prints a line.
 ///
 /// # Errors
 ///
-/// Those of the clock and of the output, and want of memory.
+/// Those of the clock and of the output; lack of memory.
 fn time_rewrite(rt: &HostRuntime) -> io::Result<()> {
     let (best, ()) = best_times(|| {
         let mut region = long_table(rt.alloc(), 1)?;
@@ -163,11 +166,11 @@ fn time_rewrite(rt: &HostRuntime) -> io::Result<()> {
     )
 }
 
-/// Returns tables of 1,000 blocks each, whose indexes rise from `first` on.
+/// Returns 200 tables of 1,000 blocks each, whose indexes rise from `first` on.
 ///
 /// # Errors
 ///
-/// `AllocError` if there is no memory for them.
+/// `AllocError` if there is no memory.
 fn long_tables(alloc: Global, first: u64) -> AllocResult<Vec<Region>> {
     let mut regions = Vec::new(alloc);
     for _ in 0..PAIRS {
@@ -176,7 +179,8 @@ fn long_tables(alloc: Global, first: u64) -> AllocResult<Vec<Region>> {
     Ok(regions)
 }
 
-/// Merges each of the `newer` tables into its `older` neighbor: the work that is timed.
+/// Merges each of the `newer` tables into the `older` one at the same position. This is the work that is
+/// timed. It ends at a refusal.
 fn merge_all_regions(older: &mut Vec<Region>, newer: Vec<Region>) {
     for (older, newer) in older.iter_mut().zip(newer) {
         if older.merge(newer).is_err() {
@@ -185,11 +189,11 @@ fn merge_all_regions(older: &mut Vec<Region>, newer: Vec<Region>) {
     }
 }
 
-/// Times merges of tables of many blocks with their newer neighbors.
+/// Times merges of tables of many blocks with their newer neighbors, and prints a line.
 ///
 /// # Errors
 ///
-/// Those of the clock and of the output, and want of memory.
+/// Those of the clock and of the output; lack of memory.
 fn time_merge(rt: &HostRuntime) -> io::Result<()> {
     let (best, ()) = best_times(|| {
         let mut older = long_tables(rt.alloc(), 1)?;

@@ -4,7 +4,8 @@ use crate::timing::{Noise, best_times, print_time_and_speed, time_work};
 use raft_records::Result;
 use raft_records::util::crc32;
 
-/// Times the checksums of 16 MiB, cut into chunks of several lengths.
+/// Times the checksums of 16 MiB, cut into chunks of eight lengths in turn, and prints a line for each
+/// length.
 ///
 /// # Errors
 ///
@@ -18,7 +19,7 @@ pub(crate) fn time_checksums(rt: &HostRuntime) -> Result<()> {
     Ok(())
 }
 
-/// Times the checksums of chunks of `size` bytes, and prints a line.
+/// Times the checksums of the chunks of `size` bytes that `bytes` have, and prints a line.
 ///
 /// # Errors
 ///
@@ -31,7 +32,8 @@ fn time_size(rt: &HostRuntime, bytes: &[u8], size: usize) -> Result<()> {
     Ok(())
 }
 
-/// Returns the exclusive or of the checksums of all chunks of `size` bytes: the work that is timed.
+/// Returns the exclusive or of the checksums of all chunks of `size` bytes that `bytes` have. This is the
+/// work that is timed.
 fn checksums(bytes: &[u8], size: usize) -> u32 {
     let mut all = 0;
     for chunk in bytes.chunks_exact(size.max(1)) {

@@ -1,4 +1,4 @@
-//! The logs that words name, and lines of two times of a log.
+//! Logs that the words of a command line name, and lines of two times of a log.
 
 use crate::timing::quotient_in_tenths;
 use raft_records::{LogQueue, Result};
@@ -8,27 +8,34 @@ use raft_recover::request::{Request, read_files};
 use std::io;
 use std::rt::Files;
 
-/// The files of a log, in memory, and how they are to be recovered.
+/// The files of a log, in memory, and how to recover them.
 #[derive(Drop)]
 pub(crate) struct Log {
+    /// The queue of the files.
     pub(crate) queue: LogQueue,
+    /// How many workers recover them.
     pub(crate) workers: usize,
+    /// A segment for each file.
     pub(crate) segments: Vec<Segment>,
 }
 
-/// What was timed, and two times with their names, in nanoseconds.
+/// What was timed, and two of its times, in nanoseconds, each with its name.
 #[derive(Drop)]
 pub(crate) struct LogTimes {
+    /// What was timed.
     pub(crate) name: String,
+    /// The first time and its name.
     pub(crate) first: (&'static str, u64),
+    /// The second time and its name.
     pub(crate) second: (&'static str, u64),
 }
 
-/// Reads the log that the words of `raftlog recover` name. Returns `None` for other words.
+/// Reads the log that the words `recover <queue> <version> <workers> <seq>=<path>..` name. Returns `None` for
+/// other words.
 ///
 /// # Errors
 ///
-/// Those of reading the files; `Memory`.
+/// `Io` if a file can't be read; `Memory`.
 pub(crate) fn read_log<R: Files + AllocGlobal>(rt: &R, words: &[String]) -> Result<Option<Log>> {
     let Some(Request::Recover(asked)) = Request::parse(rt.alloc(), words)? else {
         return Ok(None);
@@ -41,8 +48,8 @@ pub(crate) fn read_log<R: Files + AllocGlobal>(rt: &R, words: &[String]) -> Resu
     }))
 }
 
-/// Prints both times in milliseconds or, without `times`, which words the program takes: those of `raftlog
-/// recover` behind `before`.
+/// Prints the two times of `times` in milliseconds. For `None` it prints on standard error which words the
+/// program takes: those of `raftlog recover`, after the word or words `before`.
 ///
 /// # Errors
 ///

@@ -1,6 +1,6 @@
-//! Times the record layer. Without words it does nothing; each word names what it times, and `recover` with the
-//! words after it, which are those of `raftlog recover`, times the recovery of files, `merge` before them the
-//! merging of contexts.
+//! Times the libraries of this repository. Without words it does nothing. Each word names what is timed;
+//! `recover` and the words after it, which are those of `raftlog recover`, time the recovery of files, and
+//! with `merge` before them the merging of contexts.
 #![tactic(auto)]
 
 mod batches;
@@ -19,11 +19,12 @@ use raft_records::Result;
 use raft_recover::command_words;
 use std::io;
 
-/// Times what the words name, and prints the times.
+/// Times what the words of the command line name, and prints the times. What can't be timed is reported on
+/// standard error.
 ///
 /// # Errors
 ///
-/// Those of the words and of the output.
+/// Those of reading the words and of the output.
 fn main(rt: HostRuntime) -> io::Result<()> {
     let words = command_words(&rt)?;
     match words.as_slice().split_first() {
@@ -47,7 +48,9 @@ fn main(rt: HostRuntime) -> io::Result<()> {
     }
 }
 
-/// Prints `times`, what was timed of a log, or why nothing was.
+/// Prints the two times of `times` in milliseconds, or its error on standard error. For `Ok(None)` it prints
+/// on standard error which words the program takes: those of `raftlog recover`, after the word or words
+/// `before`.
 ///
 /// # Errors
 ///
@@ -63,7 +66,7 @@ fn print_times_or_error(
     }
 }
 
-/// Prints the error of `timed`, if it is one.
+/// Prints the error of `timed` on standard error. Does nothing if there is none.
 ///
 /// # Errors
 ///
@@ -75,7 +78,8 @@ fn print_error(rt: &HostRuntime, timed: Result<()>) -> io::Result<()> {
     }
 }
 
-/// Times what `word` names, and prints a line for each work. Prints the usage for other words.
+/// Times what `word` names, and prints a line for each work. For other words it prints the usage on standard
+/// error.
 ///
 /// # Errors
 ///

@@ -1,4 +1,4 @@
-//! Times the merging of contexts beside the reading of their batches, all on one thread.
+//! Times the merging of contexts, beside the reading of their batches, all on one thread.
 
 use crate::logs::{LogTimes, read_log};
 use crate::timing::{best_times, time_work};
@@ -13,13 +13,13 @@ use std::time::Clock;
 /// How many contexts are merged, by halves.
 const CONTEXTS: usize = 4;
 
-/// Times how long four contexts take to read a quarter of the files each, and to be merged by halves. The
-/// words are those of `raftlog recover`. Returns `None` for other words, and if the files have fewer than
-/// four batches.
+/// Times how long it takes four contexts to read a quarter of the files each, and then to merge them by
+/// halves. `words` are those of `raftlog recover`. Returns `None` for other words, and if the files have
+/// fewer than four batches.
 ///
 /// # Errors
 ///
-/// Those of reading the files, of [`time_run`], and `Memory`.
+/// Those of reading the files; those of [`time_run`]; `Memory`.
 pub(crate) fn time_merges<R: Files + AllocGlobal + Clock>(
     rt: &R,
     words: &[String],
@@ -39,7 +39,7 @@ pub(crate) fn time_merges<R: Files + AllocGlobal + Clock>(
     }))
 }
 
-/// Returns how many nanoseconds it takes to read `quarters`, and to merge what was read.
+/// Reads `quarters` of `queue`, and merges what was read. Returns how many nanoseconds each of the two takes.
 ///
 /// # Errors
 ///
@@ -56,10 +56,11 @@ fn time_run<R: AllocGlobal + Clock>(
     Ok(([reading, merging], ()))
 }
 
-/// The contexts of two quarters of the files, one behind the other.
+/// The contexts of two neighboring quarters of the files, the older one first.
 type Half = (MemTableRecoverContext, MemTableRecoverContext);
 
-/// Returns a context for each of `quarters`, which has read it.
+/// Reads each of `quarters` into a context of its own. Returns those of the older half and those of the newer
+/// half.
 ///
 /// # Errors
 ///
@@ -87,7 +88,8 @@ fn read_segment(alloc: Global, segment: &Segment) -> Result<MemTableRecoverConte
     Ok(context)
 }
 
-/// Merges the contexts of the halves `older` and `newer`, and then both of these: the work that is timed.
+/// Merges the two contexts of each half, and then the two results. This is the work that is timed. The halves
+/// are neighbors, and all batches are of `queue`.
 ///
 /// # Errors
 ///
@@ -97,7 +99,7 @@ fn merge_by_halves(older: Half, newer: Half, queue: LogQueue) -> Result<()> {
     older.merge(merge_half(newer, queue)?, queue)
 }
 
-/// Merges the two contexts of `half`, and returns the result.
+/// Merges the newer context of `half` into the older one, and returns the result.
 ///
 /// # Errors
 ///

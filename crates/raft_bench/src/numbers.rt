@@ -1,4 +1,4 @@
-//! Times numbers in base 128.
+//! Times the writing and reading of numbers in base 128.
 
 use crate::timing::{Noise, best_times, print_time_and_speed, time_work};
 use raft_records::Result;
@@ -8,7 +8,7 @@ use std::io;
 /// How many numbers are written and read.
 const COUNT: usize = 1_000_000;
 
-/// Times the writing and reading of numbers of several lengths.
+/// Times the writing and reading of numbers of five lengths, and prints two lines for each length.
 ///
 /// # Errors
 ///
@@ -25,7 +25,7 @@ pub(crate) fn time_numbers(rt: &HostRuntime) -> Result<()> {
     Ok(())
 }
 
-/// Times the writing and reading of numbers of `bits` bits, and prints a line for each.
+/// Times the writing and reading of `numbers`, which have at most `bits` bits, and prints a line for each.
 ///
 /// # Errors
 ///
@@ -46,8 +46,8 @@ fn time_length(rt: &HostRuntime, bits: u32, numbers: &[u64]) -> Result<()> {
     Ok(())
 }
 
-/// Appends the bytes of `numbers` to `bytes`, up to the first one that can't be written: the work that is
-/// timed.
+/// Appends the bytes of `numbers` to `bytes`, up to the first one that can't be written. This is the work
+/// that is timed.
 fn write_numbers(bytes: &mut Vec<u8>, numbers: &[u64]) {
     for number in numbers {
         if bytes.encode_var_u64(*number).is_err() {
@@ -56,7 +56,8 @@ fn write_numbers(bytes: &mut Vec<u8>, numbers: &[u64]) {
     }
 }
 
-/// Returns the sum of the numbers that `bytes` have, modulo 2^64: the work that is timed.
+/// Reads a million numbers from `bytes`, or as many as there are, and returns their sum modulo 2^64. This is
+/// the work that is timed.
 fn sum_numbers(bytes: BytesSlice<'_>) -> u64 {
     let mut rest = bytes;
     let mut sum = 0u64;

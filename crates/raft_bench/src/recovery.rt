@@ -8,15 +8,15 @@ use std::rt::Files;
 use std::thread::Threads;
 use std::time::Clock;
 
-/// How often a recovery is timed.
+/// How many times a recovery is timed.
 const RUNS: usize = 15;
 
-/// Times how long it takes from the bytes of files in memory to the tables of all regions. The words are
-/// those of `raftlog recover`. Returns `None` for other words.
+/// Times how long it takes to recover the tables of all regions from the bytes of files in memory. `words`
+/// are those of `raftlog recover`. Returns the best and the median of 15 times, or `None` for other words.
 ///
 /// # Errors
 ///
-/// Those of reading the files and of [`time_run`]; `Memory`.
+/// Those of reading the files; those of [`time_run`]; `Memory`.
 pub(crate) fn time_recovery<R: Threads + Files + AllocGlobal + Clock + Sync>(
     rt: &R,
     words: &[String],
@@ -38,7 +38,7 @@ pub(crate) fn time_recovery<R: Threads + Files + AllocGlobal + Clock + Sync>(
     }))
 }
 
-/// Returns how many nanoseconds one recovery of `log` takes, and how many regions have a table then.
+/// Recovers `log` once. Returns how many nanoseconds that takes, and how many regions have a table then.
 ///
 /// # Errors
 ///

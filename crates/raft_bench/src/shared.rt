@@ -1,4 +1,4 @@
-//! Times tables that threads share.
+//! Times tables that several threads share.
 
 use crate::tables::{APPENDED, run_from};
 use crate::timing::{Noise, best_times, print_time_per_unit, time_work};
@@ -22,7 +22,8 @@ const RUN: u64 = 8;
 /// How many tables are looked up.
 const LOOKUPS: u64 = 1_000_000;
 
-/// Times appends to shared tables by several threads, and look-ups beside those of an accessor.
+/// Times appends to shared tables by one, two and four threads, and look-ups in shared tables beside those in
+/// an accessor. Prints a line for each.
 ///
 /// # Errors
 ///
@@ -41,8 +42,8 @@ pub(crate) fn time_shared_tables<R: Threads + Wait + Clock + Print + Sync>(
     time_table_lookups(rt, alloc)
 }
 
-/// Returns how many nanoseconds `threads` threads take to append to all regions, each thread to its share of
-/// them.
+/// Appends all runs to shared tables by `threads` threads, each to its part of the regions. Returns how many
+/// nanoseconds that takes.
 ///
 /// # Errors
 ///
@@ -64,7 +65,8 @@ fn time_append_by_threads<R: Threads + Wait + Clock + Sync>(
     Ok((taken, ()))
 }
 
-/// Appends all runs of the regions of one thread: those whose number, divided by `threads`, leaves `thread`.
+/// Appends all runs of the regions of one thread: those whose number leaves the remainder `thread` when it is
+/// divided by `threads`.
 ///
 /// # Errors
 ///
@@ -86,11 +88,11 @@ fn append_share<R: Wait>(
     Ok(())
 }
 
-/// Returns the regions to look up, picked without a pattern.
+/// Returns the numbers of a million regions to look up, picked without a pattern.
 ///
 /// # Errors
 ///
-/// `AllocError` if there is no memory for them.
+/// `AllocError` if there is no memory.
 fn picked_regions(alloc: Global) -> AllocResult<Vec<u64>> {
     let mut noise = Noise::new();
     let mut picks = Vec::with_capacity(alloc, LOOKUPS as usize)?;
@@ -123,7 +125,8 @@ fn full_shared(alloc: Global) -> Result<SharedAccessor> {
     SharedAccessor::from_core(alloc, full_accessor(alloc)?)
 }
 
-/// Returns the sum of the last indexes of the regions `picks` in `core`, modulo 2^64: the work that is timed.
+/// Looks up the regions `picks` in `core`, and returns the sum of their last indexes modulo 2^64. This is the
+/// work that is timed.
 fn sum_last_indexes(core: &MemTableAccessor, picks: &[u64]) -> u64 {
     let mut sum = 0u64;
     for region in picks {
@@ -134,7 +137,8 @@ fn sum_last_indexes(core: &MemTableAccessor, picks: &[u64]) -> u64 {
     sum
 }
 
-/// Does what [`sum_last_indexes`] does with the tables of `shared`.
+/// Looks up the regions `picks` in `shared`, and returns the sum of their last indexes modulo 2^64. This is
+/// the work that is timed.
 fn sum_shared_last_indexes<R: Wait>(rt: &R, shared: &SharedAccessor, picks: &[u64]) -> u64 {
     let mut sum = 0u64;
     for region in picks {
@@ -146,7 +150,7 @@ fn sum_shared_last_indexes<R: Wait>(rt: &R, shared: &SharedAccessor, picks: &[u6
     sum
 }
 
-/// Times look-ups of tables in an accessor and in shared tables.
+/// Times look-ups of tables in an accessor and in shared tables, and prints a line for each.
 ///
 /// # Errors
 ///

@@ -1,4 +1,4 @@
-//! Times the tables of regions.
+//! Times the calls of tables of regions.
 
 ghost use Rattle.raft_memtable.specs.Table.{IsCounted};
 
@@ -20,28 +20,28 @@ const RUN: u64 = 8;
 /// How many entries a region has.
 const ENTRIES: u64 = 100 * RUN;
 
-/// How many entries a fetch gives.
+/// How many entries one fetch returns.
 const FETCH: u64 = 64;
 
-/// How many entries a compaction drops.
+/// How many entries one compaction drops.
 const STEP: u64 = 32;
 
 /// How many keys a table has.
 const KEYS: usize = 100_000;
 
-/// The file of what is appended and put.
+/// The file of the entries that are appended and the key values that are put.
 pub(crate) const APPENDED: FileId = FileId {
     queue: LogQueue::Append,
     seq: 1,
 };
 
-/// The file that entries are rewritten to.
+/// The file to which entries are rewritten.
 pub(crate) const REWRITTEN: FileId = FileId {
     queue: LogQueue::Rewrite,
     seq: 50,
 };
 
-/// A region's table, and the counts of its records.
+/// The table of a region, and the live counts of its records alone.
 #[derive(Drop)]
 pub(crate) struct Region {
     table: MemTable,
@@ -61,11 +61,11 @@ impl Region {
         }
     }
 
-    /// Appends the list `run`, if it is a run of the append queue.
+    /// Appends `run` to the table. Does nothing if it isn't a run of the append queue.
     ///
     /// # Errors
     ///
-    /// Those of [`MemTable::append`].
+    /// Those of [`MemTable::append`]. The table is unchanged then.
     pub(crate) fn append(&mut self, run: Vec<EntryIndex>) -> Result<()> {
         if is_run(&run, LogQueue::Append) {
             self.table.append(run, &mut self.stats)?;
@@ -73,11 +73,12 @@ impl Region {
         Ok(())
     }
 
-    /// Gives the entries of append file 1 the places of the list `run`, if it is a run of the rewrite queue.
+    /// Gives the entries that are in append file 1 the places of `run`. Does nothing if it isn't a run of the
+    /// rewrite queue.
     ///
     /// # Errors
     ///
-    /// Those of [`MemTable::rewrite`].
+    /// Those of [`MemTable::rewrite`]. The table is unchanged then.
     pub(crate) fn rewrite(&mut self, run: Vec<EntryIndex>) -> Result<()> {
         if is_run(&run, LogQueue::Rewrite) {
             self.table.rewrite(run, Some(1), &mut self.stats)?;
@@ -85,7 +86,7 @@ impl Region {
         Ok(())
     }
 
-    /// Moves the records of `newer` into this table, if both are of one region.
+    /// Moves the records of `newer` into this table. Does nothing if they are of another region.
     ///
     /// # Errors
     ///
@@ -104,31 +105,31 @@ impl Region {
         self.table.blocks()
     }
 
-    /// Drops the entries below `index`, and returns how many they were.
+    /// Drops the entries below `index`. Returns how many it dropped.
     fn compact_to(&mut self, index: u64) -> u64 {
         self.table.compact_to(index, &mut self.stats)
     }
 
-    /// Puts the key and the value of `pair`, as those of append file 1.
+    /// Puts the value of `pair` under its key, as a record of append file 1.
     ///
     /// # Errors
     ///
-    /// Those of [`MemTable::put`].
+    /// Those of [`MemTable::put`]. The table is unchanged then.
     fn put(&mut self, pair: Pair) -> Result<()> {
         self.table.put(pair.0, pair.1, APPENDED, &mut self.stats)
     }
 
-    /// Deletes `key`, with its value.
+    /// Deletes `key` with its value, if it is there.
     fn delete(&mut self, key: &[u8]) {
         self.table.delete(key, &mut self.stats);
     }
 }
 
-/// Times each call of a table that a log store makes often.
+/// Times each call of a table that a log store makes often, and prints a line for each.
 ///
 /// # Errors
 ///
-/// Those of the clock and of the output, and want of memory.
+/// Those of the clock and of the output; lack of memory.
 pub(crate) fn time_tables(rt: &HostRuntime) -> io::Result<()> {
     time_append(rt)?;
     time_compact_to(rt)?;
@@ -138,11 +139,11 @@ pub(crate) fn time_tables(rt: &HostRuntime) -> io::Result<()> {
     time_key_reads(rt)
 }
 
-/// Returns `len` entries, whose indexes rise from `first` on, in one block of the file `id`.
+/// Returns a run of `len` entries, whose indexes rise from `first` on, in one block of the file `id`.
 ///
 /// # Errors
 ///
-/// `AllocError` if there is no memory for them.
+/// `AllocError` if there is no memory.
 pub(crate) fn run_from(
     alloc: Global,
     first: u64,
@@ -165,11 +166,11 @@ pub(crate) fn run_from(
     Ok(run)
 }
 
-/// Returns regions without records.
+/// Returns 1,000 regions without records, with the ids from 0 on.
 ///
 /// # Errors
 ///
-/// `AllocError` if there is no memory for them.
+/// `AllocError` if there is no memory.
 pub(crate) fn empty_regions(alloc: Global) -> AllocResult<Vec<Region>> {
     let mut regions = Vec::new(alloc);
     for id in 0..REGIONS {
@@ -178,12 +179,12 @@ pub(crate) fn empty_regions(alloc: Global) -> AllocResult<Vec<Region>> {
     Ok(regions)
 }
 
-/// Returns runs of `len` entries of `file` for `regions` regions in turn, one behind the other in each
-/// region, up to `entries` entries.
+/// Returns runs of `len` entries in `file`, one for each of `regions` regions in turn, and so on until each
+/// region has `entries` entries. The runs of a region follow one another from index 1 on.
 ///
 /// # Errors
 ///
-/// `AllocError` if there is no memory for them.
+/// `AllocError` if there is no memory.
 pub(crate) fn runs(
     alloc: Global,
     regions: u64,
@@ -202,8 +203,8 @@ pub(crate) fn runs(
     Ok(runs)
 }
 
-/// Appends each of `runs` to the one of `regions` whose turn it is: the work that is timed. Returns how many
-/// were accepted.
+/// Appends each of `runs` to the one of `regions` whose turn it is. This is the work that is timed. Returns
+/// how many were accepted.
 pub(crate) fn append_all_runs(regions: &mut Vec<Region>, runs: Vec<Vec<EntryIndex>>) -> u64 {
     let mut turn = 0;
     let mut accepted = 0u64;
@@ -221,31 +222,31 @@ pub(crate) fn append_all_runs(regions: &mut Vec<Region>, runs: Vec<Vec<EntryInde
     accepted
 }
 
-/// Returns runs of 8 entries for all regions in turn.
+/// Returns runs of 8 entries for all regions in turn, until each region has 800 entries.
 ///
 /// # Errors
 ///
-/// `AllocError` if there is no memory for them.
+/// `AllocError` if there is no memory.
 fn all_runs(alloc: Global) -> AllocResult<Vec<Vec<EntryIndex>>> {
     runs(alloc, REGIONS, ENTRIES, RUN, APPENDED)
 }
 
-/// Returns regions with all their entries.
+/// Returns 1,000 regions, each with 800 entries.
 ///
 /// # Errors
 ///
-/// `AllocError` if there is no memory for them.
+/// `AllocError` if there is no memory.
 fn full_regions(alloc: Global) -> AllocResult<Vec<Region>> {
     let mut regions = empty_regions(alloc)?;
     append_all_runs(&mut regions, all_runs(alloc)?);
     Ok(regions)
 }
 
-/// Times appends of runs to all regions in turn.
+/// Times appends of runs to all regions in turn, and prints a line.
 ///
 /// # Errors
 ///
-/// Those of the clock and of the output, and want of memory.
+/// Those of the clock and of the output; lack of memory.
 fn time_append(rt: &HostRuntime) -> io::Result<()> {
     let (best, _) = best_times(|| {
         let mut regions = empty_regions(rt.alloc())?;
@@ -261,7 +262,7 @@ fn time_append(rt: &HostRuntime) -> io::Result<()> {
     )
 }
 
-/// Compacts all regions to `index`. Returns how many entries were dropped.
+/// Compacts each of `regions` to `index`. Returns how many entries were dropped in all.
 fn compact_each_region(regions: &mut Vec<Region>, index: u64) -> u64 {
     let mut dropped = 0u64;
     for region in regions.iter_mut() {
@@ -270,7 +271,8 @@ fn compact_each_region(regions: &mut Vec<Region>, index: u64) -> u64 {
     dropped
 }
 
-/// Compacts all `regions` step by step: the work that is timed. Returns how many entries were dropped.
+/// Compacts all `regions`, 32 entries at a time, until none are left. This is the work that is timed. Returns
+/// how many entries were dropped in all.
 fn compact_regions_by_steps(regions: &mut Vec<Region>) -> u64 {
     let mut dropped = 0u64;
     for step in 1..=ENTRIES / STEP {
@@ -279,11 +281,11 @@ fn compact_regions_by_steps(regions: &mut Vec<Region>) -> u64 {
     dropped
 }
 
-/// Times compactions of all regions, step by step.
+/// Times compactions of all regions, 32 entries a call, and prints a line.
 ///
 /// # Errors
 ///
-/// Those of the clock and of the output, and want of memory.
+/// Those of the clock and of the output; lack of memory.
 fn time_compact_to(rt: &HostRuntime) -> io::Result<()> {
     let (best, dropped) = best_times(|| {
         let mut regions = full_regions(rt.alloc())?;
@@ -298,12 +300,12 @@ fn time_compact_to(rt: &HostRuntime) -> io::Result<()> {
     )
 }
 
-/// Returns `count` places in regions, picked without a pattern: the number of a region, and an index behind
-/// which it has `behind` entries.
+/// Returns `count` places in regions, picked without a pattern by `noise`: the number of a region, and an
+/// index from which on it has at least `behind` entries.
 ///
 /// # Errors
 ///
-/// `AllocError` if there is no memory for them.
+/// `AllocError` if there is no memory.
 fn picked_places(
     alloc: Global,
     noise: &mut Noise,
@@ -319,7 +321,8 @@ fn picked_places(
     Ok(picks)
 }
 
-/// Looks up the entries at the places `picks`, and returns how many there are: the work that is timed.
+/// Looks up the entries at the places `picks`, each a number of a region and an index, and returns how many
+/// there are. This is the work that is timed.
 pub(crate) fn count_found(regions: &[Region], picks: &[(usize, u64)]) -> u64 {
     let mut count = 0u64;
     for (region, index) in picks {
@@ -332,8 +335,8 @@ pub(crate) fn count_found(regions: &[Region], picks: &[(usize, u64)]) -> u64 {
     count
 }
 
-/// Fetches 64 entries from each of the places `picks` on into `entries`, and returns how many come: the work
-/// that is timed.
+/// Fetches 64 entries from each of the places `picks` on, each a number of a region and an index, and returns
+/// how many came. This is the work that is timed. `entries` is the memory for one fetch.
 fn count_fetched(regions: &[Region], picks: &[(usize, u64)], entries: &mut Vec<EntryIndex>) -> u64 {
     let mut count = 0u64;
     for (region, index) in picks {
@@ -352,11 +355,11 @@ fn count_fetched(regions: &[Region], picks: &[(usize, u64)], entries: &mut Vec<E
     count
 }
 
-/// Times look-ups and fetches of entries at places without a pattern.
+/// Times look-ups and fetches of entries at places without a pattern, and prints a line for each.
 ///
 /// # Errors
 ///
-/// Those of the clock and of the output, and want of memory.
+/// Those of the clock and of the output; lack of memory.
 fn time_reads(rt: &HostRuntime) -> io::Result<()> {
     let regions = full_regions(rt.alloc())?;
     let mut noise = Noise::new();
@@ -375,7 +378,7 @@ fn time_reads(rt: &HostRuntime) -> io::Result<()> {
 ///
 /// # Errors
 ///
-/// Those of the clock and of the output, and want of memory.
+/// Those of the clock and of the output; lack of memory.
 fn time_lookups(
     rt: &HostRuntime,
     regions: &[Region],
@@ -392,7 +395,8 @@ fn time_lookups(
     print_time_per_unit(rt, "fetch_entries_to, 64 a call", fetch, "entry", given)
 }
 
-/// Rewrites each of `regions` as a whole, to the places of its run: the work that is timed.
+/// Rewrites all entries of each of `regions`, to the places of the run at the same position in `runs`. This
+/// is the work that is timed. It ends at a refusal.
 fn rewrite_all_regions(regions: &mut Vec<Region>, runs: Vec<Vec<EntryIndex>>) {
     for (region, run) in regions.iter_mut().zip(runs) {
         if region.rewrite(run).is_err() {
@@ -401,11 +405,11 @@ fn rewrite_all_regions(regions: &mut Vec<Region>, runs: Vec<Vec<EntryIndex>>) {
     }
 }
 
-/// Times rewritings of whole tables.
+/// Times rewritings of whole tables, and prints a line.
 ///
 /// # Errors
 ///
-/// Those of the clock and of the output, and want of memory.
+/// Those of the clock and of the output; lack of memory.
 fn time_rewrite(rt: &HostRuntime) -> io::Result<()> {
     let (best, ()) = best_times(|| {
         let mut regions = full_regions(rt.alloc())?;
@@ -421,11 +425,12 @@ fn time_rewrite(rt: &HostRuntime) -> io::Result<()> {
     )
 }
 
-/// Returns keys of 8 bytes, with values of 32.
+/// Returns 100,000 keys of 8 bytes, without a pattern, each with a value of 32 bytes. Each call returns the
+/// same ones.
 ///
 /// # Errors
 ///
-/// `AllocError` if there is no memory for them.
+/// `AllocError` if there is no memory.
 fn pairs(alloc: Global) -> AllocResult<Vec<Pair>> {
     let mut noise = Noise::new();
     let mut pairs = Vec::new(alloc);
@@ -436,8 +441,8 @@ fn pairs(alloc: Global) -> AllocResult<Vec<Pair>> {
     Ok(pairs)
 }
 
-/// Puts each of `pairs` into the table of `region`, up to the first one that is refused: the work that is
-/// timed.
+/// Puts each of `pairs` into the table of `region`, up to the first one that is refused. This is the work
+/// that is timed.
 fn put_all_pairs(region: &mut Region, pairs: Vec<Pair>) {
     for pair in pairs {
         if region.put(pair).is_err() {
@@ -446,19 +451,19 @@ fn put_all_pairs(region: &mut Region, pairs: Vec<Pair>) {
     }
 }
 
-/// Deletes the key of each of `pairs` from the table of `region`: the work that is timed.
+/// Deletes the key of each of `pairs` from the table of `region`. This is the work that is timed.
 fn delete_all_pairs(region: &mut Region, pairs: &[Pair]) {
     for (key, _) in pairs {
         region.delete(key);
     }
 }
 
-/// Returns how many nanoseconds it takes to put all pairs into a table, to put them once more, and to delete
-/// them.
+/// Puts all pairs into a new table, puts them once more, and deletes them. Returns how many nanoseconds each
+/// of the three takes.
 ///
 /// # Errors
 ///
-/// Those of the clock, and want of memory.
+/// Those of the clock; lack of memory.
 fn time_key_changes(rt: &HostRuntime) -> io::Result<([u64; 3], ())> {
     let mut region = Region::new(rt.alloc(), 1);
     let new = time_pair_puts(rt, &mut region)?;
@@ -466,33 +471,33 @@ fn time_key_changes(rt: &HostRuntime) -> io::Result<([u64; 3], ())> {
     Ok(([new, old, time_pair_deletes(rt, &mut region)?], ()))
 }
 
-/// Returns how many nanoseconds it takes to put all pairs into `region`.
+/// Puts all pairs into the table of `region`. Returns how many nanoseconds that takes.
 ///
 /// # Errors
 ///
-/// Those of the clock, and want of memory.
+/// Those of the clock; lack of memory.
 fn time_pair_puts(rt: &HostRuntime, region: &mut Region) -> io::Result<u64> {
     let pairs = pairs(rt.alloc())?;
     let (taken, ()) = time_work(rt, || put_all_pairs(region, pairs))?;
     Ok(taken)
 }
 
-/// Returns how many nanoseconds it takes to delete all keys of `region`.
+/// Deletes the keys of all pairs from the table of `region`. Returns how many nanoseconds that takes.
 ///
 /// # Errors
 ///
-/// Those of the clock, and want of memory.
+/// Those of the clock; lack of memory.
 fn time_pair_deletes(rt: &HostRuntime, region: &mut Region) -> io::Result<u64> {
     let pairs = pairs(rt.alloc())?;
     let (taken, ()) = time_work(rt, || delete_all_pairs(region, pairs.as_slice()))?;
     Ok(taken)
 }
 
-/// Times puts of new keys, puts of keys that are there, and deletions.
+/// Times puts of new keys, puts of keys that are there, and deletions, and prints a line for each.
 ///
 /// # Errors
 ///
-/// Those of the clock and of the output, and want of memory.
+/// Those of the clock and of the output; lack of memory.
 fn time_puts(rt: &HostRuntime) -> io::Result<()> {
     let ([new, old, delete], ()) = best_times(|| time_key_changes(rt))?;
     print_time_per_unit(rt, "put, new keys, one table", new, "call", KEYS as u64)?;
@@ -500,8 +505,8 @@ fn time_puts(rt: &HostRuntime) -> io::Result<()> {
     print_time_per_unit(rt, "delete", delete, "call", KEYS as u64)
 }
 
-/// Looks up the values of the keys of `pairs` in `table`, and returns how many bytes they have: the work that
-/// is timed.
+/// Looks up the values of the keys of `pairs` in `table`, and returns how many bytes they have. This is the
+/// work that is timed.
 fn value_bytes(table: &MemTable, pairs: &[Pair]) -> usize {
     let mut bytes = 0usize;
     for (key, _) in pairs {
@@ -510,7 +515,8 @@ fn value_bytes(table: &MemTable, pairs: &[Pair]) -> usize {
     bytes
 }
 
-/// Scans `table`, and returns how many bytes its keys and values have: the work that is timed.
+/// Scans `table`, and returns how many bytes its keys and values have, or 0 if the scan is refused. This is
+/// the work that is timed.
 fn scanned_bytes(table: &MemTable) -> usize {
     let mut bytes = 0usize;
     let scanned = table.scan(None, None, false, |key, value| {
@@ -523,11 +529,11 @@ fn scanned_bytes(table: &MemTable) -> usize {
     }
 }
 
-/// Times look-ups of keys and scans, in one table.
+/// Times look-ups of keys and scans, in one table, and prints a line for each.
 ///
 /// # Errors
 ///
-/// Those of the clock and of the output, and want of memory.
+/// Those of the clock and of the output; lack of memory.
 fn time_key_reads(rt: &HostRuntime) -> io::Result<()> {
     let mut region = Region::new(rt.alloc(), 1);
     put_all_pairs(&mut region, pairs(rt.alloc())?);
@@ -539,7 +545,7 @@ fn time_key_reads(rt: &HostRuntime) -> io::Result<()> {
 ///
 /// # Errors
 ///
-/// Those of the clock and of the output, and want of memory.
+/// Those of the clock and of the output; lack of memory.
 fn time_gets(rt: &HostRuntime, table: &MemTable) -> io::Result<()> {
     let keys = pairs(rt.alloc())?;
     let (best, got) = best_times(|| time_work(rt, || value_bytes(table, keys.as_slice())))?;

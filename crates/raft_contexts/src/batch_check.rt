@@ -1,4 +1,4 @@
-//! Tests of a batch before it is taken in.
+//! Checks of a batch before it is replayed.
 
 ghost use Rattle.std.specs.Prelude.{◌≡◌, ◌≢◌, ℕ, List, IsTrue, MatchBool, IfOk, IfErr, OnOk, None, map};
 ghost use Rattle.raft_contexts.specs.Common.{FileBlockHandle, Rewrite, IsAnyCorruption, first_marker, marker_byte, item_of, content_of, entries as entries_of, IsPlaceInFile, content_shown, items_shown, IsInFile, AreInFile, HaveStatus};
@@ -11,13 +11,14 @@ use raft_records::{
 };
 use std::alloc::Global;
 
-/// Checks that a batch may be in the file `file`. Returns the group and the status of its first group marker,
-/// or `None` if it has none; in the append queue, which ignores markers, always `None`.
+/// Checks that `batch` may stand in the file `file`. Returns the group and the status of its first group
+/// marker, or `None` if it has none. In the append queue, which ignores markers, it always returns `None`.
 ///
 /// # Errors
 ///
 /// `Corruption` if entries aren't consecutive, a place or the file of a put is missing or another file's, a
-/// put lacks its value, or in the rewrite queue the status of a group marker is unknown; `Memory`.
+/// put lacks its value, or in the rewrite queue the status of a group marker is unknown; `Memory` if there is
+/// none for the text.
 pub(crate) fn check_batch(
     alloc: Global,
     batch: &LogItemBatch,
@@ -40,8 +41,8 @@ pub(crate) fn check_batch(
     }
 }
 
-/// Tests whether a batch as it was read plainly may be in the file `file` and has no group marker that
-/// counts, so that it takes effect at once. `false` says nothing of it.
+/// Tests, at little cost, whether `batch` was read in the file `file` and has no group marker that counts, so
+/// that it takes effect at once. `false` doesn't say that it isn't so.
 pub(crate) fn is_lone_read(batch: &ReadBatch<'_>, file: FileId) -> bool
     ensures items { IsTrue result → AreInFile file batch.now }
     ensures markers { IsTrue result → HaveStatus file.queue batch.now }
@@ -57,7 +58,7 @@ pub(crate) fn is_lone_read(batch: &ReadBatch<'_>, file: FileId) -> bool
     }
 }
 
-/// Tests whether none of `items` is a group marker. `false` says nothing of them.
+/// Tests, at little cost, whether none of `items` is a group marker. `false` doesn't say that one is.
 fn have_no_marker(items: &[ReadItem<'_>]) -> bool
     ensures { IsTrue result → (place : FileBlockHandle) (spans : List (ℕ × ℕ))
         → HaveNoMarker (items_shown place items.now spans) }
@@ -65,7 +66,8 @@ fn have_no_marker(items: &[ReadItem<'_>]) -> bool
     items.iter().all(|item| is_no_marker(item))
 }
 
-/// Tests whether `item` puts no value under the key of group markers. `false` says nothing of it.
+/// Tests whether `item` is anything but a put under the reserved key of group markers. `false` doesn't say
+/// that it is a marker.
 fn is_no_marker(item: &ReadItem<'_>) -> bool
     ensures { IsTrue result → (place : FileBlockHandle) (spans : List (ℕ × ℕ))
         → marker_byte (content_shown place item.now.content spans) ≡ None }
@@ -76,8 +78,8 @@ fn is_no_marker(item: &ReadItem<'_>) -> bool
     }
 }
 
-/// Tests whether the batch was decoded in the file `file`, so that its items need no test. `false` says
-/// nothing of them.
+/// Tests whether `batch` was decoded as one of the file `file`, so that its items need no check. `false`
+/// doesn't say that they are wrong.
 fn knows_file(batch: &LogItemBatch, file: FileId) -> bool
     ensures { IsTrue result → AreInFile file batch.now }
 {
@@ -87,12 +89,12 @@ fn knows_file(batch: &LogItemBatch, file: FileId) -> bool
     }
 }
 
-/// Returns the group and the status of the first group marker among `items`, or `None` without one. All
-/// markers are parsed.
+/// Returns the group and the status of the first group marker among `items`, or `None` if there is none. The
+/// other markers are parsed too.
 ///
 /// # Errors
 ///
-/// `Corruption` if the status of one is unknown; `Memory`.
+/// `Corruption` if the status of a marker is unknown; `Memory` if there is none for the text.
 fn group_marker(alloc: Global, items: &[LogItem]) -> Result<Option<(u64, AtomicGroupStatus)>>
     ensures markers { OnOk result (HaveStatus Rewrite (map item_of items.now)) }
     ensures marker { IfOk result (λ marker. marker ≡ first_marker (map item_of items.now)) }
@@ -108,7 +110,7 @@ fn group_marker(alloc: Global, items: &[LogItem]) -> Result<Option<(u64, AtomicG
     Ok(marker)
 }
 
-/// Tests whether all items may be in a batch of the file `file` ([`is_in_file`]).
+/// Tests whether each of `items` may stand in a batch of the file `file` ([`is_in_file`]).
 fn are_in_file(items: &[LogItem], file: FileId) -> bool
     ensures { MatchBool result (AreInFile file (map item_of items.now))
         (AreInFile file (map item_of items.now) → ⊥) }
@@ -116,8 +118,9 @@ fn are_in_file(items: &[LogItem], file: FileId) -> bool
     items.iter().all(|item| is_in_file(item, file))
 }
 
-/// Tests whether `item` may be in a batch of the file `file`: entries are consecutive and have their places
-/// in that file, and a put has a value and that file. A put under the key of group markers needs neither.
+/// Tests whether `item` may stand in a batch of the file `file`: entries are consecutive and have their
+/// places in that file, and a put has a value and that file. A put under the reserved key of group markers
+/// needs neither.
 fn is_in_file(item: &LogItem, file: FileId) -> bool
     ensures { MatchBool result (IsInFile file (content_of item.now.content))
         (IsInFile file (content_of item.now.content) → ⊥) }
@@ -134,7 +137,7 @@ fn is_in_file(item: &LogItem, file: FileId) -> bool
     }
 }
 
-/// Tests whether entries are consecutive, and all have their places in the file `file`.
+/// Tests whether `entries` are consecutive and all have their places in the file `file`.
 fn is_run_in_file(entries: &[EntryIndex], file: FileId) -> bool
     ensures { MatchBool result (IsInFile file (entries_of entries.now))
         (IsInFile file (entries_of entries.now) → ⊥) }

@@ -4,24 +4,25 @@ ghost use Rattle.std.specs.Prelude.{◌≡◌, ◌≢◌, OnOk, IfErr};
 
 use raft_base::{Error, Result};
 
-/// Whether a context reads on.
+/// Which calls a context accepts.
 #[derive(Clone, Copy, PartialEq, Eq, Debug)]
 pub enum ContextStage {
-    /// It takes in batches and newer neighbors.
+    /// It accepts batches and newer neighbors.
     Reading,
-    /// It has taken in the context of the append queue: its tables are those of both queues.
+    /// The context of the append queue was put over it: its tables are those of both queues. It accepts only
+    /// `kept` and `finish`.
     Overlaid,
-    /// A call was refused.
+    /// A call was refused. It accepts no calls any more.
     Failed,
 }
 
 impl ContextStage {
-    /// Begins a call on a context that reads on: the context is failed until the call succeeds and sets it
-    /// back.
+    /// Begins a call on a context that reads on: sets the stage to `Failed`, until the call succeeds and sets
+    /// it back.
     ///
     /// # Errors
     ///
-    /// `Failed` if the context doesn't read on. The stage is unchanged then.
+    /// `Failed` if the stage isn't `Reading`. The stage is unchanged then.
     pub(crate) fn begin(&mut self) -> Result<()>
         ensures ok { OnOk result ((self.old ≡ ContextStage.Reading) × (self.new ≡ ContextStage.Failed)) }
         ensures err { IfErr result (λ e. (e ≡ Error.Failed) × (self.old ≢ ContextStage.Reading)

@@ -1,11 +1,11 @@
-//! The files of batches that were read.
+//! The range of the files whose batches were read.
 
 ghost use Rattle.std.specs.Prelude.{◌≡◌, ◌↔◌, IsTrue};
 ghost use Rattle.raft_contexts.specs.Common.{Suits, follows, joined_files, range_shown, ranges_shown};
 
 use raft_base::{FileId, FileSeq, LogQueue};
 
-/// The queue of some batches, and the first and the last of their files.
+/// The queue of some batches, and the numbers of the first and the last of their files.
 #[derive(Clone, Copy, Debug)]
 pub(crate) struct FileRange {
     queue: LogQueue,
@@ -14,7 +14,7 @@ pub(crate) struct FileRange {
 }
 
 impl FileRange {
-    /// Returns the range of the one file `file`.
+    /// Returns the range that has `file` alone.
     pub(crate) fn of(file: FileId) -> FileRange
         ensures { range_shown result
             ≡ record { queue = file.queue; first_seq = file.seq; last_seq = file.seq } }
@@ -26,7 +26,7 @@ impl FileRange {
         }
     }
 
-    /// Tests whether the files are of `queue`. True without files.
+    /// Tests whether the files `files` are of `queue`. True for `None`, which stands for no files.
     pub(crate) fn suits(files: Option<FileRange>, queue: LogQueue) -> bool
         ensures { IsTrue result ↔ Suits queue (ranges_shown files) }
     {
@@ -37,7 +37,7 @@ impl FileRange {
     }
 
     /// Tests whether the `newer` files begin at or above the last of the `older` ones. True if there are no
-    /// older or no newer ones. Two segments may share a file, so the same number is allowed.
+    /// older or no newer ones (`None`). Two segments may share a file, so the same number is allowed.
     pub(crate) fn follows(older: Option<FileRange>, newer: Option<FileRange>) -> bool
         ensures { result ≡ follows (ranges_shown older) (ranges_shown newer) }
     {
@@ -47,8 +47,8 @@ impl FileRange {
         }
     }
 
-    /// Returns the range of the `older` files and of the `newer` ones, which follow them, or `None` if there
-    /// are neither.
+    /// Returns the range of the `older` files and of the `newer` ones, which follow them. `None` stands for
+    /// no files.
     pub(crate) fn joined(older: Option<FileRange>, newer: Option<FileRange>) -> Option<FileRange>
         ensures { ranges_shown result ≡ joined_files (ranges_shown older) (ranges_shown newer) }
     {

@@ -1,19 +1,19 @@
-//! What a context holds, in numbers.
+//! How much a context holds, in numbers.
 
-/// What a context holds, number by number. `Kept` of `raft_history` says what each number is of a
-/// history, `KeptShown` what it is of a context.
+/// How much a context holds. `specs/Kept.antt` of `raft_history` says what each number is for a history,
+/// `specs/KeptShown.antt` what it is for a context.
 #[derive(Clone, Copy, PartialEq, Eq, Debug)]
 pub struct Kept {
     /// Entries in all tables.
     pub entries: u128,
     /// Key values in all tables.
     pub keys: u128,
-    /// How many regions have a region mark, and how many groups have a group marker, together.
+    /// How many regions have a region mark, plus how many groups have a group marker.
     pub marks: u128,
-    /// Keys in the region marks that were deleted.
+    /// Deleted keys that the region marks remember.
     pub deleted_keys: u128,
-    /// Regions in the list of those that were cleaned.
+    /// How many regions the list of cleaned ones has; a region may be there twice.
     pub cleaned: u128,
-    /// Items of groups that wait.
+    /// Items of groups that aren't whole yet.
     pub waiting_items: u128,
 }

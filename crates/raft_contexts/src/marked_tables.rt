@@ -1,4 +1,5 @@
-//! The tables of all regions beside their region marks.
+//! The tables of all regions with their region marks. A region mark says what the steps on a region do to any
+//! older table of it (`Mark`).
 
 ghost use Rattle.std.specs.Prelude.{◌≡◌, ◌≤◌, ◌<◌, ◌^◌, ◌++◌, [], ◌∷◌, map, Ok, OnOk, IfOk, IfErr, MatchBool, Some};
 ghost use Rattle.raft_contexts.specs.Common.{IsRun, end_of, LogQueue, Append, Rewrite, item_of, AreInFile, IsStepOfQueue, no_regions, regions_after, on_each, region_steps_of_whole, total, region_step_shown, steps_of_items};
@@ -20,16 +21,18 @@ use raft_records::{LogItem, LogItemBatch, LogItemContent};
 use raft_table::Step;
 use std::alloc::Global;
 
-/// The tables of all regions, and the region marks that these don't imply. A region whose mark isn't kept has the one
-/// that its table implies, if it has a table: that of one run of all its entries.
+/// The tables of all regions, and the region marks that these don't imply. A region whose mark isn't kept has
+/// the one that its table implies, if it has a table: that of one run of all its entries.
 #[derive(Drop)]
 pub(crate) struct MarkedTables {
+    /// The tables of all regions.
     pub(crate) accessor: MemTableAccessor,
+    /// The region marks that the tables don't imply.
     pub(crate) marks: RegionMarks,
 }
 
 impl MarkedTables {
-    /// Returns no tables, no region marks, and no live records.
+    /// Returns a state without tables, region marks and live records.
     ///
     /// # Errors
     ///
@@ -46,14 +49,14 @@ impl MarkedTables {
         })
     }
 
-    /// Takes in the items of a batch of the file `file`, in order: each changes the table and the region mark
-    /// of its region.
+    /// Applies the items of a batch of the file `file`, in order, each to the table and the region mark of
+    /// its region. The caller has checked that they may stand in that file.
     ///
     /// # Errors
     ///
     /// `Corruption` if entries leave a hole in the append queue; `InvalidArgument` if a table has records of
     /// the other queue; `Full` if the live records and those that the items name are more than 2^64 - 1;
-    /// `Memory`. Some of the items may have been taken in then.
+    /// `Memory`. Some of the items may have been applied then.
     pub(crate) fn take_items(&mut self, file: FileId, items: LogItemBatch) -> Result<()>
         requires { AreInFile file items }
         ensures ok { OnOk result
@@ -72,12 +75,14 @@ impl MarkedTables {
         self.take_each(file.queue, items.into_items())
     }
 
-    /// Takes in the steps of `whole`, an atomic group of the rewrite queue that became whole, and then sets for each of its
-    /// regions the numbers of the group's first and last file.
+    /// Applies the steps of `whole`, an atomic group of the rewrite queue that became whole. Then sets the
+    /// numbers of the files of its Begin and its End as those of the atomic group of each region that it
+    /// names.
     ///
     /// # Errors
     ///
-    /// Those of [`take_items`](MarkedTables::take_items). Some of the steps may have been taken in then.
+    /// `InvalidArgument` if a table has records of the append queue; `Full` if the live records and those
+    /// that the group names are more than 2^64 - 1; `Memory`. Some of the steps may have been applied then.
     pub(crate) fn take_group(&mut self, whole: WholeGroup) -> Result<()>
         requires steps { AreStepsOfQueue Rewrite (whole_shown whole).steps }
         requires seqs { (whole_shown whole).first_seq ≤ (whole_shown whole).last_seq }
@@ -103,7 +108,7 @@ impl MarkedTables {
         self.take_seqs(&regions, first_seq, last_seq)
     }
 
-    /// Returns the number of regions that have a region mark, kept or implied by their table.
+    /// Returns how many regions have a region mark, kept or implied by their table.
     pub(crate) fn marks_count(&self) -> u128
         ensures value { result ≡ finite.len (regions_in self.now).marks }
         ensures few { result < 2 ^ 73 }
@@ -111,18 +116,19 @@ impl MarkedTables {
         self.accessor.tables_count() + self.marks.count_absent(&self.accessor) as u128
     }
 
-    /// Returns the number of deleted keys that all region marks have together.
+    /// Returns how many deleted keys all region marks have together.
     pub(crate) fn deleted_keys(&self) -> u128
         ensures { result ≡ total (λ (m : Mark). finset.len m.deleted) (regions_in self.now).marks }
     {
         self.marks.deleted_keys()
     }
 
-    /// Takes in `items` one after another: the loop of [`MarkedTables::take_items`].
+    /// Applies `items`, which stand in a batch of `queue`, one after another. This is the loop of
+    /// [`MarkedTables::take_items`].
     ///
     /// # Errors
     ///
-    /// Those of [`take_items`](MarkedTables::take_items). The items before the refused one have been taken in
+    /// Those of [`take_items`](MarkedTables::take_items). The items before the refused one have been applied
     /// then.
     fn take_each(&mut self, queue: LogQueue, items: Vec<LogItem>) -> Result<()>
         requires { AreStepsOfQueue queue (steps_of_items (map item_of items.items)) }
@@ -137,13 +143,14 @@ impl MarkedTables {
         Ok(())
     }
 
-    /// Takes in `item` if it is a run of entries, and returns whether it did. Returns `false`, and changes
-    /// nothing, for any other item, for a run without entries, and for one that the table refuses, as for
-    /// want of memory: the slower [`take_item`](MarkedTables::take_item) then does it, or makes the error.
+    /// Applies `item` if it is a run of entries, and returns whether it did. Returns false, and changes
+    /// nothing, for any other item, for a run without entries, and for one that the table refuses, for lack
+    /// of memory too. [`take_item`](MarkedTables::take_item), which is slower, then applies it or gives the
+    /// error.
     ///
     /// # Errors
     ///
-    /// `AllocError` if there is no memory for the region mark. The run is then in its table, and not in the
+    /// `AllocError` if there is no memory for the region mark. The run is in its table then, and not in the
     /// mark.
     fn try_run(&mut self, queue: LogQueue, item: &LogItem) -> AllocResult<bool>
         requires { AreStepsOfQueue queue (steps_of_items (item_of item.now ∷ [])) }
@@ -166,11 +173,12 @@ impl MarkedTables {
         Ok(true)
     }
 
-    /// Sets the numbers of the first and the last file of a group for each of `regions`, which it names.
+    /// Sets the numbers of the files of an atomic group's Begin and End, `first_seq` and `last_seq`, for each
+    /// of `regions`, which the group names.
     ///
     /// # Errors
     ///
-    /// `Memory`. Some of the regions have them then.
+    /// `Memory` alone. Some of the regions have them then.
     fn take_seqs(&mut self, regions: &[u64], first_seq: FileSeq, last_seq: FileSeq) -> Result<()>
         ensures { AreStepsTaken Rewrite (on_each regions.now (AtomicGroup first_seq last_seq))
             result self.old self.new }
@@ -185,11 +193,12 @@ impl MarkedTables {
         Ok(())
     }
 
-    /// Takes in `item`, if it has a step: a group marker, for one, has none.
+    /// Applies the step of `item`, which was read from `queue`. Does nothing if it has none, as a group
+    /// marker.
     ///
     /// # Errors
     ///
-    /// Those of [`take_items`](MarkedTables::take_items). The step may then be in the region mark, and not in
+    /// Those of [`take_items`](MarkedTables::take_items). The step may be in the region mark then, and not in
     /// the table.
     fn take_item(&mut self, queue: LogQueue, item: LogItem) -> Result<()>
         requires { AreStepsOfQueue queue (steps_of_items (item_of item ∷ [])) }
@@ -202,11 +211,11 @@ impl MarkedTables {
         }
     }
 
-    /// Takes in `steps` one after another.
+    /// Applies `steps`, which were read from `queue`, one after another.
     ///
     /// # Errors
     ///
-    /// Those of [`take_items`](MarkedTables::take_items). The steps before the refused one have been taken in
+    /// Those of [`take_items`](MarkedTables::take_items). The steps before the refused one have been applied
     /// then.
     fn take_steps(&mut self, queue: LogQueue, steps: Vec<RegionStep>) -> Result<()>
         requires { AreStepsOfQueue queue (map region_step_shown steps.items) }
@@ -218,12 +227,13 @@ impl MarkedTables {
         Ok(())
     }
 
-    /// Takes in one step of the region `id`: into its region mark, unless it is a put, which no mark tells
-    /// of, and then into its table, which keeps the bytes of the step without a copy.
+    /// Applies `step`, which was read from `queue`, to the region `id`: first to its region mark, unless it
+    /// is a put, of which marks keep nothing, and then to its table. The bytes of the step move into the
+    /// table.
     ///
     /// # Errors
     ///
-    /// Those of [`take_items`](MarkedTables::take_items). The step may then be in the region mark, and not in
+    /// Those of [`take_items`](MarkedTables::take_items). The step may be in the region mark then, and not in
     /// the table.
     fn take_step(&mut self, queue: LogQueue, id: u64, step: Step) -> Result<()>
         requires { IsStepOfQueue queue (step_shown step) }
@@ -238,8 +248,8 @@ impl MarkedTables {
         self.accessor.take_step(queue, id, step)
     }
 
-    /// Returns the end of the entries of the region `id` if `step` is a run, whose region mark depends on it,
-    /// else 0.
+    /// Returns the index after the last entry of the region `id` if `step` is a run, whose region mark
+    /// depends on it. Returns 0 for any other step, and if the region has no entries.
     fn end_before(&self, id: u64, step: &Step) -> u64
         ensures { (queue : LogQueue) (m : Mark)
             → joined_at queue result m (mark_of (step_shown step.now))
@@ -252,8 +262,8 @@ impl MarkedTables {
         }
     }
 
-    /// Returns the index of the first entry of the region `id`, and the index after the last one; both are 0
-    /// without entries.
+    /// Returns the index of the first entry of the region `id`, and the index after the last one. Both are 0
+    /// if it has none.
     fn ends_of(&self, id: u64) -> (u64, u64)
         ensures ends { result ≡ (
           start_of (table_in self.now.accessor.tables id).entries,
@@ -271,7 +281,7 @@ impl MarkedTables {
     }
 }
 
-/// Tests whether `step` puts a value under a key. Region marks don't tell of such steps.
+/// Tests whether `step` puts a value under a key. Region marks keep nothing of such steps.
 fn is_put(step: &Step) -> bool
     ensures { result ≡ is_put (step_shown step.now) }
 {

@@ -1,4 +1,4 @@
-//! What was read of a queue's batches.
+//! What a context has read of a queue's batches, apart from whether it may read on.
 
 ghost use Rattle.std.specs.Prelude.{◌≡◌, ◌≢◌, true, List, [], ◌∷◌, OnOk, OnErr, IfOk, IfErr, Some, None, map};
 ghost use Rattle.raft_contexts.specs.Common.{AllByRecursion, option_map, Rewrite, Item, new_context, Suits, files_of, follows, merged_with, AreMerged, region_steps_or, kept_of, region_steps_of_wholes, event, marker_found, kept_shown};
@@ -18,11 +18,15 @@ use raft_base::{Error, FileId, LogQueue, Result};
 use raft_records::{AtomicGroupStatus, LogItemBatch, ReadBatch};
 use std::alloc::Global;
 
-/// The tables and region marks of all regions, the groups that wait, and the files of the batches.
+/// What was read: the tables and region marks of all regions, the groups that aren't whole yet, and the files
+/// of the batches.
 #[derive(Drop)]
 pub(crate) struct ReadState {
+    /// The tables and region marks of all regions.
     pub(crate) regions: MarkedTables,
+    /// The atomic groups that aren't whole yet.
     pub(crate) groups: WaitingGroups,
+    /// The files of the batches, or `None` before the first batch.
     pub(crate) files: Option<FileRange>,
     alloc: Global,
 }
@@ -46,12 +50,13 @@ impl ReadState {
         })
     }
 
-    /// Takes in one more batch, which was written to the file `file`.
+    /// Replays the next batch, which was written to the file `file`.
     ///
     /// # Errors
     ///
     /// Those of [`MemTableRecoverContext::replay`](crate::MemTableRecoverContext::replay) other than
-    /// `Failed`. A part of the batch may have been taken in then: the context above is failed.
+    /// `Failed`. A part of the batch may have taken effect then, so the caller must not use the state any
+    /// more.
     pub(crate) fn replay(&mut self, batch: LogItemBatch, file: FileId) -> Result<()>
         requires { IsOfHistory (context_in self.old) }
         ensures { IsTakenIn (event batch file) result self.old self.new }
@@ -63,12 +68,13 @@ impl ReadState {
         }
     }
 
-    /// Does what [`ReadState::replay`] does, with a batch as it was read. A batch of which [`is_lone_read`]
-    /// doesn't know that it may take effect at once is copied first.
+    /// Replays the next batch from the bytes that it was read from. A batch that may have a group marker, or
+    /// that was read in another file, is copied first, and then replayed as [`ReadState::replay`] does it.
     ///
     /// # Errors
     ///
-    /// Those of [`ReadState::replay`].
+    /// Those of [`ReadState::replay`], and `Memory` if there is none for the copy. A part of the batch may
+    /// have taken effect then.
     pub(crate) fn replay_read(&mut self, batch: &ReadBatch<'_>, file: FileId) -> Result<()>
         requires { IsOfHistory (context_in self.old) }
         ensures { IsTakenIn (event batch.now file) result self.old self.new }
@@ -84,11 +90,11 @@ impl ReadState {
     }
 
     /// Checks that the next batch may be in the file `file`: it is of the queue of the files before, and not
-    /// below the last of them.
+    /// numbered below the last of them.
     ///
     /// # Errors
     ///
-    /// `Corruption` if it may not, or `Memory` if there is none for its text.
+    /// `Corruption` if it may not be; `Memory` if there is none for its text.
     fn check_file(&self, file: FileId) -> Result<()>
         ensures queue { OnOk result (Suits file.queue (context_in self.now).files) }
         ensures files { OnOk result ((items : List Item)
@@ -105,11 +111,12 @@ impl ReadState {
         Ok(())
     }
 
-    /// Takes in `batch` of the file `file`, which has no group marker and takes effect at once.
+    /// Applies the items of `batch`, which takes effect at once, to the tables and region marks. The caller
+    /// has checked that it may stand in the file `file`, and has no group marker that counts.
     ///
     /// # Errors
     ///
-    /// Those of [`ReadState::replay`].
+    /// Those of [`ReadState::replay`]. Some of the items may have been applied then.
     fn take_lone_batch(&mut self, batch: LogItemBatch, file: FileId) -> Result<()>
         requires history { IsOfHistory (context_in self.old) }
         requires next { MayFollow (context_in self.old) (event batch file) }
@@ -121,8 +128,9 @@ impl ReadState {
         Ok(())
     }
 
-    /// Takes in a batch with a marker of the group `id`: its items wait. If the batch makes the group whole,
-    /// the group takes effect.
+    /// Keeps the items of `batch`, a batch with a marker of the group `id`, until the group is whole. If this
+    /// batch makes it whole, all its items are applied. `status` is that of the marker. The caller has
+    /// checked that the batch may stand in the file `file`.
     ///
     /// # Errors
     ///
@@ -146,13 +154,13 @@ impl ReadState {
         Ok(())
     }
 
-    /// Takes in `newer`, what was read of the batches that follow in `queue`. Groups that become whole
-    /// between the two take effect first.
+    /// Merges `newer`, what was read of the batches that follow directly in `queue`, into this. Groups that
+    /// begin here and become whole in `newer` take effect first.
     ///
     /// # Errors
     ///
     /// Those of [`MemTableRecoverContext::merge`](crate::MemTableRecoverContext::merge) other than `Failed`.
-    /// A part of `newer` may have been taken in then.
+    /// A part of `newer` may have been merged then, and the rest is dropped.
     pub(crate) fn merge(&mut self, newer: ReadState, queue: LogQueue) -> Result<()>
         requires older { IsOfHistory (context_in self.old) }
         requires newer { IsOfHistory (context_in newer) }
@@ -180,8 +188,8 @@ impl ReadState {
         Ok(())
     }
 
-    /// Returns how much is held: records, region marks and groups, deleted keys, cleaned regions and waiting
-    /// items.
+    /// Returns how much the state holds: records, region marks and groups, deleted keys, cleaned regions and
+    /// waiting items. Region marks that tables only imply count too.
     pub(crate) fn kept(&self) -> Kept
         ensures { kept_shown result ≡ kept_of (context_in self.now) }
     {
@@ -197,7 +205,8 @@ impl ReadState {
         }
     }
 
-    /// Returns how much is held once the append queue was put over it: then tables imply no region marks.
+    /// Returns how much the state holds once the append queue was put over it. Only region marks that are
+    /// kept count then, as tables imply none any more.
     pub(crate) fn kept_overlaid(&self) -> Kept
         ensures { kept_shown result ≡ kept_of (shown_with self.now.regions.marks self.now) }
     {
@@ -209,13 +218,13 @@ impl ReadState {
         }
     }
 
-    /// Checks that `newer` may follow: both are of `queue`, and its files begin at or above the last one
+    /// Checks that `newer` may follow this: both are of `queue`, and its files begin at or above the last one
     /// here.
     ///
     /// # Errors
     ///
-    /// `InvalidArgument` for another queue, `Corruption` for a lower file, `Memory` if there is none for the
-    /// text.
+    /// `InvalidArgument` for another queue; `Corruption` for a file numbered below; `Memory` if there is none
+    /// for the text.
     fn check_neighbor(&self, newer: &ReadState, queue: LogQueue) -> Result<()>
         ensures ok { OnOk result (AreNeighbors queue (context_in self.now)
             (context_in newer.now)) }
@@ -235,11 +244,11 @@ impl ReadState {
     }
 }
 
-/// Takes in `whole`, if a group became whole.
+/// Applies the group `whole` to the tables and region marks. Does nothing for `None`.
 ///
 /// # Errors
 ///
-/// Those of [`MarkedTables::take_group`].
+/// Those of [`MarkedTables::take_group`]. Some of its steps may have been applied then.
 fn take_whole(regions: &mut MarkedTables, whole: Option<WholeGroup>) -> Result<()>
     requires { CanTakeEffectIfAny (option_map whole_shown whole) }
     ensures wholes { AreWholesTaken (region_steps_or (option_map whole_shown whole)) result
@@ -254,11 +263,12 @@ fn take_whole(regions: &mut MarkedTables, whole: Option<WholeGroup>) -> Result<(
     }
 }
 
-/// Takes in `wholes`, groups that became whole, one after another.
+/// Applies the groups `wholes`, which became whole, to the tables and region marks, one after another.
 ///
 /// # Errors
 ///
-/// Those of [`MarkedTables::take_group`]. The groups before the refused one have been taken in then.
+/// Those of [`MarkedTables::take_group`]. The groups before the refused one, and some of its own steps, may
+/// have been applied then.
 fn take_wholes(regions: &mut MarkedTables, wholes: Vec<WholeGroup>) -> Result<()>
     requires { AllByRecursion CanTakeEffect (map whole_shown wholes.items) }
     ensures wholes { AreWholesTaken (region_steps_of_wholes (map whole_shown wholes.items)) result

@@ -16,8 +16,9 @@ use raft_records::{LogItemBatch, ReadBatch};
 use std::alloc::Global;
 use std::marker::Model;
 
-/// What was read of a queue: the tables of all regions with their counts, a region mark of each region, the
-/// groups that wait, and the files.
+/// What was read of a part of a queue, as if no batch stood before it: the tables of all regions with their
+/// live counts, a region mark of each region (`Mark`: what the batches do to any older table of it), the
+/// atomic groups that aren't whole yet, and the files.
 #[derive(Drop)]
 pub struct MemTableRecoverContext {
     state: ReadState,
@@ -56,26 +57,28 @@ impl MemTableRecoverContext {
         })
     }
 
-    /// Tests whether the context reads on: no call was refused, and it hasn't taken in the context of the
-    /// append queue.
+    /// Tests whether the context may read on: no call was refused, and
+    /// [`MemTableRecoverContext::merge_append_context`] wasn't called.
     pub fn reads_on(&self) -> bool
         ensures { IsTrue result ↔ (self.now.stage ≡ Reading) }
     {
         self.stage == ContextStage::Reading
     }
 
-    /// Takes in the next batch of a queue, which was written to the file `file_id`. In the rewrite queue the
+    /// Replays the next batch of a queue, which was written to the file `file_id`. In the rewrite queue the
     /// first group marker of the batch decides: a batch without one takes effect at once, the others once
     /// their group is whole. In the append queue markers are ignored, and each batch takes effect at once.
     ///
     /// # Errors
     ///
-    /// `Failed` if the context doesn't read on; it stays as it is then. After any other refusal it is failed:
-    /// - `Corruption` if a place isn't in the file, a put that isn't skipped lacks its value or has another
-    ///   file, entries aren't consecutive, the file is of another queue than those before or below the last
-    ///   of them, the status of a group marker is unknown, or entries leave a hole;
-    /// - `Full` if the live records, and those that the batch, or the group that it ends, names are more than
-    ///   2^64 - 1;
+    /// `Failed` if the context doesn't read on, and nothing changes then. After any other error the context
+    /// has failed, and reads on no more:
+    /// - `Corruption` if a place isn't in the file, a put that isn't a group marker lacks its value or has
+    ///   another file, entries aren't consecutive, the file is of another queue than those before or numbered
+    ///   below the last of them, the status of a group marker is unknown, or entries leave a hole in the
+    ///   append queue;
+    /// - `Full` if the live records, and those that the batch, or the group that it makes whole, names are
+    ///   more than 2^64 - 1;
     /// - `Memory`.
     pub fn replay(&mut self, batch: LogItemBatch, file_id: FileId) -> Result<()>
         ensures ok { OnOk result (IsBatchTaken (event batch file_id) self.old self.new) }
@@ -92,12 +95,12 @@ impl MemTableRecoverContext {
         Ok(())
     }
 
-    /// Does what [`MemTableRecoverContext::replay`] does, with a batch as it was read, and makes no `LogItem`
-    /// of most of its items.
+    /// Replays a batch as [`MemTableRecoverContext::replay`] does, from the bytes that it was read from: no
+    /// `LogItem` is made of most of its items.
     ///
     /// # Errors
     ///
-    /// Those of [`MemTableRecoverContext::replay`], which leave the same.
+    /// Those of [`MemTableRecoverContext::replay`]; each leaves what it leaves there.
     pub fn replay_read(&mut self, batch: &ReadBatch<'_>, file_id: FileId) -> Result<()>
         ensures ok { OnOk result (IsBatchTaken (event batch.now file_id) self.old self.new) }
         ensures counts { OnOk result (IsBatchCounted (event batch.now file_id) self.old.context
@@ -113,16 +116,17 @@ impl MemTableRecoverContext {
         Ok(())
     }
 
-    /// Takes in `rhs`, the context of the batches that follow, all of `queue`. Groups that become whole
-    /// between the two take effect first.
+    /// Merges `rhs`, the context of the batches that follow directly, into this one. The batches of both are
+    /// of `queue`. Groups that begin here and become whole in `rhs` take effect first.
     ///
     /// # Errors
     ///
-    /// `Failed` if the context doesn't read on; it stays as it is then. After any other refusal it is failed:
+    /// `Failed` if the context doesn't read on, and nothing changes then. After any other error the context
+    /// has failed, and reads on no more:
     /// - `Failed` if `rhs` doesn't read on;
     /// - `InvalidArgument` if either context is of another queue;
-    /// - `Corruption` if the first file of `rhs` is below the last one of this context, or entries leave a
-    ///   hole;
+    /// - `Corruption` if the first file of `rhs` is numbered below the last one of this context, or entries
+    ///   leave a hole in the append queue;
     /// - `Full` if both together have more than 2^64 - 1 records;
     /// - `Memory`.
     pub fn merge(&mut self, rhs: MemTableRecoverContext, queue: LogQueue) -> Result<()>
@@ -141,20 +145,21 @@ impl MemTableRecoverContext {
         Ok(())
     }
 
-    /// Takes in the context of the append queue; this one is that of the rewrite queue. A region that the
-    /// append queue names then has its table there over the rewritten one. Its *cut* is the least of the
-    /// starts of its runs there and of the indexes of its truncations. Of the rewritten table these stay:
+    /// Puts `append`, the context of the append queue, over this one, that of the rewrite queue. A region
+    /// that the append queue names then has its table there over the rewritten one. Its *cut* is the least of
+    /// the starts of its runs there and of the indexes of its truncations. Of the rewritten table these stay:
     /// - the entries from the region's greatest compaction on and below the cut, if there is one; but none if
     ///   the append queue has entries that don't begin at the cut, or the rewritten ones don't reach it;
     /// - the key values that the append queue neither puts nor deletes;
     /// - nothing, if the append queue cleaned the region.
     ///
     /// The other regions keep their rewritten tables, and the cleaned regions are those of the append queue.
-    /// Groups that aren't whole are dropped. Only `kept` and `finish` can be called then.
+    /// Groups that aren't whole are dropped. After that only `kept` and `finish` may be called.
     ///
     /// # Errors
     ///
-    /// `Failed` if the context doesn't read on; it stays as it is then. After any other refusal it is failed:
+    /// `Failed` if the context doesn't read on, and nothing changes then. After any other error the context
+    /// has failed, and reads on no more:
     /// - `Failed` if `append` doesn't read on;
     /// - `InvalidArgument` if this context is of the append queue, or `append` is of the rewrite queue;
     /// - `Full` if both together have more than 2^64 - 1 records;
@@ -182,14 +187,14 @@ impl MemTableRecoverContext {
     }
 
     /// Returns what this context, that of the append queue, takes away from the tables of `rewritten`, the
-    /// context of the rewrite queue, as open batches that tell the rewrite queue so. For each region with a
+    /// context of the rewrite queue, as open batches to write to the rewrite queue. For each region with a
     /// rewritten table they have a Clean, if the append queue cleaned it, or else its greatest compaction,
-    /// the truncation at its cut, and the deletion of each key; but only what takes something away from that
-    /// table.
+    /// the truncation at its cut ([`MemTableRecoverContext::merge_append_context`]), and the deletion of each
+    /// key; but only what takes something away from that table.
     ///
-    /// If rewritten entries below the cut are dropped because the append queue's entries don't join them, the
-    /// region's items are in the batch to write at once, with a compaction to the first of the append queue's
-    /// entries; otherwise in the one that may be written later.
+    /// Rewritten entries below the cut may go too, because the append queue's entries don't join them. The
+    /// items of such a region are in the batch to write at once, with a compaction to the first of the append
+    /// queue's entries. Those of the other regions are in the batch that may be written later.
     ///
     /// # Errors
     ///
@@ -210,7 +215,7 @@ impl MemTableRecoverContext {
     }
 
     /// Returns how much the context holds, in numbers. If it stands for a history exactly, that is no more
-    /// than one reading of the history has, with its groups that aren't whole and the keys that it deletes.
+    /// than one reading of the history gives, with its groups that aren't whole and the keys that it deletes.
     ///
     /// # Errors
     ///
@@ -235,11 +240,12 @@ impl MemTableRecoverContext {
         }
     }
 
-    /// Returns the tables of all regions, with the live counts and the regions that were cleaned.
+    /// Returns the tables of all regions, with the live counts and the regions that were cleaned. The context
+    /// is used up: region marks and groups that aren't whole are dropped.
     ///
     /// # Errors
     ///
-    /// `Failed` if a call was refused before.
+    /// `Failed` if a call was refused before. The tables are dropped then.
     pub fn finish(self) -> Result<MemTableAccessor>
         ensures tables { IfOk result (λ accessor. accessor.tables ≡ self.context.regions.tables) }
         ensures cleaned { IfOk result (λ accessor. accessor.cleaned ≡ self.context.cleaned) }
@@ -272,29 +278,32 @@ impl ReplayMachine for MemTableRecoverContext {
 
     ghost stands_exactly = { HasReadExactly };
 
-    /// Does what [`MemTableRecoverContext::replay`] does.
+    /// Replays the next batch of a queue, which was written to the file `file_id`, by
+    /// [`MemTableRecoverContext::replay`].
     ///
     /// # Errors
     ///
-    /// Those of [`MemTableRecoverContext::replay`].
+    /// Those of [`MemTableRecoverContext::replay`], which also says what they leave.
     fn replay(&mut self, batch: LogItemBatch, file_id: FileId) -> Result<()> {
         self.replay(batch, file_id)
     }
 
-    /// Does what [`MemTableRecoverContext::replay_read`] does.
+    /// Replays a batch from the bytes that it was read from, by [`MemTableRecoverContext::replay_read`]: most
+    /// of its items aren't copied first.
     ///
     /// # Errors
     ///
-    /// Those of [`MemTableRecoverContext::replay_read`].
+    /// Those of [`MemTableRecoverContext::replay`], which also says what they leave.
     fn replay_read(&mut self, batch: &ReadBatch<'_>, file_id: FileId) -> Result<()> {
         self.replay_read(batch, file_id)
     }
 
-    /// Does what [`MemTableRecoverContext::merge`] does.
+    /// Merges `rhs`, the context of the batches that follow directly, all of `queue`, by
+    /// [`MemTableRecoverContext::merge`].
     ///
     /// # Errors
     ///
-    /// Those of [`MemTableRecoverContext::merge`].
+    /// Those of [`MemTableRecoverContext::merge`], which also says what they leave.
     fn merge(&mut self, rhs: MemTableRecoverContext, queue: LogQueue) -> Result<()> {
         self.merge(rhs, queue)
     }
@@ -307,7 +316,7 @@ impl ReplayMachine for MemTableRecoverContext {
 pub struct MemTableRecoverContextFactory;
 
 impl MemTableRecoverContextFactory {
-    /// Returns a factory, which needs nothing.
+    /// Returns a factory. It has no settings.
     pub fn new() -> MemTableRecoverContextFactory {
         MemTableRecoverContextFactory
     }

@@ -1,4 +1,5 @@
-//! The region marks of some regions.
+//! The region marks of some regions. A region mark says what steps on a region do to any older table of it
+//! (`Mark`).
 
 ghost use Rattle.std.specs.Prelude.{◌≡◌, ◌≤◌, ◌<◌, length, replicate, IfOk, OnOk, OnErr, Some, is_some, option_map};
 ghost use Rattle.raft_contexts.specs.Common.{keys_of, total, Mark, fresh, mark_of, joined_at, step_shown, together, AreSlots, count_absent, implied_mark, all_marks, mark_in, run_at, with_slots, IsRunKept};
@@ -16,9 +17,10 @@ pub(crate) use small_mark::SmallMark;
 use std::alloc::Global;
 use std::marker::Model;
 
-/// The region marks of some regions, each under its region's id.
+/// The region marks that are kept, each under its region's id. Other regions may have a mark that isn't kept:
+/// their table implies it ([`implied_by`](RegionMarks::implied_by)).
 ///
-/// They are in 128 slots, as the tables are, or in none while none was needed.
+/// They stand in 128 slots, as the tables do, or in none while no mark was needed.
 #[derive(Drop)]
 pub struct RegionMarks {
     slots: Vec<SlotMarks>,
@@ -43,7 +45,7 @@ impl Model for RegionMarks {
 }
 
 impl RegionMarks {
-    /// Returns no region marks. It allocates nothing yet.
+    /// Returns a set without region marks. It allocates nothing yet.
     pub fn new(alloc: Global) -> RegionMarks
         ensures { result ≡ finite.empty }
     {
@@ -53,7 +55,7 @@ impl RegionMarks {
         }
     }
 
-    /// Returns the number of regions whose region mark is kept.
+    /// Returns how many region marks are kept.
     pub fn len(&self) -> usize
         ensures { result ≡ finite.len self.now }
     {
@@ -64,7 +66,7 @@ impl RegionMarks {
         count
     }
 
-    /// Returns the number of deleted keys that all region marks have together.
+    /// Returns how many deleted keys all kept region marks have together.
     pub fn deleted_keys(&self) -> u128
         ensures { result ≡ total (λ (m : Mark). finset.len m.deleted) self.now }
     {
@@ -75,7 +77,7 @@ impl RegionMarks {
         count
     }
 
-    /// Returns the number of regions whose region mark is kept here and that have no table in `tables`.
+    /// Returns how many of the regions whose mark is kept here have no table in `tables`.
     pub(crate) fn count_absent(&self, tables: &MemTableAccessor) -> u64
         ensures { result ≡ count_absent tables.now.tables (keys_of (finite.entries self.now)) }
     {
@@ -86,12 +88,13 @@ impl RegionMarks {
         count
     }
 
-    /// Joins the region mark of a run that starts at index `start` to that of the region `id`. `end` is the
-    /// end of the region's own entries before the run, 0 if there are none.
+    /// Adds a run that starts at index `start` to the region mark of the region `id`, or to that of no step
+    /// if none is kept, and keeps the result. `end` is the index after the last entry that the context gave
+    /// the region before the run, or 0 if it gave none.
     ///
     /// # Errors
     ///
-    /// `AllocError` if there is no memory for it. The region marks are unchanged then.
+    /// `AllocError` if there is no memory. The region marks are unchanged then.
     pub fn add_run(&mut self, id: u64, queue: LogQueue, end: u64, start: u64) -> AllocResult<()>
         ensures ok { OnOk result (self.new
             ≡ finite.insert self.old id (joined_at queue end (mark_in self.old id)
@@ -102,12 +105,13 @@ impl RegionMarks {
         self.slots[slot_of(id)].add_run(id, queue, end, start)
     }
 
-    /// Joins the region mark of a step to that of the region `id`. If the step is a run, `end` is the end of
-    /// the region's own entries before it, 0 if there are none. The key of a deletion is copied.
+    /// Adds `step` to the region mark of the region `id`, or to that of no step if none is kept, and keeps
+    /// the result. If the step is a run, `end` is the index after the last entry that the context gave the
+    /// region before it, or 0 if it gave none. The key of a deletion is copied.
     ///
     /// # Errors
     ///
-    /// `AllocError` if there is no memory for it. The region marks are unchanged then.
+    /// `AllocError` if there is no memory. The region marks are unchanged then.
     pub fn add_step(&mut self, id: u64, queue: LogQueue, end: u64, step: &Step) -> AllocResult<()>
         ensures ok { OnOk result (self.new
             ≡ finite.insert self.old id
@@ -118,14 +122,15 @@ impl RegionMarks {
         self.slots[slot_of(id)].add_step(id, queue, end, step)
     }
 
-    /// Joins `newer`, the region mark of newer steps, to that of the region `id`. `end_at_reach` is the end
-    /// of the region's own entries that the first newer run meets
+    /// Joins `newer`, the region mark of the steps that follow, to that of the region `id`, or to that of no
+    /// step if none is kept, and keeps the result. `end_at_reach` is the index after the last entry of the
+    /// region in the older context that the first newer run meets
     /// ([`MemTable::end_at_reach`](raft_table::MemTable::end_at_reach)).
     ///
     /// # Errors
     ///
-    /// `AllocError` if there is no memory for it. The mark of the region may lack deleted keys then, and must
-    /// not be used.
+    /// `AllocError` if there is no memory. The mark of the region may lack deleted keys then, and must not be
+    /// used.
     pub fn join(
         &mut self,
         id: u64,
@@ -151,7 +156,7 @@ impl RegionMarks {
         self.slots[slot_of(id)].has(id)
     }
 
-    /// Returns the region mark that is kept for the region `id`, or `None` if there is none.
+    /// Returns the region mark that is kept for the region `id`, or `None` if none is.
     pub(crate) fn get(&self, id: u64) -> Option<&SmallMark>
         ensures { option_map (λ m. m.now) result ≡ finite.get self.now id }
     {
@@ -161,11 +166,12 @@ impl RegionMarks {
         self.slots[slot_of(id)].get(id)
     }
 
-    /// Sets the region mark of the region `id` to that of a run that starts at index `start`.
+    /// Keeps the region mark of one run, which starts at index `start`, for the region `id`, in place of the
+    /// one that is kept.
     ///
     /// # Errors
     ///
-    /// `AllocError` if there is no memory for it. The region marks are unchanged then.
+    /// `AllocError` if there is no memory. The region marks are unchanged then.
     fn put_run(&mut self, id: u64, start: u64) -> AllocResult<()>
         ensures ok { OnOk result (self.new ≡ finite.insert self.old id (run_at start)) }
         ensures err { OnErr result (self.new ≡ self.old) }
@@ -174,13 +180,13 @@ impl RegionMarks {
         self.slots[slot_of(id)].put_run(id, start)
     }
 
-    /// Keeps the region mark of the region `id` if its table has implied it so far: the table is about to
-    /// change, and would then imply another one. The mark of no step, which a table without entries implies,
-    /// needn't be kept.
+    /// Keeps the region mark of the region `id`, if only its table in `tables` has implied it so far. Call it
+    /// before the table changes, which would then imply another mark. A table without entries implies the
+    /// mark of no step, which needn't be kept.
     ///
     /// # Errors
     ///
-    /// `AllocError` if there is no memory for it. The table still implies the mark then.
+    /// `AllocError` if there is no memory. The table still implies the mark then.
     pub(crate) fn keep(&mut self, id: u64, tables: &MemTableAccessor) -> AllocResult<()>
         ensures same { all_marks tables.now.tables self.new ≡ all_marks tables.now.tables self.old }
         ensures kept { OnOk result (mark_in self.new id ≡ mark_in (all_marks tables.now.tables self.old) id) }
@@ -197,13 +203,13 @@ impl RegionMarks {
         }
     }
 
-    /// Joins the region mark of a run that starts at index `first` to that of the region `id`, whose entries
-    /// were at the indexes `start..end` before the run; both are 0 if there were none. Nothing is kept if the
-    /// table implies the mark still, as after a run that begins among the entries or right after them.
+    /// Adds a run that starts at index `first` to the region mark of the region `id`. Before the run the
+    /// region had entries at the indexes `start..end`; both are 0 if it had none. Nothing is kept if the
+    /// table still implies the mark, as after a run that begins among the entries or right after them.
     ///
     /// # Errors
     ///
-    /// `AllocError` if there is no memory for it. The region mark lacks the run then.
+    /// `AllocError` if there is no memory. The region mark lacks the run then.
     #[inline(always)]
     pub(crate) fn mark_run(
         &mut self,
@@ -228,8 +234,8 @@ impl RegionMarks {
         self.add_run(id, queue, end, first)
     }
 
-    /// Returns the region mark that `table` implies, that is one whose region has no mark of its own here:
-    /// the mark of one run of all its entries, or that of no step if it has none.
+    /// Returns the region mark that `table` implies, as long as none is kept for its region: the mark of one
+    /// run of all its entries, or that of no step if it has none.
     pub(crate) fn implied_by(&self, table: &MemTable) -> Mark
         ensures { result ≡ implied_mark table.now }
     {
@@ -246,11 +252,12 @@ impl RegionMarks {
         Mark::new(self.alloc)
     }
 
-    /// Makes room for at least `count` region marks in the slot numbered `slot`, below 128.
+    /// Reserves memory in the slot numbered `slot`, below 128, so that it can hold `count` region marks, with
+    /// those that it has.
     ///
     /// # Errors
     ///
-    /// `AllocError` if there is no memory for it. No region mark changes in either case.
+    /// `AllocError` if there is no memory. The region marks are the same in either case.
     pub(crate) fn make_room(&mut self, slot: usize, count: usize) -> AllocResult<()>
         requires { slot < 128 }
         ensures { self.new ≡ self.old }
@@ -259,7 +266,8 @@ impl RegionMarks {
         self.slots[slot].make_room(count)
     }
 
-    /// Returns the region marks by slots: 128 of them, or none if none was needed so far.
+    /// Returns the region marks by slots, slot n at index n: 128 of them, or none if no mark was needed so
+    /// far.
     pub(crate) fn into_slots(self) -> Vec<SlotMarks>
         ensures marks { together result.items ≡ self }
         ensures slots { AreSlots 0 result.items }
@@ -269,11 +277,11 @@ impl RegionMarks {
     }
 }
 
-/// Makes the 128 slots, without region marks, if `slots` has none yet.
+/// Fills `slots` with the 128 slots, which have no region marks, if it is empty.
 ///
 /// # Errors
 ///
-/// `AllocError` if there is no memory for them. There are none then.
+/// `AllocError` if there is no memory. `slots` is still empty then.
 fn make_slots(slots: &mut Vec<SlotMarks>, alloc: Global) -> AllocResult<()>
     ensures ok { OnOk result (slots.new.items ≡ with_slots slots.old.items) }
     ensures err { OnErr result (slots.new.items ≡ slots.old.items) }
@@ -288,7 +296,7 @@ fn make_slots(slots: &mut Vec<SlotMarks>, alloc: Global) -> AllocResult<()>
 ///
 /// # Errors
 ///
-/// `AllocError` if there is no memory for them.
+/// `AllocError` if there is no memory.
 fn empty_slots(alloc: Global) -> AllocResult<Vec<SlotMarks>>
     ensures { IfOk result (λ slots. slots.items ≡ replicate 128 finite.empty) }
 {

@@ -1,4 +1,6 @@
-//! What the append queue takes away from rewritten tables, as batches that tell the rewrite queue so.
+//! What the append queue takes away from rewritten tables, as batches that are to be written to the rewrite
+//! queue. A region mark (`Mark`) says what the append queue does to any older table of a region: entries
+//! below its *floor* and from its *cut* on go, and so do the deleted keys, or all of it in a clean.
 
 ghost use Rattle.std.specs.Prelude.{◌≡◌, ◌∷◌, [], ◌++◌, ◌&&◌, true, false, filter, map, nat_le, nat_lt, IfErr, IfOk, MatchOption, None, OnOk, Some, if◌then◌else◌};
 ghost use Rattle.std.specs.FinMap as finite;
@@ -18,20 +20,20 @@ use raft_records::{Command, LogBatch};
 use raft_table::{Mark, MemTable};
 use std::alloc::Global;
 
-/// What the append queue takes away from rewritten tables, as open batches of commands and deletions that take the same
-/// away. All items of a region are in one of the two batches.
+/// What the append queue takes away from rewritten tables, as open batches of commands and deletions that
+/// take the same away. All items of a region are in one of the two batches.
 #[derive(Drop)]
 pub struct TakenAway {
-    /// What has to be written at once: the items of regions whose rewritten entries are dropped though their region mark lets
-    /// them stay, since the appended entries don't join them.
+    /// What has to be written at once: the items of regions that lose more rewritten entries than their
+    /// region mark says, since the appended entries don't join these.
     pub at_once: LogBatch,
     /// What may be written later: the items of the other regions.
     pub later: LogBatch,
 }
 
 impl MarkedTables {
-    /// Returns what the region marks of these appended tables take away from the tables `rewritten`, as open
-    /// batches that tell the rewrite queue so.
+    /// Returns what the region marks of these tables, those of the append queue, take away from the tables
+    /// `rewritten`, as open batches to write to the rewrite queue.
     ///
     /// # Errors
     ///
@@ -55,7 +57,7 @@ impl MarkedTables {
         Ok(taken)
     }
 
-    /// Adds what the append queue takes away from the rewritten table `table` to `taken`.
+    /// Adds what the append queue takes away from `table`, a rewritten table, to `taken`.
     ///
     /// # Errors
     ///
@@ -72,9 +74,9 @@ impl MarkedTables {
         }
     }
 
-    /// Adds what the append queue takes away from the rewritten table `table`, whose region has no kept
-    /// region mark: what the mark takes away that the appended table implies, or nothing if there is no such
-    /// table.
+    /// Adds what the append queue takes away from `table`, a rewritten table of a region whose region mark
+    /// isn't kept, to `taken`: what the mark takes away that the region's appended table implies, or nothing
+    /// if there is no such table.
     ///
     /// # Errors
     ///
@@ -104,8 +106,9 @@ impl MarkedTables {
     }
 }
 
-/// Adds what a region mark takes away from the region's rewritten table `table` to `taken`. `first` is the
-/// index of the region's first entry in the append queue, if there is one.
+/// Adds what the region mark `mark` of the append queue takes away from `table`, the region's rewritten
+/// table, to `taken`: to its batch `at_once` if entries go that the mark lets stay, else to `later`. `first`
+/// is the index of the region's first entry in the append queue, or `None` if it has none.
 ///
 /// # Errors
 ///
@@ -126,9 +129,9 @@ pub(crate) fn tell_mark(
     }
 }
 
-/// Adds what has to be told at once of a region whose rewritten entries are dropped though they lie below the
-/// mark's cut, because the appended ones, which begin at `index`, don't join them: what the mark takes away,
-/// and a compaction to `index` if the table begins below it.
+/// Adds to the batch `at_once` of `taken` what is taken away from `table`, a rewritten table whose entries
+/// below the mark's cut go too, since the appended ones, which begin at `index`, don't join them: what `mark`
+/// takes away, and a compaction to `index` if the table begins below it.
 ///
 /// # Errors
 ///
@@ -149,8 +152,9 @@ fn tell_front(mark: &Mark, index: u64, table: &MemTable, taken: &mut TakenAway) 
     )
 }
 
-/// Returns `first`, the index at which the appended entries begin, if rewritten entries that stay under the
-/// region mark are dropped because the appended ones don't join them ([`drops_front`]); else `None`.
+/// Returns `first`, the index at which the appended entries begin, if rewritten entries that `mark` lets stay
+/// go because the appended ones don't join them ([`drops_front`]). Returns `None` otherwise, and if there are
+/// no appended entries.
 fn dropped_before(mark: &Mark, first: Option<u64>, table: &MemTable) -> Option<u64>
     ensures { MatchOption result (is_front_dropped mark.now first table.now ≡ false)
         (λ index. (first ≡ Some index) × (is_front_dropped mark.now (Some index) table.now ≡ true)) }
@@ -162,9 +166,9 @@ fn dropped_before(mark: &Mark, first: Option<u64>, table: &MemTable) -> Option<u
     None
 }
 
-/// Tests whether rewritten entries that stay under a region mark, those from its floor on and below its cut,
-/// are dropped because the appended entries, which begin at `first`, don't join them: they don't begin at the
-/// cut, or the table ends below it.
+/// Tests whether `table` has entries that `mark` lets stay, those from its floor on and below its cut, which
+/// go because the appended entries, from index `first` on, don't join them: these don't begin at the cut, or
+/// the table ends below it.
 fn drops_front(mark: &Mark, first: u64, table: &MemTable) -> bool
     ensures { result ≡ is_front_dropped mark.now (Some first) table.now }
 {
@@ -188,8 +192,8 @@ fn has_between(table: &MemTable, from: u64, below: u64) -> bool
     }
 }
 
-/// Adds what a region mark takes away from the region's rewritten table to the batch `told`: its clean, or
-/// its compaction, truncation and deletions.
+/// Adds what `mark` takes away from `table`, the region's rewritten table, to the open batch `told`: its
+/// clean, or its compaction, truncation and deletions of keys. What would take nothing away is left out.
 ///
 /// # Errors
 ///
@@ -206,8 +210,8 @@ fn tell_steps(mark: &Mark, table: &MemTable, told: &mut LogBatch) -> Result<()>
     tell_deletions(table.region_id(), keys, told)
 }
 
-/// Adds the commands by which a region mark takes something away from a rewritten table to the batch `told`:
-/// a Clean, or a compaction to its floor and a truncation at its cut.
+/// Adds the commands by which `mark` takes something away from `table`, the region's rewritten table, to the
+/// open batch `told`: a Clean, or a compaction to its floor and a truncation at its cut.
 ///
 /// # Errors
 ///
@@ -236,7 +240,8 @@ fn tell_bounds(mark: &Mark, table: &MemTable, told: &mut LogBatch) -> Result<()>
     }
 }
 
-/// Adds `command` for `region` to the batch `told`, if `takes`: if it takes something away.
+/// Adds `command` for `region` to the open batch `told` if `takes` is set, which says that the command takes
+/// something away. Does nothing otherwise.
 ///
 /// # Errors
 ///
@@ -254,7 +259,7 @@ fn tell_if(takes: bool, region: u64, command: Command, told: &mut LogBatch) -> R
     Ok(())
 }
 
-/// Adds a deletion of each of `keys` in `region` to the batch `told`.
+/// Adds a deletion of each of `keys` in `region` to the open batch `told`, in order.
 ///
 /// # Errors
 ///
@@ -272,7 +277,7 @@ fn tell_deletions(region: u64, keys: Vec<Vec<u8>>, told: &mut LogBatch) -> Resul
     Ok(())
 }
 
-/// Tests whether `table` has an entry or a key value.
+/// Tests whether `table` has an entry or a key value, which a clean would drop.
 fn has_records(table: &MemTable) -> bool
     ensures { result ≡ takes_of table.now Clean }
 {

@@ -1,4 +1,5 @@
-//! What is known of one group from a history.
+//! What the batches of a history tell of one atomic group. Its batches have markers: a `Begin` and an `End`
+//! at the two ends of a *stretch*, and any number of `Middle`s between.
 
 ghost use Rattle.std.specs.Prelude.{◌≡◌, ◌<◌, ◌^◌, length, IfOk};
 ghost use Rattle.raft_contexts.specs.Common.{option_map, Ended, joined_group, whole_group, whole_of, one_marker, led_by, carried_stretch, without_marker, held_steps, front_steps, front_shown, stretch_shown, group_shown, whole_shown};
@@ -8,23 +9,26 @@ use raft_base::{AllocResult, FileSeq};
 use raft_records::AtomicGroupStatus;
 use std::alloc::Global;
 
-/// What a history has of a group before its first `Begin`: items that may end a stretch that began in an older history.
+/// What a history has of a group before its first `Begin`: items of a stretch that may have begun in an older
+/// history.
 #[doc(hidden)]
 #[derive(Debug, Drop)]
 pub enum GroupFront {
-    /// Neither a `Begin` nor an `End` has come yet. Has the items so far.
+    /// Neither a `Begin` nor an `End` has come yet. It has the items so far.
     Open(WaitingItems),
-    /// An `End` came first. Has the items up to it, and the number of its file.
+    /// An `End` came first. It has the items up to that, and the number of the file of the `End`.
     Ended(WaitingItems, FileSeq),
-    /// A `Begin` came first.
+    /// A `Begin` came first. It ends whatever was open before it, so older items count no more.
     Begun,
 }
 
-/// A stretch that has begun and not ended: the number of the file of its `Begin`, and its items.
+/// A stretch that has begun and not ended yet.
 #[doc(hidden)]
 #[derive(Debug, Drop)]
 pub struct OpenStretch {
+    /// The number of the file of its `Begin`.
     pub first_seq: FileSeq,
+    /// Its items so far.
     pub items: WaitingItems,
 }
 
@@ -32,21 +36,26 @@ pub struct OpenStretch {
 #[doc(hidden)]
 #[derive(Debug, Drop)]
 pub struct WaitingGroup {
+    /// What came before the first `Begin`.
     pub front: GroupFront,
+    /// The last stretch, if it has begun and not ended yet.
     pub stretch: Option<OpenStretch>,
 }
 
-/// A group that is whole: its items, and the numbers of the files of its `Begin` and its `End`.
+/// A group that is whole: `Begin` and `End` have come.
 #[doc(hidden)]
 #[derive(Debug, Drop)]
 pub struct WholeGroup {
+    /// Its items, in order.
     pub items: WaitingItems,
+    /// The number of the file of its `Begin`.
     pub first_seq: FileSeq,
+    /// The number of the file of its `End`.
     pub last_seq: FileSeq,
 }
 
 impl GroupFront {
-    /// Returns the number of items that came before the first `Begin`.
+    /// Returns how many items came before the first `Begin` and wait for an older one.
     fn len(&self) -> usize
         ensures { result ≡ length (front_steps (front_shown self.now)) }
     {
@@ -57,12 +66,12 @@ impl GroupFront {
         }
     }
 
-    /// Puts the older `items` before these. If a `Begin` came first, they are dropped: it ends what began
-    /// before.
+    /// Puts `items`, which are older, before these. If a `Begin` came first they are dropped, since that
+    /// `Begin` ends what was open before it.
     ///
     /// # Errors
     ///
-    /// `AllocError` if there is no memory for them. All are lost then.
+    /// `AllocError` if there is no memory. All items are dropped then.
     fn led_by(self, mut items: WaitingItems) -> AllocResult<GroupFront>
         ensures { IfOk result (λ r. front_shown r ≡ led_by items (front_shown self)) }
     {
@@ -81,7 +90,7 @@ impl GroupFront {
 }
 
 impl WaitingGroup {
-    /// Returns what is known of a group of which no group marker was read: nothing.
+    /// Returns what is known of a group of which no marker was read: that it has no items yet.
     pub fn without_marker(alloc: Global) -> WaitingGroup
         ensures { group_shown result ≡ without_marker }
     {
@@ -91,8 +100,8 @@ impl WaitingGroup {
         }
     }
 
-    /// Returns what one batch tells of a group: it has a group marker with this `status` and these `items`,
-    /// and is in the file numbered `seq`.
+    /// Returns what one batch tells of a group: the batch has a marker of it with this `status`, has these
+    /// `items`, and is in the file numbered `seq`.
     pub fn one_marker(status: AtomicGroupStatus, items: WaitingItems, seq: FileSeq) -> WaitingGroup
         ensures { group_shown result ≡ one_marker status items seq }
     {
@@ -107,7 +116,7 @@ impl WaitingGroup {
         WaitingGroup { front, stretch }
     }
 
-    /// Returns the number of items that wait, before the first `Begin` and in the stretch that is open.
+    /// Returns how many items wait: those before the first `Begin`, and those of the stretch that is open.
     pub fn len(&self) -> u128
         ensures items { result ≡ length (held_steps (group_shown self.now)) }
         ensures bound { result < 2 ^ 65 }
@@ -119,13 +128,14 @@ impl WaitingGroup {
         self.front.len() as u128 + behind as u128
     }
 
-    /// Joins what a newer history, which follows, tells of the group. Returns what is known from both and, if
-    /// an `End` in the newer one ends a stretch that the older one began, the group that is whole by that.
+    /// Joins `newer`, what the history that follows directly tells of the group, to this. Returns what is
+    /// known from both and, if an `End` in the newer history ends a stretch that the older one began, the
+    /// group that this makes whole.
     ///
     /// # Errors
     ///
-    /// `AllocError` if there is no memory to put the newer items behind the older ones. What is known of the
-    /// group is lost then.
+    /// `AllocError` if there is no memory to append the newer items to the older ones. All that is known of
+    /// the group is dropped then.
     pub fn join(self, newer: WaitingGroup) -> AllocResult<(WaitingGroup, Option<WholeGroup>)>
         ensures known { IfOk result (λ r. group_shown r.0 ≡ joined_group (group_shown self)
             (group_shown newer)) }
@@ -145,12 +155,12 @@ impl WaitingGroup {
     }
 }
 
-/// Puts items behind those of `stretch`, if one is open. Returns `None` otherwise, and drops the items: no
+/// Returns `stretch` with `items` after its own. Returns `None` if no stretch is open, and drops the items: no
 /// `Begin` came before them.
 ///
 /// # Errors
 ///
-/// `AllocError` if there is no memory for them.
+/// `AllocError` if there is no memory. Stretch and items are dropped then.
 fn going_on(stretch: Option<OpenStretch>, items: WaitingItems) -> AllocResult<Option<OpenStretch>>
     ensures { IfOk result (λ r. stretch_shown r ≡ carried_stretch (stretch_shown stretch) items) }
 {
@@ -161,12 +171,12 @@ fn going_on(stretch: Option<OpenStretch>, items: WaitingItems) -> AllocResult<Op
     Ok(Some(open))
 }
 
-/// Ends `stretch`, if one is open, with these items, and returns the whole group, whose `End` is in the file
-/// numbered `last_seq`. Returns `None` if no stretch is open.
+/// Ends `stretch` with `items`, and returns the whole group, whose `End` is in the file numbered `last_seq`.
+/// Returns `None` if no stretch is open, and drops the items.
 ///
 /// # Errors
 ///
-/// `AllocError` if there is no memory for the items.
+/// `AllocError` if there is no memory. Stretch and items are dropped then.
 fn ended(
     stretch: Option<OpenStretch>,
     items: WaitingItems,

@@ -1,4 +1,4 @@
-//! Groups that wait until they are whole.
+//! The atomic groups that wait until they are whole.
 
 ghost use Rattle.std.specs.Prelude.{◌≡◌, ℕ, List, [], ◌∷◌, ◌++◌, IfOk, IfSome, IfNone, OnOk, map, option_to_list};
 ghost use Rattle.raft_contexts.specs.Common.{option_map, nat_cmp, IsOrdered, is_at, remove_entry, BatchSteps, batch_with_marker, EachApart, effects, steps_of, joined_group, whole_group, one_marker, groups_in, waiting_steps, steps_or};
@@ -13,7 +13,7 @@ use std::alloc::Global;
 use std::collections::BTreeMap;
 use std::marker::Model;
 
-/// What is known of the groups that have a group marker.
+/// What is known of each group of which a marker was read, by the group's id.
 #[doc(hidden)]
 #[derive(Debug, Drop)]
 pub struct WaitingGroups {
@@ -37,7 +37,7 @@ impl Model for WaitingGroups {
 }
 
 impl WaitingGroups {
-    /// Returns groups of which no group marker was read.
+    /// Returns a set without groups. It allocates nothing yet.
     pub fn new(alloc: Global) -> WaitingGroups
         ensures { result ≡ finite.empty }
     {
@@ -47,14 +47,14 @@ impl WaitingGroups {
         }
     }
 
-    /// Returns the number of groups of which a group marker was read.
+    /// Returns how many groups there are of which a marker was read.
     pub fn len(&self) -> usize
         ensures { result ≡ finite.len self.now }
     {
         self.groups.len()
     }
 
-    /// Returns the number of items that wait, of all groups.
+    /// Returns how many items wait, in all groups together.
     pub fn waiting_items(&self) -> u128
         ensures { result ≡ waiting_steps self.now }
     {
@@ -65,12 +65,12 @@ impl WaitingGroups {
         count
     }
 
-    /// Takes in one more batch, in the file numbered `seq`, whose group marker is of the group `id` and has
-    /// this `status`. Returns the group if the batch makes it whole, else `None`.
+    /// Adds one more batch, which is in the file numbered `seq`, has a marker of the group `id` with this
+    /// `status`, and has these `items`. Returns the group if the batch makes it whole, else `None`.
     ///
     /// # Errors
     ///
-    /// `AllocError` if there is no memory for it. What is known of the group may be lost then.
+    /// `AllocError` if there is no memory. What is known of the group may be lost then.
     pub fn take_in(
         &mut self,
         id: u64,
@@ -92,12 +92,12 @@ impl WaitingGroups {
         self.join_one(id, WaitingGroup::one_marker(status, items, seq))
     }
 
-    /// Joins `newer`, what is known of the groups of a newer history, which follows. Returns the groups that
-    /// the two histories make whole, by rising ids.
+    /// Joins `newer`, what is known of the groups of the history that follows directly, to this. Returns the
+    /// groups that the two histories together make whole, by rising ids.
     ///
     /// # Errors
     ///
-    /// `AllocError` if there is no memory for it. What is known of groups may be lost then.
+    /// `AllocError` if there is no memory. What is known of some groups may be lost then.
     pub fn join(&mut self, newer: WaitingGroups) -> AllocResult<Vec<WholeGroup>>
         ensures known { OnOk result (self.new ≡ joined_groups self.old newer) }
         ensures wholes { IfOk result (λ w. map whole_shown w.items ≡ whole_groups self.old newer) }
@@ -117,12 +117,12 @@ impl WaitingGroups {
         Ok(wholes)
     }
 
-    /// Joins what a newer history tells of the group `id`. Returns the group if the two histories make it
-    /// whole, else `None`.
+    /// Joins `newer`, what the history that follows directly tells of the group `id`, to what is known of it.
+    /// Returns the group if the two histories together make it whole, else `None`.
     ///
     /// # Errors
     ///
-    /// `AllocError` if there is no memory for it. What is known of the group may be lost then.
+    /// `AllocError` if there is no memory. What is known of the group may be lost then.
     fn join_one(&mut self, id: u64, newer: WaitingGroup) -> AllocResult<Option<WholeGroup>>
         ensures known { OnOk result (self.new
             ≡ finite.insert self.old id (joined_group (known_of self.old id) (group_shown newer))) }
@@ -135,7 +135,8 @@ impl WaitingGroups {
         Ok(whole)
     }
 
-    /// Removes the group with the least id and returns both, or `None` if there is none.
+    /// Removes the group with the least id, and returns its id and what is known of it, or `None` if there
+    /// are no groups.
     fn take_first(&mut self) -> Option<(u64, WaitingGroup)>
         ensures first { IfSome result (λ p. finite.entries self.old
             ≡ (p.0, group_shown p.1) ∷ finite.entries self.new) }
@@ -147,8 +148,8 @@ impl WaitingGroups {
     }
 }
 
-/// Removes the group `id` from `groups` and returns it, or a group of which nothing is known, allocated by
-/// `alloc`, if `groups` doesn't have it.
+/// Removes the group `id` from `groups` and returns what is known of it. If `groups` doesn't have it, that is
+/// nothing: a group without items, which uses `alloc`.
 fn take_out(groups: &mut BTreeMap<u64, WaitingGroup>, alloc: Global, id: u64) -> WaitingGroup
     requires { IsOrdered nat_cmp groups.old }
     ensures known { group_shown result ≡ known_of (seen_entries groups.old.entries) id }
@@ -161,11 +162,11 @@ fn take_out(groups: &mut BTreeMap<u64, WaitingGroup>, alloc: Global, id: u64) ->
     }
 }
 
-/// Appends a group to `wholes`, if there is one.
+/// Appends the group `whole` to `wholes`. Does nothing for `None`.
 ///
 /// # Errors
 ///
-/// `AllocError` if there is no memory for it.
+/// `AllocError` if there is no memory. `wholes` is unchanged then, and the group is dropped.
 fn push_some(wholes: &mut Vec<WholeGroup>, whole: Option<WholeGroup>) -> AllocResult<()>
     ensures { OnOk result (map whole_shown wholes.new.items
         ≡ map whole_shown wholes.old.items ++ option_to_list (option_map whole_shown whole)) }

@@ -1,4 +1,4 @@
-//! Steps of groups that are not whole yet.
+//! Steps of an atomic group that isn't whole yet.
 
 ghost use Rattle.std.specs.Prelude.{◌≡◌, ◌++◌, ℕ, ◌==◌, [], ◌∷◌, length, map, IsTrue, OnOk, IfOk};
 ghost use Rattle.raft_contexts.specs.Common.{list_any, item_of, region_step_shown, steps_of_items, names};
@@ -9,8 +9,8 @@ use raft_records::LogItem;
 use std::alloc::Global;
 use std::marker::Model;
 
-/// The steps of items that wait for the end of their group. An item without a step, as the group's own
-/// group marker, is dropped when it comes in.
+/// The steps of items that wait until their atomic group is whole, in order. An item without a step, such as
+/// the group's own marker, isn't kept.
 #[doc(hidden)]
 #[derive(Debug, Drop)]
 pub struct WaitingItems {
@@ -38,11 +38,11 @@ impl WaitingItems {
         }
     }
 
-    /// Returns the steps of `items`, in order. Items without a step, as group markers, are left out.
+    /// Returns the steps of `items`, in order. Items without a step, such as group markers, are left out.
     ///
     /// # Errors
     ///
-    /// `AllocError` if there is no memory for them.
+    /// `AllocError` if there is no memory. The items are dropped then.
     pub fn of_items(items: Vec<LogItem>) -> AllocResult<WaitingItems>
         ensures { IfOk result (λ waiting. waiting ≡ steps_of_items (map item_of items.items)) }
     {
@@ -55,18 +55,18 @@ impl WaitingItems {
         Ok(WaitingItems { steps })
     }
 
-    /// Returns the number of steps that wait.
+    /// Returns how many steps wait.
     pub fn len(&self) -> usize
         ensures { result ≡ length self.now }
     {
         self.steps.len()
     }
 
-    /// Moves the steps of `more` behind these.
+    /// Moves the steps of `more` to the end of these.
     ///
     /// # Errors
     ///
-    /// `AllocError` if there is no memory for them. The steps of `more` are lost then.
+    /// `AllocError` if there is no memory. The steps of `more` are dropped then.
     pub fn append(&mut self, more: WaitingItems) -> AllocResult<()>
         ensures { OnOk result (self.new ≡ self.old ++ more) }
     {
@@ -75,12 +75,12 @@ impl WaitingItems {
         Ok(())
     }
 
-    /// Returns the regions that the steps change, in the order of the steps; neighboring steps of one region
-    /// count once, but a region may be there twice.
+    /// Returns the ids of the regions that the steps change, in the order of the steps. Neighboring steps of
+    /// one region give its id once, but an id may be there twice.
     ///
     /// # Errors
     ///
-    /// `AllocError` if there is no memory for them.
+    /// `AllocError` if there is no memory.
     pub fn regions(&self) -> AllocResult<Vec<u64>>
         ensures { IfOk result
             (λ ids. (r : ℕ) → list_any (λ id. r == id) ids.items ≡ names r self.now) }
@@ -95,7 +95,7 @@ impl WaitingItems {
         Ok(ids)
     }
 
-    /// Takes the steps out of the list, in order.
+    /// Returns the steps, in order.
     pub fn into_steps(self) -> Vec<RegionStep>
         ensures { map region_step_shown result.items ≡ self }
     {
@@ -103,7 +103,7 @@ impl WaitingItems {
     }
 }
 
-/// Tests whether `id` is the last one of `ids`.
+/// Tests whether the last of `ids` is `id`. False if there are none.
 fn is_last(ids: &[u64], id: u64) -> bool
     ensures { (r : ℕ) → IsTrue result → list_any (λ i. r == i) (ids.now ++ id ∷ []) ≡ list_any
         (λ i. r == i) ids.now }

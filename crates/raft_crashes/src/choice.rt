@@ -1,4 +1,4 @@
-//! How the changes of a region are chosen.
+//! How the changes of a region are chosen, in histories that are written down and in random ones.
 
 use raft_base::{FileId, LogFileContext, LogQueue, Result, Version};
 use raft_records::LogBatch;
@@ -10,25 +10,30 @@ use std::alloc::Global;
 pub(crate) enum Choice {
     /// Any change that the region may have.
     Any,
-    /// Entries in place of all of the region or all but the first, and a compaction to their end.
+    /// Entries in place of all of the region or of all but the first one, and a compaction to their end.
     Replacement,
-    /// An entry of this many bytes behind the region's last one or, if it has four or more, a compaction.
+    /// An entry of so many bytes after the region's last one or, if the region has four or more entries, a
+    /// compaction.
     Long(usize),
-    /// Entries from the first index on, below the second.
+    /// Entries from the first index on and below the second.
     Entries(u64, u64),
     /// An entry at this index, whose bytes are those of a sound batch in this version.
     SoundBatch(u64, Version),
     /// A value of the key `k`.
     Put(&'static str),
+    /// A deletion of the key `k`.
     Delete,
+    /// A compaction to this index.
     Compact(u64),
+    /// A truncation at this index.
     Truncate(u64),
+    /// A clean of the region.
     Clean,
 }
 
 impl Choice {
-    /// Returns the change to write to a region that has `records`. What this choice leaves open, as the
-    /// entries' bytes, is drawn by `dice`.
+    /// Returns the change to write to a region that has `records`. What this choice leaves open, such as the
+    /// bytes of entries, is drawn by `dice`.
     ///
     /// # Errors
     ///
@@ -54,8 +59,8 @@ impl Choice {
     }
 }
 
-/// Returns an entry of `len` bytes behind the last one or, if there are four entries or more, the compaction
-/// to the last one, so that few long entries are kept.
+/// Returns the change that appends an entry of `len` bytes to `records` or, if there are four entries or
+/// more, the compaction to the last one. So few long entries are kept.
 ///
 /// # Errors
 ///
@@ -73,7 +78,7 @@ fn draw_long_change(
     one_entry(end, vec![in alloc; dice.letter(); len]?)
 }
 
-/// Returns the change that appends one entry at `index`, with the bytes `text`.
+/// Returns the change that appends one entry with the index `index` and the bytes `text`.
 ///
 /// # Errors
 ///
@@ -83,8 +88,8 @@ fn one_entry(index: u64, text: Vec<u8>) -> Result<Change> {
     Ok(Change::Append(vec![in alloc; Proposal { index, text }]?))
 }
 
-/// Returns the bytes of a batch that puts one value under the key `k` of region 1, signed for append file 1.
-/// An entry with these bytes must not be taken for a batch.
+/// Returns the bytes of a batch of this `version` that puts one value under the key `k` of region 1, signed
+/// for append file 1. An entry with these bytes must not be taken for a batch.
 ///
 /// # Errors
 ///

@@ -1,4 +1,4 @@
-//! Crashes that are tried: what is left is recovered, and opened.
+//! Tries crashes: recovers what is left, opens it, and lets the openings crash too.
 
 use crate::disk::{Crash, Disk};
 use crate::found::{Way, open_found_files, records_of, recover_records};
@@ -9,32 +9,36 @@ use raft_samples::{Contents, Dice, text_of};
 use std::alloc::Global;
 use std::thread::Threads;
 
-/// What the driver asks of the machine: memory, threads that recover, and its output.
+/// What this program needs of the machine: memory, threads that recover, and output.
 pub(crate) trait Host: AllocGlobal + Threads + Sync + Print + Eprint {}
 
 impl<R: AllocGlobal + Threads + Sync + Print + Eprint> Host for R {}
 
-/// How many restarts in a row crash at most. Half of the first ones are, and half of each further one.
+/// How many openings in a row are tried after a crash, at most. Half of the openings crash in turn.
 const RESTARTS: usize = 4;
 
 /// What was tried so far, and how often something else was read than there had to be.
 #[derive(Drop)]
 pub(crate) struct Crashes<'a, R: Host> {
+    /// The machine.
     pub(crate) rt: &'a R,
+    /// How many crashes were tried.
     pub(crate) tried: u64,
-    /// How often both queues were recovered, alone or by an opening.
+    /// How many times both queues were recovered, alone or by an opening.
     pub(crate) recoveries: u64,
+    /// How many differences there were.
     pub(crate) different: u64,
 }
 
 impl<'a, R: Host> Crashes<'a, R> {
-    /// Returns the allocator that the machine gives.
+    /// Returns the machine's allocator.
     fn alloc(&self) -> Global {
         self.rt.alloc()
     }
 
-    /// Tries a crash of `disk` that is drawn and, if `by_bytes` names a queue, before it each one that
-    /// [`Disk::crashes_of_queue`] lists.
+    /// Tries a drawn crash of `disk`. If `by_bytes` names a queue, tries each crash before it that
+    /// [`Disk::crashes_of_queue`] lists of that queue. `way` says how the files are read. A difference is
+    /// counted and printed, and is no error.
     ///
     /// # Errors
     ///
@@ -56,7 +60,7 @@ impl<'a, R: Host> Crashes<'a, R> {
     }
 
     /// Tries one crash of `disk`: recovers the whole batches that it leaves, then opens all that it leaves,
-    /// and what crashes of these openings leave, at most `RESTARTS` openings in all.
+    /// and what crashes of these openings leave, in at most `RESTARTS` openings.
     ///
     /// # Errors
     ///
@@ -74,12 +78,12 @@ impl<'a, R: Host> Crashes<'a, R> {
         Ok(())
     }
 
-    /// Recovers the whole batches that `disk` has, and counts a difference if the records aren't those that
-    /// the disk must have.
+    /// Recovers the whole batches that `disk` holds. If this is refused, or the records aren't those that the
+    /// disk must give, a difference is counted and printed.
     ///
     /// # Errors
     ///
-    /// `Io` for the output; `Memory`. A refusal of the recovery counts as a difference.
+    /// `Io` for the output; `Memory`.
     fn recover(&mut self, way: Way, disk: &Disk) -> Result<()> {
         self.recoveries = self.recoveries.saturating_add(1);
         let (append, rewrite) = disk.untorn_files()?;
@@ -89,13 +93,14 @@ impl<'a, R: Host> Crashes<'a, R> {
         }
     }
 
-    /// Opens an engine over the files of `disk`, and compares its records with those that the disk must have.
-    /// In half of the cases, and if the opening asked anything of the files, returns the disk that a crash in
-    /// the midst of it leaves; else `None`.
+    /// Opens an engine over the files of `disk`. If this is refused, or its records aren't those that the
+    /// disk must give, a difference is counted and printed. In half of the cases, and only if the opening
+    /// asked anything of the files, returns the disk that a crash in the midst of the opening leaves; else
+    /// `None`.
     ///
     /// # Errors
     ///
-    /// `Io` for the output; `Memory`. A refusal of the opening counts as a difference.
+    /// `Io` for the output; `Memory`.
     fn open(&mut self, way: Way, disk: &mut Disk, dice: &mut Dice) -> Result<Option<Disk>> {
         self.recoveries = self.recoveries.saturating_add(1);
         let (append, rewrite) = disk.files()?;
@@ -108,13 +113,14 @@ impl<'a, R: Host> Crashes<'a, R> {
         }
     }
 
-    /// Compares the records of `engine`, which was opened over `disk`, with those that the disk must have. In
-    /// half of the cases, and if the opening asked anything of the files, returns the disk that a crash
-    /// behind one of these asks leaves; else `None`.
+    /// Compares the records of `engine`, which was opened over `disk`, with those that the disk must give. If
+    /// reading them is refused, or they differ, a difference is counted and printed. In half of the cases,
+    /// and only if the opening asked anything of the files, returns the disk that a crash after one of these
+    /// asks leaves; else `None`.
     ///
     /// # Errors
     ///
-    /// `Io` for the output; `Memory`. A refusal of a reading counts as a difference.
+    /// `Io` for the output; `Memory`.
     fn crash_again(
         &mut self,
         engine: &mut Engine<NotedFiles>,
@@ -137,8 +143,8 @@ impl<'a, R: Host> Crashes<'a, R> {
         Ok(Some(disk.disk_after(crash)?))
     }
 
-    /// Counts a difference, and prints both, if `contents`, as text, aren't `wanted`. `how` says in the print
-    /// how they were read.
+    /// Counts a difference, and prints both texts, if `contents` aren't `wanted` as text. `how` says in the
+    /// print how they were read.
     ///
     /// # Errors
     ///
@@ -148,8 +154,8 @@ impl<'a, R: Host> Crashes<'a, R> {
         self.compare(found.as_str(), wanted, how)
     }
 
-    /// Counts a difference, and prints `how`, which says what was refused, and `error`: something that had to
-    /// succeed didn't.
+    /// Counts a difference, as something that had to succeed failed with `error`. Prints `how`, which says
+    /// what was refused, and the error.
     ///
     /// # Errors
     ///
@@ -159,8 +165,8 @@ impl<'a, R: Host> Crashes<'a, R> {
         self.count_difference(text.as_str())
     }
 
-    /// Counts a difference, and prints both texts, if `found` isn't `wanted`. `how` says in the print how it
-    /// was read.
+    /// Counts a difference, and prints both texts, if `found` isn't `wanted`. `how` says in the print how
+    /// `found` was read.
     ///
     /// # Errors
     ///
@@ -173,8 +179,8 @@ impl<'a, R: Host> Crashes<'a, R> {
         self.count_difference(text.as_str())
     }
 
-    /// Counts a difference, and prints the error, if `taken`, the result of a step that had to succeed, is
-    /// one.
+    /// Counts a difference, and prints the error, if `taken` is one. It is the result of a step that had to
+    /// succeed.
     ///
     /// # Errors
     ///
@@ -186,7 +192,7 @@ impl<'a, R: Host> Crashes<'a, R> {
         }
     }
 
-    /// Prints where something was different: the `kind` and the `number` of the history, and its step.
+    /// Prints where a difference was found: the `kind` and the `number` of the history, and the step.
     ///
     /// # Errors
     ///

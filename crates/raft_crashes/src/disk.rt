@@ -6,22 +6,25 @@ use raft_base::{LogQueue, Result};
 use raft_samples::Dice;
 use std::alloc::Global;
 
-/// How many bytes the header of a batch has.
+/// The length of the header of a batch, in bytes.
 const HEADER_LEN: usize = 16;
 
 /// What a crash leaves of the files of both queues. What is left of one says nothing of the other.
 #[derive(Clone, Copy)]
 pub(crate) struct Crash {
+    /// What is left of the append queue.
     append: Rest,
+    /// What is left of the rewrite queue.
     rewrite: Rest,
 }
 
-/// The files of both queues, and which records they have.
+/// The files of both queues on a disk, and which records they give.
 #[derive(Drop)]
 pub(crate) struct Disk {
     append: QueueDisk,
     rewrite: QueueDisk,
-    /// The records by the batches that are synced, and by each further one.
+    /// The text of all records: first with the synced batches of the append queue, then with each further
+    /// batch.
     prefix_records: Vec<String>,
 }
 
@@ -39,8 +42,8 @@ impl Disk {
         })
     }
 
-    /// Returns the disk that `crash` leaves: its files, and the records that the batches give which are left
-    /// of the append queue.
+    /// Returns the disk after `crash`: with the files that it leaves, and the records that those batches give
+    /// which it leaves of the append queue.
     ///
     /// # Errors
     ///
@@ -61,7 +64,7 @@ impl Disk {
         })
     }
 
-    /// Returns what the disk has of `queue`.
+    /// Returns what the disk holds of `queue`.
     fn queue(&self, queue: LogQueue) -> &QueueDisk {
         match queue {
             LogQueue::Append => &self.append,
@@ -69,8 +72,8 @@ impl Disk {
         }
     }
 
-    /// Brings the disk up to date with one ask of an engine, which changes the files of a queue. If it puts a batch in the append
-    /// queue, `records` is the text of all records with that batch; else it isn't used.
+    /// Applies `ask`, a call of an engine on its files, to the disk. If it puts a batch in the append queue,
+    /// `records` is the text of all records with that batch; otherwise `records` isn't used.
     ///
     /// # Errors
     ///
@@ -86,8 +89,9 @@ impl Disk {
         Ok(())
     }
 
-    /// Notes, after an act on the append files, which records each number of batches gives: `records` for one
-    /// more batch that is put; after a sync or a new file, the last ones alone.
+    /// Notes which records each number of batches gives after `act`, one on the append files. If it puts a
+    /// batch, that batch gives `records`. After a sync or a new file no batch can be lost, so only the last
+    /// records stay.
     ///
     /// # Errors
     ///
@@ -114,7 +118,7 @@ impl Disk {
         }
     }
 
-    /// Draws a crash: what it leaves of one queue says nothing of the other.
+    /// Draws a crash. What it leaves of one queue says nothing of the other.
     pub(crate) fn draw(&self, dice: &mut Dice) -> Crash {
         Crash {
             append: self.append.draw(dice),
@@ -122,9 +126,9 @@ impl Disk {
         }
     }
 
-    /// Returns the crashes that leave what [`QueueDisk::possible_rests`] lists of `queue`, as each number of
-    /// bytes of its last batch. Each comes twice: once the other queue loses all bytes that it may, once
-    /// nothing.
+    /// Returns the crashes that leave what [`QueueDisk::possible_rests`] lists of `queue`, such as each
+    /// number of bytes of its last batch. Each comes twice: once the other queue loses all bytes that it may
+    /// lose, once it loses nothing.
     ///
     /// # Errors
     ///
@@ -157,7 +161,8 @@ impl Disk {
         }
     }
 
-    /// Returns the files of the append queue and those of the rewrite queue, with all bytes that were put.
+    /// Returns copies of the files of the append queue and of those of the rewrite queue, with all bytes that
+    /// were put.
     ///
     /// # Errors
     ///
@@ -167,8 +172,8 @@ impl Disk {
         Ok((append, self.rewrite.files_left(self.rewrite.whole())?))
     }
 
-    /// Returns the files of the append queue and those of the rewrite queue, the last one of each cut behind
-    /// the synced batches that are whole.
+    /// Returns copies of the files of the append queue and of those of the rewrite queue. The last one of
+    /// each is cut after the synced batches that are whole.
     ///
     /// # Errors
     ///
@@ -177,9 +182,9 @@ impl Disk {
         Ok((self.append.untorn_files()?, self.rewrite.untorn_files()?))
     }
 
-    /// Returns the files of both queues, with zeros behind the header of the first of two batches of the
-    /// append queue that aren't synced: damage that no crash of a disk leaves that writes in order. Returns
-    /// `None` if there are no two such batches.
+    /// Returns copies of the files of both queues in which the first of two or more unsynced batches of the
+    /// append queue has zeros after its header. A disk that writes in order leaves no such damage. Returns
+    /// `None` if there are fewer than two such batches.
     ///
     /// # Errors
     ///

@@ -1,5 +1,6 @@
-//! Histories in which an engine loses records, or brings some back, that breaks one of the rules of docs/OWN_ENGINE.md: the same
-//! records, by the calls of an engine that can't break it. With one worker each byte of each batch is the last one that is left.
+//! Histories that are written down. In each, an engine that breaks one of the rules of docs/OWN_ENGINE.md
+//! loses records, or brings some back. Here the calls are those of an engine that can't break it. With one
+//! worker a crash is tried at each byte of each batch.
 
 use crate::choice::Choice;
 use crate::choice::Choice::{Clean, Compact, Delete, Entries, Put, SoundBatch, Truncate};
@@ -14,21 +15,27 @@ use raft_base::{Error, FileSeq, LogQueue, Result, Version};
 /// A step of a history of region 1.
 #[derive(Clone, Copy)]
 enum Step {
-    /// Writes a batch, which isn't synced.
+    /// Writes a batch with these changes, which isn't synced.
     Write(&'static [Choice]),
-    /// Writes a batch, and syncs it.
+    /// Writes a batch with these changes, and syncs it.
     Synced(&'static [Choice]),
+    /// Syncs the append queue.
     Sync,
+    /// Begins a new append file.
     Rotate,
-    /// Moves what append files up to this one have.
+    /// Moves the records of the append files up to this one to the rewrite queue.
     Rewrite(FileSeq),
+    /// Moves the records in rewrite files to a new one.
     Again,
+    /// Deletes the append files that no table needs.
     Purge,
+    /// Deletes the rewrite files that no table needs.
     PurgeRewrites,
+    /// Opens the engine anew, without a crash.
     Restart,
 }
 
-/// The histories, a fault each.
+/// The histories, one for each fault.
 static FAULTS: [&[Step]; 14] = [
     // A run that replaces rewritten entries isn't told, and they come back once its append file is gone.
     &[
@@ -210,7 +217,7 @@ static FAULTS: [&[Step]; 14] = [
 ];
 
 /// Goes through all histories that are written down, in both versions, with one worker and with four. Returns
-/// how many it went through.
+/// how many there are.
 ///
 /// # Errors
 ///
@@ -229,8 +236,8 @@ pub(crate) fn try_written_histories<R: Host>(crashes: &mut Crashes<'_, R>) -> Re
     Ok(count)
 }
 
-/// Takes the steps of the history numbered `number`, in this way. With one worker a crash is tried at each
-/// byte of each batch.
+/// Goes through the history of `steps`, which is numbered `number`, in this `way`. With one worker a crash is
+/// tried at each byte of each batch.
 ///
 /// # Errors
 ///
@@ -246,8 +253,8 @@ fn take_history<R: Host>(
     take_steps(crashes, &mut history, steps, number, different)
 }
 
-/// Takes the steps of a history one after another, and at the end tries a lost page ([`lose_page`]). Stops,
-/// and prints at which step that was, once there are more than `different` differences.
+/// Takes the `steps` of a history one after another, and at the end tries a lost page ([`lose_page`]). Stops,
+/// and prints the `number` of the history and the step, once there are more than `different` differences.
 ///
 /// # Errors
 ///
@@ -269,11 +276,11 @@ fn take_steps<R: Host>(
     lose_page(crashes, history)
 }
 
-/// Takes one `step` of a history: calls the engine, and tries the crashes behind each ask of its files.
+/// Takes one `step` of a history: calls the engine, and tries crashes after each ask of its files.
 ///
 /// # Errors
 ///
-/// Those of the engine's call; `Io` for the output; `Memory`.
+/// Those of the engine's call; those of reading the records; `Io` for the output; `Memory`.
 fn take_step<R: Host>(
     crashes: &mut Crashes<'_, R>,
     history: &mut History,
@@ -310,8 +317,9 @@ fn write_changes<R: Host>(
     history.write(crashes, changes.as_slice(), sync)
 }
 
-/// Opens the files of which the first of two unsynced batches has zeros behind its header. That must be
-/// refused as `Corruption`, since it isn't a torn tail; if it isn't refused, it counts as a difference.
+/// Opens the files with zeros after the header of the first of two unsynced batches. That must be refused as
+/// `Corruption`, since it is no torn tail. If it isn't refused, a difference is counted and printed. Does
+/// nothing if there are no two unsynced batches.
 ///
 /// # Errors
 ///

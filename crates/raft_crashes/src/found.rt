@@ -1,4 +1,4 @@
-//! The records that files have, as they are read.
+//! The records that files give, read by an engine or by recovery.
 
 use crate::noted_files::{LogFiles, NotedFiles};
 use raft_base::{EntryIndex, Error, FileId, LogQueue, Result, Version};
@@ -14,12 +14,14 @@ use std::thread::Threads;
 /// How files are read.
 #[derive(Clone, Copy)]
 pub(crate) struct Way {
+    /// In which version.
     pub(crate) version: Version,
+    /// By how many workers.
     pub(crate) workers: usize,
 }
 
-/// Opens an engine over these files of both queues, of the version and with the workers of `way`. The
-/// engine's files note what it asks of them.
+/// Opens an engine over the files `append` and `rewrite` of both queues, with the version and the workers of
+/// `way`. The engine's files note what it asks of them.
 ///
 /// # Errors
 ///
@@ -41,7 +43,7 @@ pub(crate) fn open_found_files<R: Threads + Sync>(
     Ok(engine)
 }
 
-/// Returns the records of all regions, as `engine` reads them.
+/// Returns the records of all regions that `engine` has, read by its calls.
 ///
 /// # Errors
 ///
@@ -55,7 +57,7 @@ pub(crate) fn records_of(alloc: Global, engine: &mut Engine<NotedFiles>) -> Resu
     Ok(contents)
 }
 
-/// Returns the records of `region`, as the engine reads them.
+/// Returns the records of `region` that `engine` has, read by its calls.
 ///
 /// # Errors
 ///
@@ -76,7 +78,7 @@ fn records_of_region(
     Ok(records)
 }
 
-/// Reads all entries of `region` from the engine into `records`.
+/// Reads all entries of `region` from `engine`, and adds them to `records`.
 ///
 /// # Errors
 ///
@@ -96,8 +98,7 @@ fn read_entries(
     Ok(())
 }
 
-/// Returns the bytes of the entries of `region` at the indexes `first..end`, in order, as the engine reads
-/// them.
+/// Returns the bytes of the entries of `region` at the indexes `first..end`, in order, which `engine` reads.
 ///
 /// # Errors
 ///
@@ -115,7 +116,7 @@ fn fetch_entries(
 }
 
 /// Recovers the tables of both queues from the files `append` and `rewrite`, and returns the records of all
-/// regions, whose entries' bytes are read at the places that the tables have.
+/// regions. The bytes of entries are read at the places that the tables have, without an engine.
 ///
 /// # Errors
 ///
@@ -131,11 +132,12 @@ pub(crate) fn recover_records<R: Threads + Sync>(
     recover_records_of_files(rt, alloc, way, &files)
 }
 
-/// Recovers both queues of `files` in the given way, and returns the records of all regions, as [`recover_records`] does.
+/// Recovers the tables of both queues of `files`, as `way` says, and returns the records of all regions, as
+/// [`recover_records`] does.
 ///
 /// # Errors
 ///
-/// Those of [`recover_records`].
+/// Those of [`recover_both`] and of [`bytes_of_entry`].
 fn recover_records_of_files<R: Threads + Sync>(
     rt: &R,
     alloc: Global,
@@ -146,7 +148,7 @@ fn recover_records_of_files<R: Threads + Sync>(
     contents_of_tables(alloc, files, &tables)
 }
 
-/// Recovers the tables of both queues of `files`, by the workers of `way`.
+/// Recovers the tables of both queues of `files`, with the version and the workers of `way`.
 ///
 /// # Errors
 ///
@@ -168,7 +170,7 @@ fn tables_of<R: Threads + Sync>(
     )
 }
 
-/// Returns copies of the files of `queue`, each as a segment.
+/// Returns copies of the files of `queue`, each as a segment of the version of `way`.
 ///
 /// # Errors
 ///
@@ -177,7 +179,7 @@ fn segments_of(way: Way, files: &MemoryFiles, queue: LogQueue) -> Result<Vec<Seg
     file_segments(queue, way.version, files.copies(queue)?)
 }
 
-/// Returns the records of all `tables`, whose entries' bytes are read from `files`.
+/// Returns the records of all `tables`. The bytes of entries are read from `files`.
 ///
 /// # Errors
 ///
@@ -221,7 +223,7 @@ fn put_copy(alloc: Global, records: &mut Records, key: &[u8], value: &[u8]) -> R
     Ok(())
 }
 
-/// Returns the records of `table`, whose entries' bytes are read from `files`.
+/// Returns the records of `table`. The bytes of entries are read from `files`.
 ///
 /// # Errors
 ///
@@ -236,11 +238,11 @@ fn records_of_table(alloc: Global, files: &MemoryFiles, table: &MemTable) -> Res
     Ok(records)
 }
 
-/// Returns the bytes of `entry`, read from `files` at its place, without the engine.
+/// Returns the bytes of `entry`, read from `files` at its place, without an engine.
 ///
 /// # Errors
 ///
-/// `EntryNotFound` if there is no such place in the files; those of decoding its block; `Memory`.
+/// `EntryNotFound` if the files have no such place; those of decoding its block; `Memory`.
 fn bytes_of_entry(alloc: Global, files: &MemoryFiles, entry: &EntryIndex) -> Result<Vec<u8>> {
     let place = entry.entries.ok_or(Error::EntryNotFound)?;
     let file = file_bytes(files, place.id).ok_or(Error::EntryNotFound)?;

@@ -1,4 +1,4 @@
-//! Histories of an engine.
+//! Histories of an engine: steps that are taken one after another, with crashes tried after each ask.
 
 ghost use Rattle.std.specs.Prelude.{◌≡◌, OnOk};
 ghost use Rattle.raft_records.specs.LogBatch.{is_open};
@@ -16,24 +16,29 @@ use raft_samples::{Contents, Dice, records_for, text_of};
 use std::alloc::Global;
 use std::collections::BTreeMap;
 
-/// An engine, and beside it the records that it has to have, and what the disk holds.
+/// An engine, beside it the records that it must have, and what the disk holds of its files.
 #[derive(Drop)]
 pub(crate) struct History {
     alloc: Global,
+    /// How the files are read.
     pub(crate) way: Way,
-    /// Whether each byte of a batch may be the last one that is left.
+    /// Whether a crash is tried at each byte of each batch.
     by_bytes: bool,
+    /// The engine. Its files note what it asks of them.
     engine: Engine<NotedFiles>,
-    /// How many of the asks the disk has taken in.
+    /// How many of the engine's asks were applied to the disk.
     taken: usize,
+    /// The records that the engine must have.
     kept: Contents,
+    /// What the disk holds.
     pub(crate) disk: Disk,
+    /// What draws the changes and the crashes.
     pub(crate) dice: Dice,
 }
 
 impl History {
-    /// Begins a history with an engine without records. `seed` is that of its dice. With `by_bytes` a crash
-    /// is tried at each byte of each batch.
+    /// Begins a history in this `way`, with an engine without records, and tries crashes after each ask of
+    /// its making. `seed` is that of its dice. With `by_bytes` a crash is tried at each byte of each batch.
     ///
     /// # Errors
     ///
@@ -49,8 +54,8 @@ impl History {
         Ok(history)
     }
 
-    /// Returns a history in this `way`, with dice of `seed` and an engine without records, of which no ask
-    /// was taken in yet.
+    /// Returns a history in this `way`, with dice of `seed` and an engine without records. None of the
+    /// engine's asks was applied to the disk yet.
     ///
     /// # Errors
     ///
@@ -69,8 +74,9 @@ impl History {
         })
     }
 
-    /// Ends a step: compares the records that the engine has with those that it must have, lets the disk take
-    /// in what was asked of the files, and tries crashes behind each ask.
+    /// Ends a step: compares the records that the engine has with those that it must have, applies what it
+    /// asked of its files to the disk, and tries crashes after each ask. A difference is counted and printed,
+    /// and is no error.
     ///
     /// # Errors
     ///
@@ -81,7 +87,8 @@ impl History {
         self.apply_asks(crashes, wanted.as_str())
     }
 
-    /// Compares the records that the engine has with the text `wanted`.
+    /// Compares the records that the engine has, as text, with `wanted`. A difference is counted and printed,
+    /// and is no error.
     ///
     /// # Errors
     ///
@@ -92,8 +99,8 @@ impl History {
         crashes.compare(found.as_str(), wanted, "kept")
     }
 
-    /// Lets the disk take in what was asked of the files since the last time, and tries crashes behind each
-    /// ask. `wanted` is the text of the records with all batches that were written.
+    /// Applies what was asked of the files since the last call to the disk, oldest first, and tries crashes
+    /// after each ask. `wanted` is the text of the records with all batches that were written.
     ///
     /// # Errors
     ///
@@ -109,11 +116,12 @@ impl History {
         Ok(())
     }
 
-    /// Writes a batch with `choices`, changes that each have the region beside them, and syncs it if `sync`.
+    /// Writes a batch with `choices`, each the change of a region, and syncs it if `sync`. Then ends the
+    /// step.
     ///
     /// # Errors
     ///
-    /// Those of [`Engine::write`] and of what each step ends with; `Memory`.
+    /// Those of [`Engine::write`]; those of reading the records; `Io` for the output; `Memory`.
     pub(crate) fn write<R: Host>(
         &mut self,
         crashes: &mut Crashes<'_, R>,
@@ -128,12 +136,12 @@ impl History {
         self.end_step(crashes)
     }
 
-    /// Adds a change of `region` to the open batch `batch`, and makes the same change of the records that the
-    /// engine must have.
+    /// Adds a change of `region`, drawn as `choice` says, to the open batch `batch`, and makes the same
+    /// change of the records that the engine must have.
     ///
     /// # Errors
     ///
-    /// `Memory`, and what the batch returns.
+    /// `Memory`; those of the batch's call. The change may have been made in one of the two then.
     fn add(&mut self, batch: &mut LogBatch, region: u64, choice: Choice) -> Result<()>
         requires { batch.old.stage ≡ is_open }
         ensures { OnOk result (batch.new.stage ≡ is_open) }
@@ -143,31 +151,31 @@ impl History {
         change.make(batch, region, records)
     }
 
-    /// Syncs the engine's append queue.
+    /// Syncs the engine's append queue, and ends the step.
     ///
     /// # Errors
     ///
-    /// Those of [`Engine::sync`] and of what each step ends with.
+    /// Those of [`Engine::sync`]; those of reading the records; `Io` for the output; `Memory`.
     pub(crate) fn sync<R: Host>(&mut self, crashes: &mut Crashes<'_, R>) -> Result<()> {
         self.engine.sync()?;
         self.end_step(crashes)
     }
 
-    /// Begins a new append file.
+    /// Begins a new append file, and ends the step.
     ///
     /// # Errors
     ///
-    /// Those of [`Engine::rotate`] and of what each step ends with.
+    /// Those of [`Engine::rotate`]; those of reading the records; `Io` for the output; `Memory`.
     pub(crate) fn rotate<R: Host>(&mut self, crashes: &mut Crashes<'_, R>) -> Result<()> {
         self.engine.rotate()?;
         self.end_step(crashes)
     }
 
-    /// Moves the records in append files numbered at or below `gate` to the rewrite queue.
+    /// Moves the records in append files numbered at or below `gate` to the rewrite queue, and ends the step.
     ///
     /// # Errors
     ///
-    /// Those of [`Engine::rewrite`] and of what each step ends with.
+    /// Those of [`Engine::rewrite`]; those of reading the records; `Io` for the output; `Memory`.
     pub(crate) fn rewrite<R: Host>(
         &mut self,
         crashes: &mut Crashes<'_, R>,
@@ -177,11 +185,11 @@ impl History {
         self.end_step(crashes)
     }
 
-    /// Moves the records in rewrite files to a new one.
+    /// Moves the records in rewrite files to a new rewrite file, and ends the step.
     ///
     /// # Errors
     ///
-    /// Those of [`Engine::rewrite_again`] and of what each step ends with.
+    /// Those of [`Engine::rewrite_again`]; those of reading the records; `Io` for the output; `Memory`.
     pub(crate) fn move_rewritten_records<R: Host>(
         &mut self,
         crashes: &mut Crashes<'_, R>,
@@ -190,11 +198,11 @@ impl History {
         self.end_step(crashes)
     }
 
-    /// Deletes the files of `queue` that no table needs.
+    /// Deletes the oldest files of `queue` that no table needs, and ends the step.
     ///
     /// # Errors
     ///
-    /// Those of the engine's purge and of what each step ends with.
+    /// Those of the engine's purge; those of reading the records; `Io` for the output; `Memory`.
     pub(crate) fn purge<R: Host>(
         &mut self,
         crashes: &mut Crashes<'_, R>,
@@ -211,7 +219,7 @@ impl History {
     ///
     /// # Errors
     ///
-    /// Those of opening the files and of what each step ends with.
+    /// Those of opening the files; those of reading the records; `Io` for the output; `Memory`.
     pub(crate) fn restart<R: Host>(&mut self, crashes: &mut Crashes<'_, R>) -> Result<()> {
         let crash = self.disk.lossless_crash();
         self.reopen(crashes, crash)
@@ -221,18 +229,18 @@ impl History {
     ///
     /// # Errors
     ///
-    /// Those of opening the files and of what each step ends with.
+    /// Those of opening the files; those of reading the records; `Io` for the output; `Memory`.
     pub(crate) fn crash<R: Host>(&mut self, crashes: &mut Crashes<'_, R>) -> Result<()> {
         let crash = self.disk.draw(&mut self.dice);
         self.reopen(crashes, crash)
     }
 
     /// Opens the engine anew over what `crash` leaves, and compares its records with those that must be left.
-    /// The history goes on with them.
+    /// The history goes on with these records. A difference is counted and printed, and is no error.
     ///
     /// # Errors
     ///
-    /// Those of opening the files and of what each step ends with.
+    /// Those of opening the files; those of reading the records; `Io` for the output; `Memory`.
     fn reopen<R: Host>(&mut self, crashes: &mut Crashes<'_, R>, crash: Crash) -> Result<()> {
         self.disk = self.disk.disk_after(crash)?;
         self.open_disk(crashes.rt)?;
@@ -242,18 +250,19 @@ impl History {
         self.end_step(crashes)
     }
 
-    /// Opens an engine over the files that the disk has, in place of the old one.
+    /// Opens an engine over the files that the disk holds, in place of the old one.
     ///
     /// # Errors
     ///
-    /// Those of [`open_found_files`]. The old engine stays then.
+    /// Those of [`open_found_files`]; `Memory`. The old engine stays then.
     fn open_disk<R: Host>(&mut self, rt: &R) -> Result<()> {
         let (append, rewrite) = self.disk.files()?;
         self.engine = open_found_files(rt, self.alloc, self.way, append, rewrite)?;
         Ok(())
     }
 
-    /// Compares the records that the engine had when it was opened with those that the disk must have.
+    /// Compares the records that the engine had when it was opened with those that the disk must give. A
+    /// difference is counted and printed, and is no error.
     ///
     /// # Errors
     ///
@@ -263,7 +272,7 @@ impl History {
         crashes.compare(found.as_str(), self.disk.records(), "opened again")
     }
 
-    /// Returns the number of the append file that is written to, or 0 if there is none.
+    /// Returns the number of the last append file, to which batches are written, or 0 if there is none.
     pub(crate) fn last_append_seq(&self) -> FileSeq {
         match self.engine.files().files.files(LogQueue::Append).last() {
             Some((seq, _)) => *seq,
@@ -272,8 +281,7 @@ impl History {
     }
 }
 
-/// Returns an engine without records, of this `version`, over files in memory that note what is asked of
-/// them.
+/// Returns an engine without records, of this `version`, over files in memory that note what it asks of them.
 ///
 /// # Errors
 ///

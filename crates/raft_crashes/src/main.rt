@@ -1,10 +1,11 @@
 //! Crashes an engine in histories of all that the engine does, and opens what is left.
 //!
-//! `raft_crashes SEED COUNT` goes through some histories that are written down, each of which lost records or brought some back in an
-//! engine that broke a rule, and then through COUNT random ones from a seed on. After each ask of an engine's files it crashes:
-//! what was synced is left, and of the rest a prefix of each queue. What is left is recovered and opened, and the openings
-//! crash in turn. The records have to be those of the batches that are left, by plain maps that know nothing of the engine.
-//! Its status is 1 where something else was read.
+//! `raft_crashes SEED COUNT` goes through some histories that are written down, each of which lost records or
+//! brought some back in an engine that broke a rule, and then through COUNT random ones, with the seeds from
+//! SEED on. After each *ask*, a call of the engine on its files, it tries crashes: what was synced is left,
+//! and of the rest a prefix of each queue. What is left is recovered and opened, and the openings crash in
+//! turn. The records have to be those of the batches that are left, by plain maps that know nothing of the
+//! engine. The status is 1 if something else was read.
 #![tactic(auto)]
 
 mod choice;
@@ -22,16 +23,17 @@ use raft_base::Result;
 use raft_recover::command_words;
 use std::process::ExitCode;
 
-/// What `--help` prints, and other words that ask for nothing.
+/// What is printed for `--help`, and for other words that ask for nothing.
 const USAGE: &str =
     "usage: raft_crashes SEED COUNT   (crashes an engine anywhere in COUNT random histories from a seed on)";
 
-/// Does what the words of the command line ask for. The status is 0 if all records were those that there must
-/// be, 1 if some weren't, and 2, with a hint at the words, if they ask for nothing.
+/// Does what the words of the command line ask for. Returns the status with which the process ends: 0 if all
+/// records were those that there must be, 1 if some weren't, and 2, with a hint at the words, if they ask for
+/// nothing.
 ///
 /// # Errors
 ///
-/// Those of [`try_all_histories`], and `Io` for the words or the output.
+/// Those of [`try_all_histories`]; `Io` for the words or the output.
 fn main(rt: HostRuntime) -> Result<ExitCode> {
     let words = command_words(&rt)?;
     if words.first().is_some_and(|word: &String| word.as_str() == "--help"
@@ -62,8 +64,9 @@ fn parse_seed_and_count(words: &[String]) -> Option<(u64, u64)> {
     ))
 }
 
-/// Goes through the histories that are written down, and through `count` random ones from `seed` on, and
-/// prints how much was tried and how many differences there were. Returns `true` if there were none.
+/// Goes through the histories that are written down, and through `count` random ones with the seeds from
+/// `seed` on, and prints how much was tried and how many differences there were. Returns whether there were
+/// none.
 ///
 /// # Errors
 ///

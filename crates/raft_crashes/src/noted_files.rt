@@ -1,4 +1,4 @@
-//! Files in memory that note what is asked of them.
+//! Files in memory that note what an engine asks of them: each call other than a read is an *ask*.
 
 ghost use Rattle.std.specs.Prelude.{◌≡◌};
 
@@ -6,16 +6,17 @@ use raft_base::{FileBlockHandle, FileSeq, LogQueue, Result};
 use raft_files::{EngineFiles, MemoryFiles};
 use std::alloc::Global;
 
-/// The files of a queue by their numbers, oldest first.
+/// The numbers and bytes of the files of a queue, oldest first.
 pub(crate) type LogFiles = Vec<(FileSeq, Vec<u8>)>;
 
-/// What is asked of the files of a queue, but for reads.
+/// What is asked of the files of a queue, other than a read.
 #[derive(Drop)]
 pub(crate) enum Act {
-    /// These bytes are put behind the last file.
+    /// These bytes are put at the end of the last file.
     Put(Vec<u8>),
-    /// A file with this number is begun behind the last one.
+    /// A file with this number is begun, as the last one.
     Begin(FileSeq),
+    /// All that was asked so far is synced.
     Sync,
     /// The oldest file is deleted.
     Delete,
@@ -23,16 +24,19 @@ pub(crate) enum Act {
     Cut(u64),
 }
 
-/// An act on the files of a queue.
+/// A call of an engine on its files.
 #[derive(Drop)]
 pub(crate) struct Ask {
+    /// The queue of the files.
     pub(crate) queue: LogQueue,
+    /// What is asked of them.
     pub(crate) act: Act,
 }
 
 /// Files in memory, and what was asked of them.
 #[derive(Drop)]
 pub(crate) struct NotedFiles {
+    /// The files.
     pub(crate) files: MemoryFiles,
     /// What was asked, oldest first.
     pub(crate) asks: Vec<Ask>,
@@ -54,32 +58,34 @@ impl NotedFiles {
 impl EngineFiles for NotedFiles {
     ghost asked = { λ f. f.files };
 
-    /// Notes that `bytes` are put behind the last file of `queue`, and puts them there.
+    /// Notes that `bytes` are put, and puts them at the end of the last file of `queue`.
     ///
     /// # Errors
     ///
-    /// `Memory`, and those of the files in memory.
+    /// `Memory`; those of the files in memory, which are unchanged then. The ask may be noted.
     fn append(&mut self, queue: LogQueue, bytes: &[u8]) -> Result<()> {
         let alloc: Global = *self.asks.allocator();
         self.note(queue, Act::Put(Vec::from_slice(alloc, bytes)?))?;
         self.files.append(queue, bytes)
     }
 
-    /// Notes that the file numbered `seq` is begun behind the last one of `queue`, and begins it.
+    /// Notes that a file is begun, and begins it as the last one of `queue`, numbered `seq`. The bytes of the
+    /// older files count as synced then.
     ///
     /// # Errors
     ///
-    /// `Memory`, and those of the files in memory.
+    /// `Memory`; those of the files in memory, which are unchanged then. The ask may be noted.
     fn rotate(&mut self, queue: LogQueue, seq: FileSeq) -> Result<()> {
         self.note(queue, Act::Begin(seq))?;
         self.files.rotate(queue, seq)
     }
 
-    /// Notes a sync of `queue`, and makes it.
+    /// Notes a sync of `queue`, and makes it: everything that was asked of the queue so far survives a crash
+    /// then.
     ///
     /// # Errors
     ///
-    /// `Memory`, and those of the files in memory.
+    /// `Memory`; those of the files in memory. The ask may be noted then.
     fn sync(&mut self, queue: LogQueue) -> Result<()> {
         self.note(queue, Act::Sync)?;
         self.files.sync(queue)
@@ -89,27 +95,27 @@ impl EngineFiles for NotedFiles {
     ///
     /// # Errors
     ///
-    /// `Memory`, and those of the files in memory.
+    /// `Memory`; those of the files in memory, which are unchanged then. The ask may be noted.
     fn delete_oldest(&mut self, queue: LogQueue) -> Result<()> {
         self.note(queue, Act::Delete)?;
         self.files.delete_oldest(queue)
     }
 
-    /// Notes that the last file of `queue` is cut to `len` bytes, and cuts it.
+    /// Notes that the last file of `queue` is cut, and cuts it to `len` bytes, if it has more.
     ///
     /// # Errors
     ///
-    /// `Memory`, and those of the files in memory.
+    /// `Memory`; those of the files in memory, which are unchanged then. The ask may be noted.
     fn truncate(&mut self, queue: LogQueue, len: u64) -> Result<()> {
         self.note(queue, Act::Cut(len))?;
         self.files.truncate(queue, len)
     }
 
-    /// Returns the bytes at `place`. Reads aren't noted.
+    /// Returns the bytes at `place`. A read isn't noted.
     ///
     /// # Errors
     ///
-    /// Those of the files in memory.
+    /// Those of the files in memory. Nothing changes then.
     fn read(&mut self, place: FileBlockHandle) -> Result<Vec<u8>> {
         self.files.read(place)
     }

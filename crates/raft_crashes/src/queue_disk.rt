@@ -1,45 +1,48 @@
-//! What a disk holds of the files of a queue, and what a crash may leave of them.
+//! What a disk holds of the files of one queue, and what a crash may leave of them.
 
 use crate::noted_files::{Act, LogFiles};
 use raft_base::Result;
 use raft_samples::Dice;
 use std::alloc::Global;
 
-/// The files of a queue. A crash leaves what was synced, and of what was asked since then a prefix: of the bytes that were put,
-/// of the deletions, and a new file or not.
+/// The files of a queue on a disk. A crash leaves what was synced. Of what was asked since the last sync it
+/// leaves a prefix: of the bytes that were put, of the deletions, and a new file or not.
 #[derive(Drop)]
 pub(crate) struct QueueDisk {
-    /// With all bytes that were put, and with the oldest files, whose deletion wasn't synced.
+    /// All files, with all bytes that were put, and with the oldest files whose deletion wasn't synced.
     files: LogFiles,
     /// How many deletions weren't synced.
     deleted: usize,
     /// How many bytes of the last file were synced.
     pub(crate) synced: usize,
-    /// How many of them are those of whole batches: fewer where a crash left a torn one.
+    /// How many of those bytes belong to whole batches: fewer than all where a crash left a torn one.
     whole: usize,
-    /// Where each batch ends that was put in the last file since.
+    /// Where each batch ends in the last file that was put there since the last sync.
     pub(crate) ends: Vec<usize>,
-    /// Whether the last file was begun since.
+    /// Whether the last file was begun since the last sync.
     is_new: bool,
-    /// The last file's bytes before a cut that wasn't synced.
+    /// What the last file had before a cut that wasn't synced.
     uncut: Option<Vec<u8>>,
 }
 
 /// What a crash leaves of a queue's last file.
 #[derive(Clone, Copy)]
 pub(crate) enum Tail {
-    /// This many bytes, from the first one on.
+    /// So many bytes, from the first one on.
     Prefix(usize),
-    /// Nothing: the file isn't there.
+    /// Nothing: the file, which is new, isn't there.
     Unbegun,
-    /// The bytes before a cut.
+    /// The bytes that it had before a cut.
     Uncut,
 }
 
-/// What a crash leaves of a queue: all files but the `gone` oldest ones, and of the last one what `tail` says.
+/// What a crash leaves of a queue: all files but the `gone` oldest ones, and of the last file what `tail`
+/// says.
 #[derive(Clone, Copy)]
 pub(crate) struct Rest {
+    /// How many of the oldest files are gone.
     gone: usize,
+    /// What is left of the last file.
     tail: Tail,
 }
 
@@ -57,7 +60,7 @@ impl QueueDisk {
         }
     }
 
-    /// Returns the disk after a crash of which `left` is left. All that is left counts as synced.
+    /// Returns the disk after a crash that leaves `left`. All that is left counts as synced.
     ///
     /// # Errors
     ///
@@ -70,22 +73,22 @@ impl QueueDisk {
         Ok(disk)
     }
 
-    /// Returns the allocator that the files are allocated by.
+    /// Returns the allocator of the files.
     pub(crate) fn alloc(&self) -> Global {
         *self.files.allocator()
     }
 
-    /// Returns the number of bytes of the last file, or 0 without files.
+    /// Returns how many bytes the last file has, or 0 if there are no files.
     fn len(&self) -> usize {
         self.files.last().map_or(0, |file| file.1.len())
     }
 
-    /// Takes in `act`, one on the files. After a sync all bytes, and all deletions before it, survive a
-    /// crash; after a new file was begun, the bytes of the older ones do.
+    /// Applies `act` to the files. After a sync all bytes, and all deletions before it, survive a crash;
+    /// after a new file was begun, the bytes of the older files do.
     ///
     /// # Errors
     ///
-    /// `Memory` alone.
+    /// `Memory` alone. The files may have been changed then.
     pub(crate) fn apply_act(&mut self, act: &Act) -> Result<()> {
         match act {
             Act::Put(bytes) => self.put_batch(bytes)?,
@@ -106,7 +109,7 @@ impl QueueDisk {
         Ok(())
     }
 
-    /// Appends `bytes`, those of a batch, to the last file. Without files it does nothing.
+    /// Appends `bytes`, those of a batch, to the last file. Does nothing if there are no files.
     ///
     /// # Errors
     ///
@@ -128,7 +131,7 @@ impl QueueDisk {
         self.uncut = None;
     }
 
-    /// Drops the files whose deletion survives a crash from now on.
+    /// Drops the files that were deleted: their deletion survives a crash from now on.
     fn drop_deleted(&mut self) {
         for _ in 0..self.deleted {
             if !self.files.is_empty() {
@@ -139,7 +142,7 @@ impl QueueDisk {
     }
 
     /// Cuts the last file to `len` bytes, and keeps what it had before: until the next sync or new file a
-    /// crash may bring that back.
+    /// crash may bring that back. Does nothing if there are no files.
     ///
     /// # Errors
     ///
@@ -155,13 +158,12 @@ impl QueueDisk {
         Ok(())
     }
 
-    /// Returns what is left after a crash that loses nothing.
+    /// Returns what a crash leaves that loses nothing.
     pub(crate) fn whole(&self) -> Rest {
         self.prefix(self.len())
     }
 
-    /// Returns what is left after a crash that loses no deletion, and leaves the first `len` bytes of the
-    /// last file.
+    /// Returns what a crash leaves that loses no deletion, and leaves the first `len` bytes of the last file.
     pub(crate) fn prefix(&self, len: usize) -> Rest {
         Rest {
             gone: self.deleted,
@@ -169,8 +171,8 @@ impl QueueDisk {
         }
     }
 
-    /// Draws what a crash leaves: how many of the deletions that weren't synced it doesn't lose, and what of
-    /// the last file.
+    /// Draws what a crash leaves: how many of the unsynced deletions it doesn't lose, and what of the last
+    /// file.
     pub(crate) fn draw(&self, dice: &mut Dice) -> Rest {
         let gone = dice.below((self.deleted as u64).saturating_add(1)) as usize;
         Rest {
@@ -179,9 +181,9 @@ impl QueueDisk {
         }
     }
 
-    /// Draws what a crash leaves of the last file: mostly a prefix that ends between batches, inside one, at
-    /// the synced bytes or at the end; sometimes, if the file is new, nothing, or, if it was cut, the bytes
-    /// before the cut.
+    /// Draws what a crash leaves of the last file. Mostly that is a prefix that ends between batches, inside
+    /// one, at the synced bytes or at the end. Sometimes it is nothing, if the file is new, or the bytes
+    /// before a cut, if it was cut.
     fn draw_tail(&self, dice: &mut Dice) -> Tail {
         let unsynced = self.len().saturating_sub(self.synced) as u64;
         let drawn = dice.below(unsynced.saturating_add(1)) as usize;
@@ -196,9 +198,9 @@ impl QueueDisk {
         }
     }
 
-    /// Returns what a crash may leave. First come those that lose some of the deletions and nothing else;
-    /// then, with no deletion lost, no last file if it is new, the bytes before a cut if there was one, and
-    /// each prefix of the last file from the start of its last batch on.
+    /// Returns what a crash may leave. First come those rests that lose some of the deletions and nothing
+    /// else. Then, with no deletion lost, come no last file if it is new, the bytes before a cut if there was
+    /// one, and each prefix of the last file that has all but its last batch at least.
     ///
     /// # Errors
     ///
@@ -242,7 +244,7 @@ impl QueueDisk {
         whole
     }
 
-    /// Returns how many of the batches that weren't synced are whole in `left`.
+    /// Returns how many of the unsynced batches are whole in `left`.
     pub(crate) fn count_whole_batches(&self, left: Rest) -> usize {
         let Tail::Prefix(len) = left.tail else {
             return 0;
@@ -250,7 +252,7 @@ impl QueueDisk {
         self.ends.iter().filter(|end| **end <= len).count()
     }
 
-    /// Returns the files that are in `left`, with the bytes that are left of the last one.
+    /// Returns copies of the files that are in `left`, with the bytes that are left of the last one.
     ///
     /// # Errors
     ///
@@ -279,8 +281,8 @@ impl QueueDisk {
         Ok(files)
     }
 
-    /// Returns how many bytes of the last file in `left` belong to whole batches, at most. If `left` doesn't
-    /// have the last file, it returns 2^64 - 1, as no limit.
+    /// Returns how many bytes of the last file in `left` belong to whole batches. If `left` doesn't have the
+    /// last file, it returns 2^64 - 1, which stands for no limit.
     fn whole_batches_len(&self, left: Rest) -> usize {
         match left.tail {
             Tail::Prefix(len) => self.whole_prefix_len(len),
@@ -289,7 +291,7 @@ impl QueueDisk {
         }
     }
 
-    /// Returns the files, the last one cut behind the synced batches that are whole.
+    /// Returns copies of the files, the last one cut after the synced batches that are whole.
     ///
     /// # Errors
     ///

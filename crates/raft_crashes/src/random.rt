@@ -10,25 +10,26 @@ use raft_samples::Dice;
 /// How many steps a history has.
 const STEPS: u64 = 24;
 
-/// One history in this many is read by four workers.
+/// One history in so many is read by four workers.
 const BY_WORKERS: u64 = 8;
 
-/// One history in this many has entries of [`SHARE`] bytes.
+/// One history in so many has entries of [`SHARE`] bytes.
 const WITH_SHARES: u64 = 1000;
 
-/// As many bytes as the share of a worker of a recovery has at least.
+/// How many bytes a share, which one worker of a recovery reads, has at least.
 const SHARE: usize = 1 << 20;
 
-/// One history in this many has entries of [`PART`] bytes.
+/// One history in so many has entries of [`PART`] bytes.
 const WITH_GROUPS: u64 = 50;
 
-/// Half of the bytes that a batch may have which moves rewritten entries: three such entries move in an atomic group.
+/// Half of the bytes that a batch may have which moves rewritten entries. So three such entries move in an
+/// atomic group.
 const PART: usize = 64 << 10;
 
-/// In one history in this many a crash is tried at each byte of each batch.
+/// In one history in so many a crash is tried at each byte of each batch.
 const BY_BYTES: u64 = 250;
 
-/// Goes through the random history of `seed`, until something is different.
+/// Goes through the random history of `seed`, up to its end or the first difference.
 ///
 /// # Errors
 ///
@@ -43,8 +44,8 @@ pub(crate) fn try_random_history<R: Host>(crashes: &mut Crashes<'_, R>, seed: u6
     take_steps(crashes, &mut history, long, seed, different)
 }
 
-/// Takes random steps of a history, of which some have entries of `long` bytes, if there is such a number.
-/// Stops, and prints at which step that was, once there are more than `different` differences.
+/// Takes random steps of a history. If `long` is a number, some of them write entries of so many bytes.
+/// Stops, and prints the seed and the step, once there are more than `different` differences.
 ///
 /// # Errors
 ///
@@ -80,8 +81,8 @@ fn draw_long_len(dice: &mut Dice) -> Option<usize> {
     None
 }
 
-/// Draws the version of a history's files, and by how many workers they are read: always by four if its
-/// `long` entries fill the share of a worker.
+/// Draws the version of a history's files, and by how many workers they are read. It is always four workers
+/// if the `long` entries fill the share of one.
 fn draw_way(dice: &mut Dice, long: Option<usize>) -> Way {
     let version = if dice.hits(2) {
         Version::V1
@@ -96,8 +97,8 @@ fn draw_way(dice: &mut Dice, long: Option<usize>) -> Way {
     Way { version, workers }
 }
 
-/// Takes a step of a history with entries of `len` bytes: half of these steps write one, and one in four
-/// moves all records again.
+/// Takes a step of a history with entries of `len` bytes: in half of the cases one that writes such an entry,
+/// in a quarter one that moves all records and purges, else any step.
 ///
 /// # Errors
 ///
@@ -114,8 +115,8 @@ fn take_long_step<R: Host>(
     }
 }
 
-/// Writes an entry of `len` bytes to region 3, and beside it a value or any change of that region, or any
-/// change of region 1.
+/// Writes an entry of `len` bytes to region 3, and in the same batch a value or any change of that region, or
+/// any change of region 1.
 ///
 /// # Errors
 ///
@@ -133,8 +134,8 @@ fn write_long<R: Host>(
     history.write(crashes, &[(3, Choice::Long(len)), other], false)
 }
 
-/// Takes a random step of a history: a write, a sync, a new file, a moving of records, a purge, a restart or
-/// a crash.
+/// Takes a random step of a history: a write, a sync, a new file, a move of records, a purge, a restart or a
+/// crash.
 ///
 /// # Errors
 ///
@@ -155,7 +156,7 @@ fn take_step<R: Host>(crashes: &mut Crashes<'_, R>, history: &mut History) -> Re
     }
 }
 
-/// Writes a batch of one to three changes of regions 1 and 2, which is synced once in four times.
+/// Writes a batch of one to three changes of regions 1 and 2. In one of four cases it is synced.
 ///
 /// # Errors
 ///
@@ -172,8 +173,8 @@ fn write_batch<R: Host>(crashes: &mut Crashes<'_, R>, history: &mut History) -> 
     }
 }
 
-/// Moves the records of some append files; in half of these steps a new file is begun first, and those of all
-/// others are moved.
+/// Moves the records of some append files: in half of the cases those of all, after a new file is begun; else
+/// those up to one of the last three files.
 ///
 /// # Errors
 ///
@@ -188,7 +189,7 @@ fn move_records<R: Host>(crashes: &mut Crashes<'_, R>, history: &mut History) ->
     history.rewrite(crashes, gate)
 }
 
-/// Begins a new append file, and moves the records of all older ones.
+/// Begins a new append file, and moves the records of all older ones to the rewrite queue.
 ///
 /// # Errors
 ///
@@ -221,7 +222,7 @@ fn replace_entries<R: Host>(crashes: &mut Crashes<'_, R>, history: &mut History)
     history.purge(crashes, LogQueue::Append)
 }
 
-/// Moves all records to a new rewrite file, and deletes the older files of both queues that no table needs.
+/// Moves all records to a new rewrite file, and deletes the oldest files of both queues that no table needs.
 ///
 /// # Errors
 ///

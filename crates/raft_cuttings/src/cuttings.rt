@@ -1,4 +1,5 @@
-//! The cuttings of files, and what is read at each.
+//! Cuts the batches of files into segments in every possible way, and compares what is read of each cutting.
+//! A cutting has a number: if its bit `n` is set, a segment ends after batch `n`.
 
 use raft_memtable::{LogQueue, MemTableAccessor, MemTableRecoverContext};
 use raft_records::{Error, FilePart, Result};
@@ -12,36 +13,41 @@ use std::mem;
 use std::rt::Files;
 use std::thread::Threads;
 
-/// More parts aren't cut: there would be more than 2^15 cuttings.
+/// The most batches that are cut. More would have more than 2^15 cuttings.
 const MOST_PARTS: usize = 16;
 
-/// What a reading gives.
+/// What reading the batches gives.
 #[derive(Debug, Drop)]
 pub(crate) enum Answer {
-    /// The lines of its tables.
+    /// The lines that `raftlog recover` prints for the tables.
     Lines(Vec<u8>),
-    /// It is refused.
+    /// A refusal, whatever its reason.
     Refused,
 }
 
 /// What all cuttings give.
 #[derive(Drop)]
 pub(crate) enum Found {
-    /// The same.
+    /// All give this.
     Same(Answer),
-    /// This one, read and merged in this way, gives something else than the batches uncut.
+    /// This cutting, read and merged in this way, gives something else than the batches uncut.
     Different { cutting: u64, way: Way },
 }
 
 /// How segments are read and merged.
 #[derive(Clone, Copy)]
 pub(crate) enum Way {
+    /// Each is read by itself. They are merged from the first one on.
     Left,
+    /// Each is read by itself. They are merged from the last one on.
     Right,
+    /// Each is read by itself. They are merged by halves.
     Halves,
+    /// This many workers read them.
     Workers(usize),
 }
 
+/// The ways that are tried at each cutting.
 static WAYS: [Way; 7] = [
     Way::Left,
     Way::Right,
@@ -52,8 +58,8 @@ static WAYS: [Way; 7] = [
     Way::Workers(4),
 ];
 
-/// Returns what all cuttings of the files give that the words of `raftlog recover` name, or `None` for other
-/// words.
+/// Returns what all cuttings of the files give that `words` name, which are those of `raftlog recover`.
+/// Returns `None` for other words.
 ///
 /// # Errors
 ///
@@ -69,7 +75,7 @@ pub(crate) fn try_cuttings_of_words<R: Threads + Files + AllocGlobal + Sync>(
 }
 
 /// Reads the files that `asked` names at every cutting, in every way, up to the first one that gives
-/// something else than the batches uncut.
+/// something else than the batches uncut. Returns what they give.
 ///
 /// # Errors
 ///
@@ -94,11 +100,12 @@ fn try_cuttings_of_files<R: Threads + Files + AllocGlobal + Sync>(
     Ok(Found::Same(whole))
 }
 
-/// Returns a way that gives something else than `whole` at this cutting, or `None` if there is none.
+/// Returns a way in which the cutting numbered `cutting` gives something else than `whole`, or `None` if
+/// there is none. `batches` are those of `queue`.
 ///
 /// # Errors
 ///
-/// `Memory`, and `Io` if the lines can't grow.
+/// `Memory`; `Io` if the lines can't grow.
 fn find_other_way<R: Threads + AllocGlobal + Sync>(
     rt: &R,
     batches: &[FilePart],
@@ -123,11 +130,11 @@ fn is_same(left: &Answer, right: &Answer) -> bool {
     }
 }
 
-/// Returns what `batches` of `queue` give at this `cutting`, read and merged in this `way`.
+/// Returns what `batches` of `queue` give, cut by `cutting`, and read and merged in this `way`.
 ///
 /// # Errors
 ///
-/// `Memory`, and `Io` if the lines can't grow. Any other refusal is an answer.
+/// `Memory`; `Io` if the lines can't grow. Any other refusal is an answer.
 fn read_cutting<R: Threads + AllocGlobal + Sync>(
     rt: &R,
     batches: &[FilePart],
@@ -149,7 +156,7 @@ fn read_cutting<R: Threads + AllocGlobal + Sync>(
     }
 }
 
-/// Returns the tables of `segments`, which are read one by one and merged by the plan of this `way`.
+/// Reads `segments` one by one, and merges what was read by the plan of this `way`. Returns the tables.
 ///
 /// # Errors
 ///
@@ -189,7 +196,8 @@ fn read_segment(alloc: Global, segment: &Segment) -> Result<MemTableRecoverConte
     Ok(context)
 }
 
-/// Returns the plan that merges `count` pieces from the left, from the right, or by halves, as `way` says.
+/// Returns the plan that merges `count` pieces from the left, from the right, or else by halves, as `way`
+/// says.
 ///
 /// # Errors
 ///
@@ -213,8 +221,8 @@ fn plan_of(alloc: Global, count: usize, way: Way) -> Result<Plan> {
     }
 }
 
-/// Returns the batches as segments: one ends behind batch `n` if bit `n` of `cutting` is set, and the last
-/// one at the end.
+/// Returns `batches` as segments: one ends after batch `n` if bit `n` of `cutting` is set, and the last one
+/// at the end.
 ///
 /// # Errors
 ///
@@ -256,7 +264,7 @@ fn batches_of(alloc: Global, segments: Vec<Segment>) -> Result<Vec<FilePart>> {
 ///
 /// # Errors
 ///
-/// `Memory`, and `Io` if the lines can't grow.
+/// `Memory`; `Io` if the lines can't grow.
 fn table_lines(alloc: Global, tables: &MemTableAccessor) -> Result<Vec<u8>> {
     let mut lines = Vec::new(alloc);
     print_recovered(alloc, tables, &mut lines)?;

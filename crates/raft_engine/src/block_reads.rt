@@ -1,4 +1,4 @@
-//! Entries that are read by their blocks.
+//! Reading entries by their blocks. `region` is the entries' region, which errors name.
 
 ghost use Rattle.std.specs.Prelude.{◌≡◌, ◌↔◌, ◌+◌, ◌<◌, ◌≤◌, ◌∷◌, ◌++◌, ℕ, [], List, length, map, take, IfErr, IfOk, IfSome, IsSome, IsTrue, OnErr, OnOk, Some};
 ghost use Rattle.raft_records.specs.Entries.{strings_in};
@@ -17,14 +17,16 @@ use raft_records::{entry_bytes, lent_entry_block};
 use raft_replay::segment::queue_name;
 use std::alloc::Global;
 
-/// The entry bytes of a block, and where it was read.
+/// The entry bytes of a block that was read, and its place.
 #[derive(Drop)]
 struct EntryBlock {
+    /// The file, the offset and the length of the block.
     place: FileBlockHandle,
+    /// The entry bytes, without their checksum, which holds.
     entries: Vec<u8>,
 }
 
-/// Reads the bytes of an entry of a region.
+/// Reads the bytes of one entry: its whole block is read, and its checksum tested.
 ///
 /// # Errors
 ///
@@ -43,12 +45,12 @@ pub fn read_alone<F: EngineFiles>(
     bytes_in(alloc, region, &block, entry)
 }
 
-/// Reads the bytes of entries of a region, in order. A block that holds several neighbors is read once.
+/// Reads the bytes of entries, and returns those of each, in order. A block that holds several neighbors is read once.
 ///
 /// # Errors
 ///
-/// Those of `EngineFiles::read`; `Corruption` where an entry has no place, or what stands there is no sound block with its
-/// bytes: the text begins with the region, the index and the place then; `Memory`. Only reads were asked then.
+/// Those of `EngineFiles::read`; `Corruption` if an entry has no place, or what stands there is no sound block with its bytes:
+/// the text begins with the region, the index and the place then; `Memory`. Only reads were asked then.
 pub fn read_by_blocks<F: EngineFiles>(
     alloc: Global,
     files: &mut F,
@@ -69,7 +71,8 @@ pub fn read_by_blocks<F: EngineFiles>(
     Ok(strings)
 }
 
-/// Reads the bytes of entries of a region, one behind another, in order. A block that holds several neighbors is read once.
+/// Reads the bytes of entries, and returns them one after another, in order. A block that holds several neighbors is read
+/// once.
 ///
 /// # Errors
 ///
@@ -99,11 +102,11 @@ pub fn read_joined<F: EngineFiles>(
     Ok(joined)
 }
 
-/// Keeps the block at the place of an entry of a region: the one that is kept, if it is that, and else it is read.
+/// Makes `kept` the block at the place of an entry: it is read, unless it is the one that is kept.
 ///
 /// # Errors
 ///
-/// Those of [`read_by_blocks`].
+/// Those of [`read_by_blocks`]. `kept` is unchanged then.
 fn keep_block<F: EngineFiles>(
     alloc: Global,
     files: &mut F,
@@ -123,7 +126,7 @@ fn keep_block<F: EngineFiles>(
     Ok(())
 }
 
-/// Tests whether the block that is kept is the one at the place of an entry.
+/// Tests whether `kept` is the block at the place of the entry.
 fn is_kept(kept: &Option<EntryBlock>, entry: &EntryIndex) -> bool
     ensures { IsTrue result ↔ IsKeptOf entry.now kept.now }
 {
@@ -133,7 +136,7 @@ fn is_kept(kept: &Option<EntryBlock>, entry: &EntryIndex) -> bool
     }
 }
 
-/// Reads the block at the place of an entry of a region.
+/// Reads the block at the place of an entry, and tests its checksum.
 ///
 /// # Errors
 ///
@@ -162,7 +165,7 @@ fn block_of<F: EngineFiles>(
     }
 }
 
-/// Returns why an entry of a region isn't found that has no place.
+/// Returns the error for an entry that has no place: `Corruption`, which names the region and the index, or `Memory`.
 #[inline(never)]
 fn of_no_place(alloc: Global, region: u64, index: u64) -> Error
     ensures { IsAnyCorruption result }
@@ -174,11 +177,12 @@ fn of_no_place(alloc: Global, region: u64, index: u64) -> Error
     }
 }
 
-/// Returns how many bytes entries have in their block, of which they are the first ones. It tests the checksum behind them.
+/// Checks that `block` is a sound entry block of `len` bytes, and returns how many of these, from the first one on, are its
+/// entry bytes: all but the checksum.
 ///
 /// # Errors
 ///
-/// `Corruption` where the bytes are no sound block of this length; `Memory`.
+/// `Corruption` if it isn't; `Memory`.
 fn entries_len(
     alloc: Global,
     block: &[u8],
@@ -194,11 +198,11 @@ fn entries_len(
     }
 }
 
-/// Returns the bytes of an entry of a region in its block.
+/// Returns a copy of the bytes of an entry, which is in `block`.
 ///
 /// # Errors
 ///
-/// `Corruption` where they would end past those of the block; `Memory`.
+/// `Corruption` if they would end after the block; `Memory`.
 fn bytes_in(alloc: Global, region: u64, block: &EntryBlock, entry: &EntryIndex) -> Result<Vec<u8>>
     ensures ok { IfOk result (λ bytes. AreBytesIn block.now.entries.items entry.now bytes.items) }
     ensures err { IfErr result
@@ -212,11 +216,11 @@ fn bytes_in(alloc: Global, region: u64, block: &EntryBlock, entry: &EntryIndex) 
     Ok(Vec::from_slice(alloc, &block.entries[begin..end])?)
 }
 
-/// Pushes the bytes of an entry of a region, which are in `block`, to `joined`.
+/// Appends the bytes of an entry, which is in `block`, to `joined`.
 ///
 /// # Errors
 ///
-/// `Corruption` where they would end past those of the block; `Memory`.
+/// `Corruption` if they would end after the block; `Memory`. Nothing is appended then.
 fn push_bytes(
     joined: &mut Vec<u8>,
     region: u64,
@@ -238,7 +242,8 @@ fn push_bytes(
     Ok(joined.extend_from_slice(&block.entries[begin..end])?)
 }
 
-/// Returns why the bytes of an entry of a region, which would end past those of its block, aren't found.
+/// Returns the error for an entry whose bytes would end after its block: `Corruption`, which names the entry and the place, or
+/// `Memory`.
 #[inline(never)]
 fn of_lacking(alloc: Global, region: u64, block: &EntryBlock, entry: &EntryIndex) -> Error
     requires { length block.now.entries.items < entry.now.entry_offset + entry.now.entry_len }
@@ -250,7 +255,8 @@ fn of_lacking(alloc: Global, region: u64, block: &EntryBlock, entry: &EntryIndex
     }
 }
 
-/// Returns a refusal with the entry that it is about: a corruption has the region, the index and the place in front of its text.
+/// Returns `error` with the entry that it is about: the text of a `Corruption` gets the region, the index and the place at its
+/// start; any other error is unchanged. Returns `Memory` if there is none for the text.
 fn of_entry(alloc: Global, region: u64, index: u64, place: FileBlockHandle, error: Error) -> Error
     ensures { IsOfEntry region index place error result }
 {

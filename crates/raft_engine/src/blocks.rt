@@ -1,4 +1,4 @@
-//! The entry blocks of the last rewrite file, which an opening checks.
+//! The check of the entry blocks of the last rewrite file at an opening.
 
 ghost use Rattle.std.specs.Prelude.{◌≡◌, ◌≢◌, ℕ, List, IfErr, IfOk, OnOk};
 ghost use Rattle.raft_base.specs.Corruption.{IsCorruption};
@@ -13,18 +13,18 @@ use raft_base::{Error, LogQueue, Result};
 use raft_records::{FilePart, LogBatch, lent_entry_block};
 use raft_replay::segment::corruption_at;
 
-/// How many bytes the header of a batch has.
+/// The length of a batch's header in bytes.
 pub(crate) const HEADER_LEN: usize = 16;
 
-/// Why the entries of a batch are refused whose entry block doesn't end in its checksum.
+/// The text of the error for a batch whose entry block doesn't end in its checksum.
 pub(crate) const DAMAGED_ENTRIES: &str = "the entries of this batch are damaged";
 
-/// Refuses a rewrite file with this tail in which the entries of a batch are damaged: a purge would delete the older places of
-/// records that moved there. Of an append file nothing is checked. Of the items of batches none is read.
+/// Checks that no batch of a rewrite file before `tail` has damaged entries: a purge would delete the older places of records
+/// that moved there. An append file isn't checked. Items of batches aren't read.
 ///
 /// # Errors
 ///
-/// `Corruption`, which names the file and the offset of the first such batch; `Memory`.
+/// `Corruption`, which names the file and the offset of the first batch with damaged entries; `Memory`.
 pub fn check_blocks(file: &FilePart, tail: &Option<CutTail>) -> Result<()>
     requires { IsTornAs file.now tail.now }
     ensures ok { OnOk result (IsPartSound file.now) }
@@ -37,7 +37,8 @@ pub fn check_blocks(file: &FilePart, tail: &Option<CutTail>) -> Result<()>
     }
 }
 
-/// Returns where the batches of a file with this tail end.
+/// Returns the position at which the batches of a file with this tail end: that of the tail, or the end of the file without
+/// one.
 pub(crate) fn batches_end(file: &FilePart, tail: &Option<CutTail>) -> usize
     requires { IsTornAs file.now tail.now }
     ensures { StopsAt file.now result }
@@ -48,7 +49,7 @@ pub(crate) fn batches_end(file: &FilePart, tail: &Option<CutTail>) -> usize
     }
 }
 
-/// Checks the entries of all batches of `file`, which end at byte `end`.
+/// Checks the entries of all batches of a file, which end at position `end`.
 ///
 /// # Errors
 ///
@@ -65,7 +66,7 @@ fn check_all(file: &FilePart, end: usize) -> Result<()>
     Ok(())
 }
 
-/// Checks the entries of the batch at byte `at` of `file`, and returns where the batch ends.
+/// Checks the entries of the batch at position `at` of a file. Returns the position at which the batch ends.
 ///
 /// # Errors
 ///

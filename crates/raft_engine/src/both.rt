@@ -10,7 +10,9 @@ use std::alloc::Global;
 /// Two machines, each of which replays all batches.
 #[derive(Drop)]
 pub struct Both<M: ReplayMachine, N: ReplayMachine> {
+    /// The machine that replays each batch first.
     pub first: M,
+    /// The machine that replays each batch after the other.
     pub second: N,
 }
 
@@ -19,18 +21,23 @@ impl<M: ReplayMachine, N: ReplayMachine> ReplayMachine for Both<M, N> {
 
     ghost stands_exactly = { λ both h. M.stands_exactly both.first h × N.stands_exactly both.second h };
 
-    /// Replays the batch in both machines, a copy of it in the second. After an error the first may have replayed it and the second not.
+    /// Replays the batch in both machines, a copy of it in the second. After an error the first may have replayed it and the
+    /// second not.
     fn replay(&mut self, batch: LogItemBatch, file_id: FileId) -> Result<()> {
         let other = batch.clone()?;
         self.first.replay(batch, file_id)?;
         self.second.replay(other, file_id)
     }
 
+    /// Replays the batch, which is borrowed, in both machines. After an error the first may have replayed it and the second
+    /// not.
     fn replay_read(&mut self, batch: &ReadBatch<'_>, file_id: FileId) -> Result<()> {
         self.first.replay_read(batch, file_id)?;
         self.second.replay_read(batch, file_id)
     }
 
+    /// Merges both machines with those of `rhs`, which have replayed the batches that follow in `queue`. After an error the
+    /// first may be merged and the second not.
     fn merge(&mut self, rhs: Both<M, N>, queue: LogQueue) -> Result<()> {
         let Both { first, second } = rhs;
         self.first.merge(first, queue)?;
@@ -40,10 +47,12 @@ impl<M: ReplayMachine, N: ReplayMachine> ReplayMachine for Both<M, N> {
     ghost exact_stands = { λ both h e. (M.exact_stands both.first h e.0, N.exact_stands both.second h e.1) };
 }
 
-/// Makes both machines, each by a factory of its own.
+/// Makes pairs of machines, each one by a factory of its own.
 #[derive(Drop)]
 pub struct BothFactory<F: Drop, G: Drop> {
+    /// The factory of the first machines.
     pub first: F,
+    /// The factory of the second machines.
     pub second: G,
 }
 
@@ -56,6 +65,11 @@ impl<M: ReplayMachine, N: ReplayMachine, F: Factory<M> + Drop, G: Factory<N> + D
 
     ghost may_refuse = { λ factory e. F.may_refuse factory.first e ⊎ G.may_refuse factory.second e };
 
+    /// Makes a pair of machines that have replayed nothing.
+    ///
+    /// # Errors
+    ///
+    /// Those of both factories.
     fn new_target(&self, alloc: Global) -> Result<Both<M, N>> {
         Ok(Both {
             first: self.first.new_target(alloc)?,

@@ -1,4 +1,4 @@
-//! The found files of both queues, read at once.
+//! Reading the found files of both queues at the same time.
 
 ghost use Rattle.std.specs.Prelude.{◌≡◌, ◌<◌, List, IfOk};
 ghost use Rattle.std.specs.Thread.{IsSync};
@@ -25,16 +25,18 @@ use std::thread::{Threads, join};
 /// What the reading of the files of both queues gives.
 #[derive(Drop)]
 pub struct BothRead {
+    /// The context of the append files, and the tail of the last one.
     pub appended: QueueRead<MemTableRecoverContext>,
+    /// The context of the rewrite files, and the tail of the last one.
     pub rewritten: QueueRead<MemTableRecoverContext>,
 }
 
-/// Reads the files of both queues, a segment each, by `workers` threads. Each byte is read once, but for those
-/// of a long last file that doesn't end with a batch.
+/// Reads the files of both queues, a segment each, by `workers` threads. Each byte is read once, but for those of a long last
+/// file with a tail that can't be read, which are read twice.
 ///
 /// # Errors
 ///
-/// Any if the files are refused; `Memory`.
+/// `Memory`; any other if the files are refused. Which one says nothing of what a reading in order would refuse first.
 pub fn read_both<R: Threads + Sync>(
     rt: &R,
     alloc: Global,
@@ -65,7 +67,12 @@ pub fn read_both<R: Threads + Sync>(
     Err(Error::invalid_argument(alloc, OUT_OF_ROW))
 }
 
-/// Reads both queues: at once, by two workers or more, or one after the other by all workers, where the rewrite queue is short.
+/// Reads both queues. If the rewrite queue is short, or there is one worker, they are read one after the other, each by all
+/// workers; else at the same time, by a part of the workers each.
+///
+/// # Errors
+///
+/// Those of [`read_rewrite`] and of [`read_append`].
 fn read_queues<R: Threads + Sync>(
     rt: &R,
     alloc: Global,
@@ -108,7 +115,11 @@ fn read_queues<R: Threads + Sync>(
     Ok((rewritten, appended))
 }
 
-/// Reads the rewrite queue, and gathers whether its groups stand in rows.
+/// Reads the files of the rewrite queue by `workers` threads, and gathers whether its atomic groups stand in rows.
+///
+/// # Errors
+///
+/// Those of [`read_queue`].
 fn read_rewrite<R: Threads + Sync>(
     rt: &R,
     alloc: Global,
@@ -126,7 +137,11 @@ fn read_rewrite<R: Threads + Sync>(
     read_queue(rt, alloc, &factory, segments, LogQueue::Rewrite, workers)
 }
 
-/// Reads the append queue.
+/// Reads the files of the append queue by `workers` threads.
+///
+/// # Errors
+///
+/// Those of [`read_queue`].
 fn read_append<R: Threads + Sync>(
     rt: &R,
     alloc: Global,

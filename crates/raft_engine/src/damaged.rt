@@ -1,4 +1,5 @@
-//! The batches of the last append file whose entries are damaged, which an opening names.
+//! The batches of the last append file whose entries are damaged, which an opening names. An entry block is damaged if its
+//! checksum doesn't hold.
 
 ghost use Rattle.std.specs.Prelude.{◌≡◌, ℕ, ◌+◌, List, IfErr, IfOk, OnOk};
 ghost use Rattle.std.specs.Thread.{IsSync};
@@ -37,11 +38,12 @@ pub fn damaged_batches<R: Threads + Sync>(
     gather_at_once(rt, file, 0, batches_end(file, tail), workers)
 }
 
-/// Does what [`damaged_batches`] does, without threads.
+/// Returns the batches of `file` before `tail` whose entries are damaged, in order, as [`damaged_batches`] does, but on the
+/// caller's thread.
 ///
 /// # Errors
 ///
-/// `Memory`.
+/// `Memory` alone.
 pub fn damaged_batches_alone(file: &FilePart, tail: &Option<CutTail>) -> Result<Vec<DamagedBatch>>
     requires { IsTornAs file.now tail.now }
     ensures ok { IfOk result (λ damaged. AreDamagedBatches file.now damaged.items) }
@@ -50,11 +52,12 @@ pub fn damaged_batches_alone(file: &FilePart, tail: &Option<CutTail>) -> Result<
     gather(file, 0, batches_end(file, tail))
 }
 
-/// Gathers the damaged batches between two bytes of a file by `workers` threads, half of a long stretch by half of them.
+/// Returns the batches with damaged entries between the positions `from` and `end` of a file, in order. A long stretch is
+/// halved, and each half given to half of the `workers` threads.
 ///
 /// # Errors
 ///
-/// `Memory`.
+/// `Memory` alone.
 fn gather_at_once<R: Threads + Sync>(
     rt: &R,
     file: &FilePart,
@@ -89,11 +92,11 @@ fn gather_at_once<R: Threads + Sync>(
     Ok(damaged)
 }
 
-/// Returns where a batch ends near the middle between two bytes of a file: the first end from there on.
+/// Returns the first position at or after the middle between `from` and `end` at which a batch ends. A batch begins at `from`.
 ///
 /// # Errors
 ///
-/// `Memory`.
+/// `Memory` alone.
 fn middle_between(file: &FilePart, from: usize, end: usize) -> Result<usize>
     requires { AreReached file.now from end }
     ensures ok { IfOk result (λ middle. AreReached file.now from middle × AreReached file.now middle end) }
@@ -107,11 +110,11 @@ fn middle_between(file: &FilePart, from: usize, end: usize) -> Result<usize>
     Ok(at)
 }
 
-/// Returns where the batch ends that stands at a byte of a file.
+/// Returns the position at which the batch ends that stands at position `at` of a file.
 ///
 /// # Errors
 ///
-/// `Memory`.
+/// `Memory` alone.
 fn end_of_batch(file: &FilePart, at: usize) -> Result<usize>
     requires { (items : List Item) × (next : ℕ) × IsBatchAt file.now at items next }
     ensures ok { IfOk result (λ end. (items : List Item) (next : ℕ) → IsBatchAt file.now at items next → end ≡ next) }
@@ -122,11 +125,12 @@ fn end_of_batch(file: &FilePart, at: usize) -> Result<usize>
     Ok(at + len)
 }
 
-/// Gathers the damaged batches between two bytes of a file.
+/// Returns the batches with damaged entries between the positions `from` and `end` of a file, in order, on the caller's
+/// thread.
 ///
 /// # Errors
 ///
-/// `Memory`.
+/// `Memory` alone.
 fn gather(file: &FilePart, from: usize, end: usize) -> Result<Vec<DamagedBatch>>
     requires { AreReached file.now from end }
     ensures ok { IfOk result (λ damaged. AreDamagedBetween file.now from end damaged.items) }
@@ -140,11 +144,12 @@ fn gather(file: &FilePart, from: usize, end: usize) -> Result<Vec<DamagedBatch>>
     Ok(damaged)
 }
 
-/// Adds the batch that stands at a byte of a file, if its entries are damaged, and returns where it ends.
+/// Checks the entry block of the batch at position `at` of a file, and adds the batch to `damaged` if its entries are damaged.
+/// Returns the position at which the batch ends.
 ///
 /// # Errors
 ///
-/// `Memory`.
+/// `Memory` alone. Nothing is added then.
 fn gather_one(file: &FilePart, at: usize, damaged: &mut Vec<DamagedBatch>) -> Result<usize>
     requires { IsReachedAt file.now at }
     ensures ok { IfOk result (λ end. (items : List Item) (next : ℕ) → IsBatchAt file.now at items next → end ≡ next) }
@@ -161,11 +166,11 @@ fn gather_one(file: &FilePart, at: usize, damaged: &mut Vec<DamagedBatch>) -> Re
     Ok(at + len)
 }
 
-/// Returns the batch at a byte of a file, whose entries are damaged, with the refusal that says so.
+/// Returns the batch at position `at` of a file as one with damaged entries, with the error with which they are refused.
 ///
 /// # Errors
 ///
-/// `Memory`.
+/// `Memory` alone.
 fn damaged_batch(file: &FilePart, at: usize) -> Result<DamagedBatch>
     requires { IsUnsoundAt file.now at }
     ensures ok { IfOk result (IsDamagedBatch file.now) }

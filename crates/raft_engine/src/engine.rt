@@ -63,17 +63,27 @@ mod round_trip;
 /// The logs of many regions: files that the machine keeps, and the tables of all batches that were written to them.
 ///
 /// Whenever the machine crashes, the files that are left hold what was synced, and a prefix of the batches that were written
-/// since ([`Engine::nothing_synced_is_lost`]); what a disk has to do for it stands at [`EngineFiles`]. After an `Err` of a call
-/// that writes, the files may hold a batch that the tables don't: such an engine isn't intact, and takes no further one. Its
-/// files must be opened again ([`Engine::open`]).
+/// since ([`Engine::nothing_synced_is_lost`]); what a disk has to do for it stands at [`EngineFiles`]. After an `Err` of a
+/// call that writes, the files may hold a batch that the tables don't: such an engine isn't intact, and takes no further call
+/// that writes. Its files must be opened again ([`Engine::open`]).
+///
+/// A batch may take records away that have moved to rewrite files: by a command, the deletion of a key, or entries that
+/// replace others. The rewrite queue has to say so too, by a batch of commands and deletions, before the append file of that
+/// batch is deleted. This is written when records move or files are deleted, and until then the engine keeps it ready.
 #[derive(Drop)]
 pub struct Engine<F: EngineFiles> {
+    /// The files of both queues, which take the bytes.
     files: F,
+    /// The version in which batches are written.
     version: Version,
+    /// What is known of the append files.
     append: QueueFiles,
+    /// What is known of the rewrite files.
     rewrite: QueueFiles,
-    /// What the rewrite queue isn't told yet.
+    /// What batches of the append queue took away of older records, as commands and deletions that aren't in the rewrite queue
+    /// yet: the rewrite queue is told them before a file is deleted or a record moves.
     untold: LogBatch,
+    /// The tables of all regions.
     accessor: MemTableAccessor,
     /// Whether further calls are taken: no call of the files failed, and every batch that was asked for was applied.
     intact: bool,
@@ -95,11 +105,11 @@ impl<F: EngineFiles> Model for Engine<F> {
 }
 
 impl<F: EngineFiles> Engine<F> {
-    /// Makes an engine over files of which nothing was asked yet. It has an empty file in each queue, and no tables.
+    /// Makes an engine over files of which nothing was asked yet. Begins an empty file in each queue; there are no tables.
     ///
     /// # Errors
     ///
-    /// `Memory`, and those of `EngineFiles::rotate`.
+    /// `Memory`, and those of `EngineFiles::rotate`. The files are dropped then.
     pub fn new(alloc: Global, version: Version, files: F) -> Result<Engine<F>>
     where
         F: Drop,
@@ -129,28 +139,34 @@ impl<F: EngineFiles> Engine<F> {
         })
     }
 
-    /// Opens the files that a stop of the machine left, whoever wrote them: those of each queue, oldest first. The tables are
-    /// those that `recover_both` gives of the files, with `workers` threads. Once all is read, what is missing of the files is
-    /// asked: a first file of a queue without one, and the cut of a torn tail of a queue's last file. What the append files take
-    /// away of the rewritten tables stays untold, and the rewrite queue is told it as what a write takes away. It is told at once
-    /// of a region whose rewritten entries, those that stay, lie in front of the appended ones and don't join them: in files that
-    /// engines wrote there is none.
+    /// Opens the files that a crash left, whoever wrote them. `append` and `rewrite` are the numbers and the bytes of each
+    /// queue's files, oldest first. The tables are those that `recover_both` gives of these files, with `workers` threads.
+    ///
+    /// Once all is read, `files` is asked for what is missing: the first file of a queue without one, and the cut of the torn
+    /// tail of a queue's last file. What the append files take away of the rewritten records is written to the rewrite queue
+    /// later, as after a write. It is written at once for a region whose remaining rewritten entries lie below the appended
+    /// ones and don't join them; in files that engines wrote there is none.
     ///
     /// # Errors
     ///
-    /// The files are handed back. Nothing was asked of them where they are refused: `Corruption` where the number of a file
-    /// isn't one above that of the file before it, with the name of the first file that is missing; where a queue's last file
-    /// is damaged (where its reading stops, what is left isn't part of one batch, and a batch that can be read stands behind,
-    /// or one that is signed for another file: both places are named) or of the other version (its first batch can be read in
-    /// that one alone); and where the entries of a batch of the last rewrite file are damaged. Where a batch can't be read, or
-    /// can't follow those before it, the refusal is that of `recover_both`: a `Corruption` with the file and the offset in front
-    /// of its text, `Codec` or `Io`. `InvalidArgument` where a batch of the rewrite files goes on with an atomic group, or ends
-    /// it, and doesn't stand right behind one that begins the group or goes on with it, in the same file; and for another number
-    /// of workers than 1 to 256. `Full` where the files of a queue have 2^63 bytes or more, or what is told at once has 2^56
-    /// bytes or more. `Memory`.
+    /// The files are handed back with each error. Nothing was asked of them if they are refused:
+    /// - `Corruption` if the number of a file isn't one above that of the file before it. The text names the first file that
+    ///   is missing.
+    /// - `Corruption` if a queue's last file is damaged: the bytes from where its reading stops can't be all that is left of
+    ///   one batch, and after that place stands a batch that can be read, or one that is signed for another file. The text
+    ///   names both places.
+    /// - `Corruption` if the first batch of a queue's last file can be read in the other version alone, or if a batch of the
+    ///   last rewrite file has damaged entries.
+    /// - `Corruption` with the file and the offset at the start of its text, `Codec` or `Io`, as `recover_both` refuses it, if
+    ///   a batch can't be read or can't follow those before it.
+    /// - `InvalidArgument` if a batch of the rewrite files goes on with an atomic group, or ends it, and doesn't stand
+    ///   directly after one that begins the group or goes on with it, in the same file; if a queue's last file is one of
+    ///   raft-engine; and for another number of workers than 1 to 256.
+    /// - `Full` if the files of a queue have 2^63 bytes or more, or if 2^56 bytes or more would have to be written at once.
+    /// - `Memory`.
     ///
-    /// Those of `EngineFiles`: some of it was asked then, and whatever is left of the files has the records that were found. They
-    /// may be found again, and opened.
+    /// If a call of `EngineFiles` fails, some of it was asked, and whatever is left of the files has the records that were
+    /// found. They may be found again, and opened.
     pub fn open<R: Threads + Sync>(
         rt: &R,
         alloc: Global,
@@ -185,14 +201,15 @@ impl<F: EngineFiles> Engine<F> {
         }
     }
 
-    /// Opens the files that a stop of the machine left in a mode, and tells what was cut off from them: of each queue's last file
-    /// the tail, with the reason why no batch can be read there; and which batches of the last append file have damaged entries, which
-    /// are refused when they are read. In the mode `TolerateTornTail` it does what [`Engine::open`] does.
+    /// Opens the files that a crash left in the given `mode`, as [`Engine::open`] does in the mode `TolerateTornTail`. Returns
+    /// with the engine what was cut off each queue's last file, with the reason why no batch can be read there, and which
+    /// batches of the last append file have damaged entries; these entries are refused when they are read.
     ///
     /// # Errors
     ///
-    /// Those of [`Engine::open`], but that a queue's last file which can't be read to its end is always refused in the mode
-    /// `AbsoluteConsistency`, and never for that in the mode `TolerateTailCorruption`. Damaged entries are refused in each mode.
+    /// Those of [`Engine::open`]. But a queue's last file that can't be read to its end is always refused in the mode
+    /// `AbsoluteConsistency`, and never for that in the mode `TolerateTailCorruption`. A batch of the last rewrite file with
+    /// damaged entries is refused in each mode.
     pub fn open_telling<R: Threads + Sync>(
         rt: &R,
         alloc: Global,
@@ -222,12 +239,12 @@ impl<F: EngineFiles> Engine<F> {
         }
     }
 
-    /// Asks of found files what their reading says, and makes an engine over them then, with the tables that they give. It tells of
-    /// these damaged batches.
+    /// Asks of found files what their `reading` says is missing, and makes an engine over them, with the tables that were
+    /// read. Returns it with what was cut off, and with `damaged`, unchanged.
     ///
     /// # Errors
     ///
-    /// The files are handed back. Those of `EngineFiles`: some of it was asked then, and whatever is left of the files has the
+    /// Those of `EngineFiles`. The files are handed back: some of it was asked then, and whatever is left of the files has the
     /// records that were found.
     #[doc(hidden)]
     pub fn of_reading(
@@ -278,10 +295,10 @@ impl<F: EngineFiles> Engine<F> {
         }
     }
 
-    /// States what lasts, whenever the machine crashes or crashed, in the midst of a call too: the records of all batches that
-    /// were synced by then, and of a prefix of those since, each of them whole or not at all. The contents of entries are any
-    /// that are told by what was asked; a read of a damaged block, which is refused, tells none and costs nothing. This is a
-    /// law: it computes nothing.
+    /// States what outlasts a crash at any moment, in the midst of a call too: the records of all batches that were synced by
+    /// then, and those of a prefix of the batches since, each batch whole or not at all. The contents of entries are any that
+    /// are told by what was asked of the files; a read of a damaged block, which is refused, tells none and costs nothing.
+    /// This is a law: it computes nothing.
     pub fn nothing_synced_is_lost(&self)
         ensures { (content : EntryIndex → List ℕ) → AreBothTold self.now.asks content → IsLasting content self.now }
     {
@@ -291,36 +308,36 @@ impl<F: EngineFiles> Engine<F> {
         let _ = &self.accessor;
     }
 
-    /// Returns the tables, the cleaned regions and the live counts.
+    /// Returns the tables of all regions, with the cleaned regions and the live counts.
     pub fn accessor(&self) -> &MemTableAccessor
         ensures { result.now ≡ self.now.accessor }
     {
         &self.accessor
     }
 
-    /// Returns the files.
+    /// Returns the files of both queues.
     pub fn files(&self) -> &F
         ensures { F.asked result.now ≡ self.now.asks }
     {
         &self.files
     }
 
-    /// Tests whether the engine takes further calls: no call of its files failed, but for reads, and every batch whose bytes
-    /// were asked for was applied to the tables.
+    /// Tests whether the engine takes further calls: no call of its files but a read failed, and every batch whose bytes were
+    /// asked for was applied to the tables.
     pub fn is_intact(&self) -> bool
         ensures { IsTrue result ↔ (self.now.intact ≡ true) }
     {
         self.intact
     }
 
-    /// Returns the value of a region under a key.
+    /// Returns the value of a region's key; `None` if the key has none.
     pub fn get(&self, region: u64, key: &[u8]) -> Option<&[u8]>
         ensures { option_map (λ v. v.now) result ≡ value_at (table_in self.now region).keys key.now }
     {
         self.accessor.get(region)?.get(key)
     }
 
-    /// Returns the least index of a region's entries.
+    /// Returns the least index of a region's entries; `None` if it has none.
     pub fn first_index(&self, region: u64) -> Option<u64>
         ensures { MatchOption result ((table_in self.now region).entries ≡ [])
             (λ i. ((table_in self.now region).entries ≢ [])
@@ -329,7 +346,7 @@ impl<F: EngineFiles> Engine<F> {
         self.accessor.get(region)?.first_index()
     }
 
-    /// Returns the greatest index of a region's entries.
+    /// Returns the greatest index of a region's entries; `None` if it has none.
     pub fn last_index(&self, region: u64) -> Option<u64>
         ensures { MatchOption result ((table_in self.now region).entries ≡ [])
             (λ i. i + 1 ≡ end_of (table_in self.now region).entries) }
@@ -341,8 +358,8 @@ impl<F: EngineFiles> Engine<F> {
     ///
     /// # Errors
     ///
-    /// `Failed` where the engine isn't intact, and those of `EngineFiles::sync`: it isn't intact any more, and asks nothing of its
-    /// files again but reads.
+    /// `Failed` if the engine isn't intact; nothing is asked then. Those of `EngineFiles::sync`: the engine isn't intact any
+    /// more, and asks nothing of its files again but reads.
     pub fn sync(&mut self) -> Result<()>
         ensures ok { OnOk result (self.new
             ≡ record self.old { asks = ask Append Sync ∷ self.old.asks }) }
@@ -359,11 +376,11 @@ impl<F: EngineFiles> Engine<F> {
         Ok(())
     }
 
-    /// Syncs the append queue where `sync` says so; else it does nothing.
+    /// Syncs the append queue if `sync` is set; else does nothing.
     ///
     /// # Errors
     ///
-    /// Those of [`Engine::sync`], where it is wanted.
+    /// Those of [`Engine::sync`], only if `sync` is set.
     fn sync_if_wanted(&mut self, sync: bool) -> Result<()>
         ensures ok { OnOk result (IsOnlySynced sync self.old self.new) }
         ensures err { IfErr result (IsUnsynced F.may_fail self.old self.new) }
@@ -375,12 +392,12 @@ impl<F: EngineFiles> Engine<F> {
         Ok(())
     }
 
-    /// Begins a new file of the append queue, in which the next batch is put. All that was written is synced then.
+    /// Syncs the append queue, and begins a new file in it, to which the next batch goes.
     ///
     /// # Errors
     ///
-    /// `Failed` where the engine isn't intact, `Full` where the last file has the greatest number, `Memory`: the engine is
-    /// then as it was. Those of `EngineFiles::sync` and `EngineFiles::rotate`: it isn't intact any more.
+    /// `Failed` if the engine isn't intact, `Full` if the last file has the greatest number, `Memory`: the engine is unchanged
+    /// then. Those of `EngineFiles::sync` and `EngineFiles::rotate`: the engine isn't intact any more.
     pub fn rotate(&mut self) -> Result<()>
         ensures ok { OnOk result (IsRotated self.old self.new) }
         ensures accepted { OnOk result (self.old.intact ≡ true) }
@@ -397,17 +414,20 @@ impl<F: EngineFiles> Engine<F> {
         Ok(())
     }
 
-    /// Writes a batch: its bytes behind those of the append queue's last file, and its items with their places to the
-    /// tables. With `sync` all that was written is synced once the call returns `Ok`. The batch is empty then; one without
-    /// items changes nothing else. A batch that the tables would refuse is not written.
+    /// Writes a batch, which is open: its bytes after those of the last append file, and its items with their places to the
+    /// tables. With `sync` all that was written is synced once the call returns `Ok`. The batch is empty then. A batch without
+    /// items is only synced, if that is wanted. A batch that the tables would refuse isn't written.
     ///
     /// # Errors
     ///
-    /// `Failed` where the engine isn't intact; `Corruption` where the tables would refuse an item, which the text names;
-    /// `Full` where the batch has 2^56 bytes or more, or its file more than 2^63; `Memory`. The engine and the batch are then as
-    /// they were. Those of `EngineFiles`; and, once all was asked, `Memory`, or `Full` where the live records of the append queue
-    /// and those that the next item names are 2^64 or more together: the engine isn't intact any more, and the tables are as they
-    /// were or, once the bytes were put, and synced if that is wanted, have the first ones of the items, or all of them.
+    /// - `Failed` if the engine isn't intact; `Corruption` if the tables would refuse an item, which the text names; `Full` if
+    ///   the batch has 2^56 bytes or more, or its file more than 2^63; `Memory`. The engine and the batch are unchanged then.
+    /// - Those of `EngineFiles`. The engine isn't intact any more, and the tables are unchanged.
+    /// - Once all was asked: `Memory`, or `Full` if the live records of the append queue and those that the next item names
+    ///   are 2^64 or more together. The engine isn't intact any more, and the tables have the first ones of the items, or all
+    ///   of them.
+    ///
+    /// After the last two the batch may have lost items.
     pub fn write(&mut self, batch: &mut LogBatch, sync: bool) -> Result<()>
         requires { batch.old.stage ≡ is_open }
         ensures ok { OnOk result ((batch.old.items ≡ []) × IsOnlySynced sync self.old self.new
@@ -450,14 +470,15 @@ impl<F: EngineFiles> Engine<F> {
         Ok(())
     }
 
-    /// Deletes the append files that no table needs, the oldest first, but never the last one, and returns how many. The
-    /// rewrite queue is told before what the batches in them took away. If there is no such file nothing is asked.
+    /// Deletes the append files that no table needs, the oldest first, but never the last one. Returns how many were deleted.
+    /// Before that it syncs the append queue, writes to the rewrite queue what batches took away and isn't there yet, and
+    /// syncs that queue too. If there is no such file nothing is asked.
     ///
     /// # Errors
     ///
-    /// `Failed` where the engine isn't intact; `Full` where there is such a file, and what is untold has 2^56 bytes or more, or
-    /// the last rewrite file more than 2^63; `Memory`. The engine is then as it was. Those of `EngineFiles`, where there is such
-    /// a file: it isn't intact any more.
+    /// `Failed` if the engine isn't intact; `Full` if there is such a file, and what has to be written has 2^56 bytes or more,
+    /// or the last rewrite file more than 2^63; `Memory`. The engine is unchanged then. Those of `EngineFiles`, if there is
+    /// such a file: the engine isn't intact any more.
     pub fn purge_expired_files(&mut self) -> Result<usize>
         ensures ok { IfOk result (λ count. ArePurged count self.old self.new) }
         ensures accepted { OnOk result (self.old.intact ≡ true) }
@@ -467,12 +488,12 @@ impl<F: EngineFiles> Engine<F> {
     }
 }
 
-/// Writes the items of a batch to the tables, which empties it.
+/// Writes the items of a batch to the tables, in order, which empties the batch.
 ///
 /// # Errors
 ///
-/// Those of `apply_append_writes`, only `Memory` and `Full` where the tables accept the items. The first ones of them are written
-/// then.
+/// Those of `apply_append_writes`; only `Memory` and `Full` if the tables accept the items. The first ones of the items are
+/// written then, and the batch is empty too.
 fn apply(accessor: &mut MemTableAccessor, batch: &mut LogBatch) -> Result<()>
     ensures ok { OnOk result (AreWritten Appending batch.old.items accessor.old accessor.new) }
     ensures room { AreAccepted accessor.old.tables batch.old.items → IfErr result LacksRoom }

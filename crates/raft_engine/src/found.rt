@@ -1,4 +1,4 @@
-//! The files that are found when an engine is opened.
+//! Checks of the files that are found when an engine is opened: their numbers, and the end of the last one.
 
 ghost use Rattle.std.specs.Prelude.{◌≡◌, ◌≢◌, suc, ◌∷◌, ◌++◌, ◌⊎◌, ◌↔◌, ◌≤◌, ◌<◌, [], codes, length, map, IfOk, IfErr, IsTrue, OnOk};
 ghost use Rattle.raft_files.specs.HeldFiles.{file_shown};
@@ -20,26 +20,26 @@ use raft_replay::segment::{corruption_at, queue_name};
 use raft_tail::{is_broken_off, next_sound, signed_elsewhere};
 use std::alloc::Global;
 
-/// Why files are refused whose numbers don't rise.
+/// The text of the error for files whose numbers don't rise.
 const NOT_ABOVE: &str = "a file number isn't above the one before it";
 
-/// Why a file is refused of which nothing may be cut off.
+/// The text of the error for a file of which nothing may be cut off.
 const UNCUT: &str = "no batch can be read there, and nothing may be cut off";
 
 /// How the files of raft-engine begin.
 const ENGINE_HEADER: &[u8] = b"RAFT-LOG-FILE-HEADER";
 
-/// Why a file of raft-engine is refused.
+/// The text of the error for a file of raft-engine.
 const OF_ENGINE: &str = "the file is one of raft-engine, which begins with a header";
 
-/// Why a file is refused whose first batch can be read in the other version alone.
+/// The text of the error for a file whose first batch can be read in the other version alone.
 const OF_OTHER_VERSION: &str = "a batch of the other version stands there";
 
-/// Refuses the files of a queue where the number of one isn't one above that of the file before it.
+/// Checks that the number of each file of `queue` is one above that of the file before it.
 ///
 /// # Errors
 ///
-/// `Corruption`, which names the first missing file where one is missing between two; `Memory`.
+/// `Corruption` if one isn't; if files are missing between two, the text names the first one missing. `Memory`.
 pub fn check_numbers(queue: LogQueue, files: &Vec<(FileSeq, Vec<u8>)>) -> Result<()>
     ensures ok { OnOk result (AreConsecutive (numbers (map file_shown files.now.items))) }
     ensures refused { IfErr result (λ e. e ≢ Error.Memory
@@ -56,11 +56,11 @@ pub fn check_numbers(queue: LogQueue, files: &Vec<(FileSeq, Vec<u8>)>) -> Result
     Ok(())
 }
 
-/// Refuses the number of a file that isn't one above that of the file before it.
+/// Checks that `next`, the number of a file of `queue`, is one above `last`, that of the file before it.
 ///
 /// # Errors
 ///
-/// `Corruption`, `Memory`.
+/// `Corruption` if it isn't; if files are missing between the two, the text names the first one missing. `Memory`.
 pub fn check_next(alloc: Global, queue: LogQueue, last: FileSeq, next: FileSeq) -> Result<()>
     ensures ok { OnOk result (next ≡ suc last) }
     ensures refused { IfErr result (λ e. e ≢ Error.Memory → IsApartAs queue last next e) }
@@ -74,7 +74,8 @@ pub fn check_next(alloc: Global, queue: LogQueue, last: FileSeq, next: FileSeq) 
     Ok(())
 }
 
-/// Returns the refusal of a queue in which at least one file is missing between two.
+/// Returns the error for a queue in which at least one file is missing between the files `last` and `next`: `Corruption`,
+/// which names the first one missing, or `Memory` if there is none for the text.
 fn missing_file(alloc: Global, queue: LogQueue, last: FileSeq, next: FileSeq) -> Error
     requires { suc last < next }
     ensures { IsCorruption (missing_text queue last next) result }
@@ -90,11 +91,12 @@ fn missing_file(alloc: Global, queue: LogQueue, last: FileSeq, next: FileSeq) ->
     }
 }
 
-/// Returns the tail of a whole file that can't be read, if it has one.
+/// Returns the tail of a whole file: its bytes from the first one on at which no batch can be read. `None` if all of the file
+/// can be read.
 ///
 /// # Errors
 ///
-/// `Memory`.
+/// `Memory` alone.
 pub fn tail_of(file: &FilePart) -> Result<Option<CutTail>>
     ensures ok { IfOk result (IsTornAs file.now) }
     ensures memory { IfErr result (λ e. e ≡ Error.Memory) }
@@ -107,11 +109,12 @@ pub fn tail_of(file: &FilePart) -> Result<Option<CutTail>>
     Ok(Some(CutTail::from(file, at, error)))
 }
 
-/// Refuses a file for its tail.
+/// Checks that `mode` allows to cut `tail` off the file, and that the file is neither of the other version nor one of
+/// raft-engine. `tail` is what [`tail_of`] returned for it; without one nothing is checked.
 ///
 /// # Errors
 ///
-/// `Corruption` where the mode refuses that tail, or the file is of the other version; `InvalidArgument` where it is of
+/// `Corruption` if `mode` refuses the tail, or the file is of the other version; `InvalidArgument` if it is one of
 /// raft-engine; `Memory`.
 pub fn check_tail(mode: RecoveryMode, file: &FilePart, tail: &Option<CutTail>) -> Result<()>
     requires { IsTornAs file.now tail.now }
@@ -128,11 +131,11 @@ pub fn check_tail(mode: RecoveryMode, file: &FilePart, tail: &Option<CutTail>) -
     check_tolerated(mode, file, at)
 }
 
-/// Refuses the tail of a file where a mode does, from the byte on at which its reading stops.
+/// Checks that `mode` allows to cut off the tail of a file that begins at position `at`.
 ///
 /// # Errors
 ///
-/// `Corruption`, which names the place; `Memory`.
+/// `Corruption`, which names the place, if it doesn't; `Memory`.
 fn check_tolerated(mode: RecoveryMode, file: &FilePart, at: usize) -> Result<()>
     requires { at < length file.now.bytes }
     ensures ok { OnOk result (¬ (IsRefusedAt mode file.now at)) }
@@ -146,19 +149,21 @@ fn check_tolerated(mode: RecoveryMode, file: &FilePart, at: usize) -> Result<()>
     }
 }
 
-/// Returns the refusal of a file of which nothing may be cut off.
+/// Returns the error for a file of which nothing may be cut off, though no batch can be read at position `at`: `Corruption`,
+/// which names the place, or `Memory`.
 pub fn uncut(file: &FilePart, at: usize) -> Error
     ensures { IsCorruption (uncut_text file.now.id at) result }
 {
     corruption_at(file.allocator(), file.id(), at as u64, UNCUT)
 }
 
-/// Refuses a file in which damage begins where its reading stops: what stands from there on isn't all that is left of one
-/// batch, as a crash leaves it, and a batch that can be read stands behind it, or one that is signed for another file.
+/// Checks that no damage begins at position `at` of a file, at which no batch can be read. There is none if the bytes from
+/// there on can be all that a crash left of one batch. There is none either if no batch stands after that position that can be
+/// read, or that is signed for another file.
 ///
 /// # Errors
 ///
-/// `Corruption`, which names both places; `Memory`.
+/// `Corruption`, which names both places, if there is damage; `Memory`.
 fn check_undamaged(file: &FilePart, at: usize) -> Result<()>
     requires { at < length file.now.bytes }
     ensures ok { OnOk result (¬ (IsDamagedAt file.now at)) }
@@ -177,7 +182,8 @@ fn check_undamaged(file: &FilePart, at: usize) -> Result<()>
     Ok(())
 }
 
-/// Returns the refusal of a file for a batch that can be read behind one that can't be.
+/// Returns the error for a file in which no batch can be read at position `at`, but one can at position `sound` after it:
+/// `Corruption`, which names both, or `Memory`.
 pub fn followed(file: &FilePart, at: usize, sound: usize) -> Error
     ensures { IsCorruption (followed_text file.now.id at sound) result }
 {
@@ -191,7 +197,8 @@ pub fn followed(file: &FilePart, at: usize, sound: usize) -> Error
     }
 }
 
-/// Returns the refusal of a file for a batch that is signed for another one.
+/// Returns the error for a file in which no batch can be read at position `at`, but one stands at position `offset` that is
+/// signed for file `seq`: `Corruption`, which names them, or `Memory`.
 pub fn of_elsewhere(file: &FilePart, at: usize, offset: usize, seq: FileSeq) -> Error
     ensures { IsCorruption (elsewhere_text file.now.id at offset seq) result }
 {
@@ -205,7 +212,8 @@ pub fn of_elsewhere(file: &FilePart, at: usize, offset: usize, seq: FileSeq) -> 
     }
 }
 
-/// Refuses a file whose reading stops at its first byte, and that is of the other version or of raft-engine.
+/// Checks that a file at whose first byte no batch can be read (`at` is 0) is neither of the other version nor one of
+/// raft-engine. For any other `at` nothing is checked.
 ///
 /// # Errors
 ///
@@ -227,14 +235,14 @@ pub fn check_beginning(file: &FilePart, at: usize) -> Result<()>
     Ok(())
 }
 
-/// Tests whether a file begins as those of raft-engine do.
+/// Tests whether a file begins with the header of raft-engine's files.
 fn is_of_engine(file: &FilePart) -> bool
     ensures { IsTrue result ↔ IsOfEngine file.now }
 {
     file.bytes().starts_with(ENGINE_HEADER)
 }
 
-/// Returns the refusal of a file of raft-engine.
+/// Returns the error for a file of raft-engine: `InvalidArgument`, which names the place, or `Memory`.
 fn of_engine(file: &FilePart) -> Error
     ensures { IsArgumentRefusal (place_text file.now.id 0 ++ codes "the file is one of raft-engine, which begins with a header") result }
 {
@@ -244,11 +252,11 @@ fn of_engine(file: &FilePart) -> Error
     }
 }
 
-/// Tests whether a batch that can be read in the other version stands at the first byte of a file.
+/// Tests whether at the first byte of a file a batch stands that can be read in the other version.
 ///
 /// # Errors
 ///
-/// `Memory`.
+/// `Memory` alone.
 fn begins_in_other(file: &FilePart) -> Result<bool>
     ensures ok { IfOk result (λ begins. IsTrue begins ↔ BeginsInOther file.now) }
     ensures memory { IfErr result (λ e. e ≡ Error.Memory) }
@@ -263,7 +271,7 @@ fn begins_in_other(file: &FilePart) -> Result<bool>
     }
 }
 
-/// Returns the other version.
+/// Returns the version that `version` isn't.
 fn other(version: Version) -> Version
     ensures { result ≡ other_version version }
 {
@@ -273,7 +281,7 @@ fn other(version: Version) -> Version
     }
 }
 
-/// Returns `Ok` for any error other than `Memory`.
+/// Returns `Ok` for any error other than `Memory`: for calls in which that alone is passed on.
 ///
 /// # Errors
 ///

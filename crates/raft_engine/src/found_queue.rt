@@ -1,4 +1,4 @@
-//! The found files of a queue.
+//! The found files of one queue, and what is missing in them before an engine can write to them.
 
 ghost use Rattle.std.specs.Prelude.{◌≡◌, ◌≢◌, ◌<◌, ◌≤◌, ◌^◌, List, [], ◌∷◌, ◌++◌, length, map, IfErr, IfOk, MatchOption, OnOk};
 ghost use Rattle.raft_base.specs.declared.pipe_log.LogQueue.TheVariants.{Append};
@@ -27,30 +27,33 @@ use raft_recover::file_segments;
 use raft_replay::Segment;
 use std::thread::Threads;
 
-/// The found files of a queue.
+/// The found files of a queue, with all their bytes.
 #[derive(Drop)]
 pub struct FoundQueue {
-    /// A segment of each file, of one part, which has all its bytes.
+    /// A segment for each file, of one part, which has all its bytes.
     pub segments: Vec<Segment>,
-    /// What is known of the files; of the first one, where there is none.
+    /// What is known of the files; without files, of the first one that will be begun.
     pub known: QueueFiles,
 }
 
-/// What is known of a queue's found files that are ready: what is missing before anything can be put behind them, and the files
-/// that are there once that was asked.
+/// What is known of a queue's found files that may be opened: what is missing before anything can be put after them, and the
+/// files as they are once that was asked.
 #[derive(Drop)]
 pub struct ReadyQueue {
+    /// What is missing.
     pub missing: Missing,
+    /// What is known of the files once what is missing was asked.
     pub known: QueueFiles,
 }
 
 impl FoundQueue {
-    /// Makes found files of a queue those to be read. No byte is copied.
+    /// Turns the found files of a queue into segments to be read, and notes what is known of them. `files` are their numbers
+    /// and bytes, oldest first; no byte is copied.
     ///
     /// # Errors
     ///
-    /// `Corruption` where the number of a file isn't one above that of the file before it, which names the first missing one where
-    /// one is missing between two; `Memory`.
+    /// `Corruption` if the number of a file isn't one above that of the file before it; if files are missing between two, the
+    /// text names the first one missing. `Memory`.
     pub fn of(
         queue: LogQueue,
         version: Version,
@@ -65,11 +68,12 @@ impl FoundQueue {
         Ok(FoundQueue { segments, known })
     }
 
-    /// Returns the tail of the last file that can't be read, if it has one.
+    /// Returns the tail of the last file: its bytes from the first one on at which no batch can be read. `None` if all of it
+    /// can be read, or there is no file.
     ///
     /// # Errors
     ///
-    /// `Memory`.
+    /// `Memory` alone.
     pub fn tail(&self) -> Result<Option<CutTail>>
         ensures ok { (queue : LogQueue) (version : Version) (files : List NumberedBytes) → IsFoundQueue queue version files self.now
             → IfOk result (IsTailTold queue version files) }
@@ -81,11 +85,12 @@ impl FoundQueue {
         }
     }
 
-    /// Returns the batches of the last file, which has this tail, whose entries are damaged, by so many workers.
+    /// Returns the batches of the last file, before its `tail`, whose entries are damaged, in order. They are looked for by
+    /// `workers` threads. `tail` is what [`FoundQueue::tail`] returns.
     ///
     /// # Errors
     ///
-    /// `Memory`.
+    /// `Memory` alone.
     pub fn damaged<R: Threads + Sync>(
         &self,
         rt: &R,
@@ -104,11 +109,12 @@ impl FoundQueue {
         }
     }
 
-    /// Does what [`FoundQueue::damaged`] does, without threads.
+    /// Returns the batches of the last file, before its `tail`, whose entries are damaged, in order, as
+    /// [`FoundQueue::damaged`] does, but on the caller's thread. `tail` is what [`FoundQueue::tail`] returns.
     ///
     /// # Errors
     ///
-    /// `Memory`.
+    /// `Memory` alone.
     pub fn damaged_alone(&self, tail: &Option<CutTail>) -> Result<Vec<DamagedBatch>>
         requires { (queue : LogQueue) × (version : Version) × (files : List NumberedBytes)
             × IsFoundQueue queue version files self.now × IsTailTold queue version files tail.now }
@@ -122,8 +128,8 @@ impl FoundQueue {
         }
     }
 
-    /// Checks that the found files may be opened in `mode`, and returns what has to be asked before anything can be put behind
-    /// them (a first file, or the cut of `tail`), what is known of the files once that is done, and their segments, unchanged.
+    /// Checks that the found files may be opened in `mode`. Returns what has to be asked before anything can be put after them
+    /// (a first file, or the cut of `tail`), with what is known of the files once that is done; and their segments, unchanged.
     /// Nothing is asked of the files yet. `tail` is what [`FoundQueue::tail`] returned.
     ///
     /// # Errors
@@ -150,7 +156,7 @@ impl FoundQueue {
     }
 }
 
-/// Returns what is known of `files`, or of the first file that is begun if there is none.
+/// Returns what is known of `files`, or of the first file that will be begun if there is none.
 ///
 /// # Errors
 ///
@@ -166,7 +172,8 @@ fn known_files(files: &Vec<(FileSeq, Vec<u8>)>) -> Result<QueueFiles>
     QueueFiles::of(files)
 }
 
-/// Returns what is known of files once `missing` was asked, given what is known of them before.
+/// Returns what is known of files once `missing` was asked, given what is known of them before: a cut makes the last one
+/// shorter.
 fn known_with(known: QueueFiles, missing: &Missing) -> QueueFiles
     ensures { result ≡ known_with missing.now known }
 {
@@ -189,12 +196,11 @@ pub fn last_part(segments: &[Segment]) -> Option<&FilePart>
     Some(part)
 }
 
-/// Returns what is missing of a queue's files in `segments`, the last of which has `tail`, before anything can be put behind
-/// them.
+/// Returns what is missing in a queue's files before anything can be put after them. The last one of `segments` has `tail`.
 ///
 /// # Errors
 ///
-/// Those of `check_tail` and of `check_blocks`.
+/// Those of [`check_tail`] and of [`check_blocks`].
 fn missing_of(mode: RecoveryMode, segments: &[Segment], tail: Option<CutTail>) -> Result<Missing>
     requires { (queue : LogQueue) × (version : Version) × (files : List NumberedBytes)
         × AreWholeFiles queue version files segments.now × IsTailTold queue version files tail }
@@ -240,11 +246,11 @@ pub fn complete_segments(
     }
 }
 
-/// Adds a segment of the first file of a queue, which is empty.
+/// Adds the segment of a queue's first file, which is empty.
 ///
 /// # Errors
 ///
-/// `Memory`.
+/// `Memory` alone.
 fn add_first(queue: LogQueue, version: Version, segments: &mut Vec<Segment>) -> Result<()>
     ensures ok { OnOk result (AreWholeFiles queue version [] segments.old.items
         → AreWholeFiles queue version ((1, []) ∷ []) segments.new.items) }

@@ -1,4 +1,4 @@
-//! The batches of an atomic group that move a region's rewritten records.
+//! Making the batches of an atomic group that move a region's rewritten records.
 
 ghost use Rattle.std.specs.Prelude.{◌≡◌, ◌≢◌, None, Some, IfOk, IfErr, OnOk, OnErr};
 ghost use Rattle.raft_base.specs.Runs.{IsConsecutive};
@@ -21,13 +21,14 @@ use raft_records::{AtomicGroupBuilder, LogBatch};
 use raft_table::MemTable;
 use std::alloc::Global;
 
-/// Returns the batches of a group of what a table has in rewrite files: a Begin, a batch for each part of the entries, and an
-/// End with the keys. It reads the bytes of the entries, each block of a part once for all neighbors in it.
+/// Returns the batches of the atomic group numbered `group` that move what a table has in rewrite files: a Begin, a batch for
+/// each part of the entries (see [`part_len`]), and an End with the keys. It reads the bytes of the entries, each block of a
+/// part once for all neighbors in it.
 ///
 /// # Errors
 ///
-/// Those of [`read_joined`]; `Full` where the entries of a part have 2^31 bytes or more; `InvalidArgument` for the key of
-/// the group markers. Nothing but reads is asked then.
+/// Those of [`read_joined`]; `Full` if the entries of a part have 2^31 bytes or more; `InvalidArgument` if a key is that of
+/// the group markers; `Memory`. Only reads were asked then.
 pub fn moving_group<F: EngineFiles>(
     alloc: Global,
     files: &mut F,
@@ -57,11 +58,11 @@ pub fn moving_group<F: EngineFiles>(
     Ok(batches)
 }
 
-/// Returns the batch that begins a group: it has nothing else.
+/// Returns the batch that begins the group of `builder`: it has the Begin marker alone.
 ///
 /// # Errors
 ///
-/// `Memory`.
+/// `Memory` alone.
 fn begin_batch(alloc: Global, builder: &mut AtomicGroupBuilder) -> Result<LogBatch>
     requires { builder.old.state ≡ None }
     ensures ok { IfOk result (λ batch. batch ≡ marker_batch builder.old.id Begin) }
@@ -73,12 +74,13 @@ fn begin_batch(alloc: Global, builder: &mut AtomicGroupBuilder) -> Result<LogBat
     Ok(batch)
 }
 
-/// Adds the batches that go on with a group behind others of it: one for each part of a region's entries, which are read.
+/// Adds to `batches` those that go on with the group of `builder`: one for each part of the `entries` of `region`, whose bytes
+/// it reads.
 ///
 /// # Errors
 ///
-/// Those of [`read_joined`]; `Full` where the entries of a part have 2^31 bytes or more. Nothing but reads is asked then, and
-/// some batches may be added.
+/// Those of [`read_joined`]; `Full` if the entries of a part have 2^31 bytes or more. Only reads were asked then, and some
+/// batches may have been added.
 fn push_parts<F: EngineFiles>(
     files: &mut F,
     region: u64,
@@ -105,11 +107,12 @@ fn push_parts<F: EngineFiles>(
     Ok(())
 }
 
-/// Returns a batch that goes on with a group: it has some entries of a region, which are read.
+/// Returns a batch that goes on with the group of `builder`: it has a Middle marker and the `entries` of `region`, whose bytes
+/// it reads.
 ///
 /// # Errors
 ///
-/// Those of [`read_joined`]; `Full` where these bytes are 2^31 or more. Nothing but reads is asked then.
+/// Those of [`read_joined`]; `Full` if the bytes of the entries are 2^31 or more. Only reads were asked then.
 fn part_batch<F: EngineFiles>(
     alloc: Global,
     files: &mut F,
@@ -134,11 +137,11 @@ fn part_batch<F: EngineFiles>(
     Ok(batch)
 }
 
-/// Returns the batch that ends a group, in which keys of a region are put.
+/// Returns the batch that ends the group of `builder`: it has the End marker, and puts the keys of `pairs` in `region`.
 ///
 /// # Errors
 ///
-/// `InvalidArgument` for the key of the group markers, `Memory`.
+/// `InvalidArgument` if a key is that of the group markers; `Memory`.
 fn end_batch(
     alloc: Global,
     region: u64,

@@ -1,4 +1,4 @@
-//! Laws of what is stored of an engine while records move in the batches of an atomic group.
+//! Laws of what the files of an engine store while records move in the batches of an atomic group.
 
 ghost use Rattle.raft_engine.specs.GroupAsks.{BegunGroupsAreStored, EndedGroupsArePut, EndedGroupsAreStored, GroupsGoOnStored, MovedGroupsAreStored};
 
@@ -10,9 +10,9 @@ use raft_engine_prefixes::prefixes::asks_put_batches;
 use raft_history::histories::placed_items_are_in_their_file;
 
 /// States that a batch which begins an atomic group, or goes on with the one that was begun last, changes nothing of what is
-/// stored; and that once the append queue is synced and the rewrite queue is told, rewritten records may move with the batch
-/// that ends it, in the file that the group was begun in: those that the items of all its batches move; also before the tables
-/// take them.
+/// stored. Once the append queue is synced and the rewrite queue is told what batches took away, rewritten records may move
+/// with the batch that ends the group, in the file in which it was begun: those that the items of all its batches move, also
+/// before the tables take them. This is a law: it computes nothing.
 pub fn groups_are_stored()
     ensures begun { BegunGroupsAreStored }
     ensures goes_on { GroupsGoOnStored }
@@ -29,9 +29,9 @@ pub fn groups_are_stored()
     moving_is_safe();
 }
 
-/// States that a region's rewritten records may move to the last file of the rewrite queue in the batches of an atomic group,
-/// which are put one after another: until the End is put what is stored is what was; then some tables are, and those that
-/// take the items of all batches.
+/// States that the rewritten records of a region may move to the last rewrite file in the batches of an atomic group, which
+/// are put one after another. Until the End is put, what is stored stays as it was. From then on other tables are stored, and
+/// so are those that take the items of all batches. This is a law: it computes nothing.
 pub fn moved_groups_are_stored()
     ensures { MovedGroupsAreStored }
 {

@@ -1,4 +1,4 @@
-//! Batches of an atomic group that are put one after another.
+//! Putting the batches of an atomic group one after another.
 
 ghost use Rattle.std.specs.Prelude.{◌≡◌, ◌≢◌, [], map, IfOk, IfErr, OnOk, OnErr};
 ghost use Rattle.std.specs.List.{AllByRecursion};
@@ -14,12 +14,12 @@ use raft_base::{Error, LogFileContext, Result};
 use raft_files::EngineFiles;
 use raft_records::LogBatch;
 
-/// Makes the bytes of batches, which are to be put one after another from an offset on. Returns the batches, and the offset
-/// behind the last one.
+/// Makes the bytes of batches that will be put one after another, from `offset` of a file on. Returns the batches, encoded,
+/// and the offset after the last one.
 ///
 /// # Errors
 ///
-/// `Full` where one would begin past 2^63, or has 2^56 bytes or more; `Memory`. The batches are gone then.
+/// `Full` if one would begin past 2^63, or has 2^56 bytes or more; `Memory`. The batches are gone then.
 pub fn encode_all(batches: Vec<LogBatch>, offset: u64) -> Result<(Vec<LogBatch>, u64)>
     requires opened { AllByRecursion (λ (b : Batch). b.stage ≡ is_open) batches.items }
     requires some { AllByRecursion (λ (b : Batch). b.items ≢ []) batches.items }
@@ -44,12 +44,12 @@ pub fn encode_all(batches: Vec<LogBatch>, offset: u64) -> Result<(Vec<LogBatch>,
     Ok((made, end))
 }
 
-/// Puts encoded batches behind the last file of a queue, one after another from the offset on at which it ends, and gives
-/// their items their places there.
+/// Puts encoded batches after the bytes of `file`, the last one of a queue, which ends at `offset`, one after another. Returns
+/// them with the places of their items there.
 ///
 /// # Errors
 ///
-/// Those of `EngineFiles::append`: the first ones of the batches were put then.
+/// Those of `EngineFiles::append`: the first ones of the batches were put then, and all are gone.
 pub fn put_all<F: EngineFiles>(
     files: &mut F,
     file: &LogFileContext,

@@ -1,4 +1,4 @@
-//! Whether the atomic groups of batches stand in rows.
+//! Whether the atomic groups of batches stand in rows, found out by a machine that batches are replayed into.
 
 ghost use Rattle.std.specs.Prelude.{◌≡◌, ◌≢◌, ◌↔◌, ℕ, List, [], ◌∷◌, ◌++◌, IfErr, IfOk, IsTrue, OnOk, map, None};
 ghost use Rattle.raft_base.specs.declared.pipe_log.LogQueue.TheVariants.{Rewrite};
@@ -16,26 +16,28 @@ use raft_records::{
 };
 use std::alloc::Global;
 
-/// Why files are refused of which a group doesn't stand in a row.
+/// The text of the error for files in which a group doesn't stand in a row.
 pub const OUT_OF_ROW: &str = "the batches of an atomic group don't stand in a row, in one file";
 
-/// A batch by its group marker, if it has one, and the number of its file.
+/// What counts of a batch here: its group marker, if it has one, and its file.
 #[derive(Clone, Copy)]
 pub struct MarkedBatch {
+    /// The number of the group, and which of its batches it is.
     pub marker: Option<(u64, AtomicGroupStatus)>,
+    /// The number of the file.
     pub seq: FileSeq,
 }
 
-/// What is known of the atomic groups of batches, so that neighbors know of both together whether each group stands in a row:
-/// whether each batch that goes on with a group or ends it stands right behind one that begins that group or goes on with it,
-/// in the same file.
+/// A summary of the atomic groups of neighboring batches, from which follows whether each group stands in a row: whether each
+/// batch that goes on with a group or ends it stands directly after one that begins that group or goes on with it, in the same
+/// file. The summaries of neighbors can be joined.
 #[derive(Drop)]
 pub struct GroupRows {
-    /// The first batch.
+    /// The first batch; `None` if there is no batch.
     pub first: Option<MarkedBatch>,
     /// The group that the last batch leaves open, and the number of its file.
     pub left: Option<(u64, FileSeq)>,
-    /// Whether each batch behind the first may stand where it does.
+    /// Whether each batch after the first may stand where it does.
     pub rest_stands: bool,
 }
 
@@ -51,7 +53,7 @@ impl GroupRows {
         }
     }
 
-    /// Returns what is known of one batch.
+    /// Returns the summary of one batch.
     fn of_batch(batch: MarkedBatch) -> GroupRows
         ensures { (e : Event) → IsMarkedAs e batch → IsSummaryOf (rows_shown result) (e ∷ []) }
     {
@@ -62,7 +64,7 @@ impl GroupRows {
         }
     }
 
-    /// Tests whether each atomic group of the batches stands in a row.
+    /// Tests whether each atomic group of the batches stands in a row, if none comes before them.
     pub fn stand(&self) -> bool
         ensures { (h : List Event) → IsSummaryOf (rows_shown self.now) h → (IsTrue result ↔ AreGroupsInRows h) }
     {
@@ -72,7 +74,7 @@ impl GroupRows {
         }
     }
 
-    /// Takes in what is known of the batches behind.
+    /// Takes in `newer`, the summary of the batches that follow.
     fn join(&mut self, newer: GroupRows)
         ensures { AreJoined (rows_shown self.old) (rows_shown newer) (rows_shown self.new) }
     {
@@ -92,6 +94,11 @@ impl ReplayMachine for GroupRows {
 
     ghost stands_exactly = { λ rows h. IsSummaryOf (rows_shown rows) h };
 
+    /// Takes in a batch: of its items only the first group marker counts.
+    ///
+    /// # Errors
+    ///
+    /// `Corruption` if the marker's status is unknown; `Memory`. Nothing is taken in then.
     fn replay(&mut self, batch: LogItemBatch, file_id: FileId) -> Result<()> {
         let items = batch.into_items();
         let marker = group_marker(*items.allocator(), file_id.queue, items.as_slice())?;
@@ -102,6 +109,11 @@ impl ReplayMachine for GroupRows {
         Ok(())
     }
 
+    /// Takes in a batch that is borrowed. It is copied only if it may have a group marker.
+    ///
+    /// # Errors
+    ///
+    /// `Corruption` if the marker's status is unknown; `Memory`. Nothing is taken in then.
     fn replay_read(&mut self, batch: &ReadBatch<'_>, file_id: FileId) -> Result<()> {
         if is_unmarked(batch, file_id.queue) {
             self.join(GroupRows::of_batch(MarkedBatch {
@@ -114,6 +126,7 @@ impl ReplayMachine for GroupRows {
         self.replay(own, file_id)
     }
 
+    /// Takes in the summary of the batches that follow. It never fails.
     fn merge(&mut self, rhs: GroupRows, _queue: LogQueue) -> Result<()> {
         self.join(rhs);
         Ok(())
@@ -122,7 +135,7 @@ impl ReplayMachine for GroupRows {
     ghost exact_stands = { λ rows h stands. stands };
 }
 
-/// Makes machines that know of no batch.
+/// Makes summaries of no batch.
 #[derive(Drop)]
 pub struct GroupRowsFactory;
 
@@ -131,12 +144,14 @@ impl Factory<GroupRows> for GroupRowsFactory {
 
     ghost may_refuse = { λ _ e. ⊥ };
 
+    /// Makes the summary of no batch. It never fails.
     fn new_target(&self, _alloc: Global) -> Result<GroupRows> {
         Ok(GroupRows::new())
     }
 }
 
-/// Tests whether a batch of a queue as it was read has no group marker. `false` says nothing of it.
+/// Tests whether a batch of `queue`, as it was read, surely has no group marker: `false` says nothing. Batches of the append
+/// queue have none.
 fn is_unmarked(batch: &ReadBatch<'_>, queue: LogQueue) -> bool
     ensures { IsTrue result → marker_in queue batch.now ≡ None }
 {
@@ -149,14 +164,14 @@ fn is_unmarked(batch: &ReadBatch<'_>, queue: LogQueue) -> bool
     }
 }
 
-/// Tests whether none of `items` is a group marker, so far as their keys tell.
+/// Tests whether surely none of `items` is a group marker, by their keys: `false` says nothing.
 fn have_no_marker(items: &[ReadItem<'_>]) -> bool
     ensures { IsTrue result → AreUnmarked items.now }
 {
     items.iter().all(|item| is_no_marker(item))
 }
 
-/// Tests whether an item puts no reserved key, so that it is no group marker.
+/// Tests whether an item is surely no group marker: it puts no reserved key.
 fn is_no_marker(item: &ReadItem<'_>) -> bool
     ensures { IsTrue result → IsUnmarked item.now }
 {
@@ -166,11 +181,12 @@ fn is_no_marker(item: &ReadItem<'_>) -> bool
     }
 }
 
-/// Returns the group marker of a batch of a queue: its first one; none in the append queue.
+/// Returns the group marker of a batch of `queue`: its first one, if there are more. `None` if it has none, or is of the
+/// append queue.
 ///
 /// # Errors
 ///
-/// `Corruption` where its status is unknown, `Memory`.
+/// `Corruption` if the marker's status is unknown; `Memory`.
 fn group_marker(
     alloc: Global,
     queue: LogQueue,
@@ -191,7 +207,7 @@ fn group_marker(
 ///
 /// # Errors
 ///
-/// `Corruption` where its status is unknown, `Memory`.
+/// `Corruption` if a marker's status is unknown; `Memory`.
 fn first_marker(alloc: Global, items: &[LogItem]) -> Result<Option<(u64, AtomicGroupStatus)>>
     ensures ok { IfOk result
         (λ marker. marker_shown marker ≡ marker_in Rewrite (map item_of items.now)) }
@@ -207,7 +223,8 @@ fn first_marker(alloc: Global, items: &[LogItem]) -> Result<Option<(u64, AtomicG
     Ok(None)
 }
 
-/// Tests whether `batch` may stand right behind one that leaves the group `left` open, or none for `None`.
+/// Tests whether `batch` may stand directly after one that leaves the group `left` open; `None` if it leaves none open, or no
+/// batch comes before.
 fn may_stand(batch: MarkedBatch, left: Option<(u64, FileSeq)>) -> bool
     ensures { IsTrue result ↔ MayStandBy (marker_shown batch.marker) batch.seq left }
 {

@@ -1,4 +1,4 @@
-//! Atomic groups in the files that are found.
+//! The check of the atomic groups in the files that are found.
 
 ghost use Rattle.std.specs.Prelude.{◌≢◌, IfErr, OnOk};
 ghost use Rattle.raft_replay.specs.Segments.{SegmentsHold};
@@ -9,12 +9,12 @@ use raft_base::{Error, Result};
 use raft_replay::{Segment, replay_segment};
 use std::alloc::Global;
 
-/// Tests whether each atomic group of the batches of segments stands in a row: whether each batch that goes on with a group
-/// or ends it stands right behind one that begins that group or goes on with it, in the same file.
+/// Checks that each atomic group of the batches of `segments` stands in a row: each batch that goes on with a group or ends it
+/// stands directly after one that begins that group or goes on with it, in the same file.
 ///
 /// # Errors
 ///
-/// `InvalidArgument` where one doesn't; `Memory`; those of `replay_segment` where the segments can't be read.
+/// `InvalidArgument` if one doesn't; `Memory`; those of `replay_segment` if the segments can't be read.
 pub fn check_groups(alloc: Global, segments: &[Segment]) -> Result<()>
     ensures ok { OnOk result (HaveRows (SegmentsHold segments.now)) }
     ensures fault { IfErr result

@@ -1,12 +1,13 @@
-//! Numbers that hold for the files of both queues.
+//! Numbers and limits that hold for the files of both queues.
 
 use raft_base::FileSeq;
 
 /// The number of each queue's first file.
 pub const FIRST_SEQ: FileSeq = 1;
 
-/// The greatest offset at which a batch is put.
+/// The greatest offset in a file at which a batch is put.
 pub const LAST_OFFSET: u64 = 1 << 63;
 
-/// The most bytes that the entries of a batch have together which moves records, unless it has one entry alone.
+/// The greatest number of bytes that the entries of a batch which moves records have together, unless they are all of one
+/// block.
 pub const MAX_REWRITE_BATCH_BYTES: u64 = 4 * 1024;

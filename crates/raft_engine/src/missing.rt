@@ -1,4 +1,4 @@
-//! What is missing of found files.
+//! What is missing in found files before an engine can write to them.
 
 ghost use Rattle.std.specs.Prelude.{◌≡◌, ◌++◌, IfErr, OnOk};
 ghost use Rattle.raft_engine.specs.CutTails.{tail_of};
@@ -9,19 +9,20 @@ use crate::recovered::CutTail;
 use raft_base::{LogQueue, Result};
 use raft_files::EngineFiles;
 
-/// What is missing of a queue's found files before anything can be put behind them.
+/// What is missing in a queue's found files before anything can be put after them.
 #[derive(Drop)]
 pub enum Missing {
-    /// Nothing: the last file ends with its batches.
+    /// Nothing: all of the last file can be read.
     Nothing,
-    /// A first file.
+    /// A first file: the queue has none.
     FirstFile,
     /// The cut of this torn tail, which leaves the last file the bytes before it.
     Cut(CutTail),
 }
 
 impl Missing {
-    /// Asks the files of `queue` for what is missing; for nothing if nothing is.
+    /// Asks `files` for what is missing in `queue`: begins the first file, or cuts the last one. Asks nothing if nothing is
+    /// missing.
     ///
     /// # Errors
     ///
@@ -38,7 +39,7 @@ impl Missing {
         }
     }
 
-    /// Returns the torn tail that is missing, if one is.
+    /// Returns the torn tail whose cut is missing; `None` if nothing is missing, or a first file is.
     pub fn tail(self) -> Option<CutTail>
         ensures { result ≡ tail_of self }
     {

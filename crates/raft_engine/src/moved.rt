@@ -1,4 +1,4 @@
-//! Laws of what is stored of an engine whose records move.
+//! A law of what the files of an engine store while its records move.
 
 ghost use Rattle.raft_engine.specs.MovedAsks.{MovedBatchesAreStored, PutBatchesAreStored, ReadsAreStored};
 
@@ -9,8 +9,9 @@ use raft_engine_prefixes::done::asks_do_deeds;
 use raft_engine_prefixes::prefixes::asks_put_batches;
 use raft_history::histories::placed_items_are_in_their_file;
 
-/// States that a read leaves what is stored; and that once the append queue is synced and the rewrite queue is told, records of
-/// a region may move to the rewrite queue, or from its files to the last one, with one batch.
+/// States that a read leaves what is stored as it is. Once the append queue is synced, and the rewrite queue is told what
+/// batches took away, records of a region may move in one batch: to the rewrite queue, or from rewrite files to the last one.
+/// This is a law: it computes nothing.
 pub fn moves_are_stored()
     ensures read { ReadsAreStored }
     ensures moved { MovedBatchesAreStored }

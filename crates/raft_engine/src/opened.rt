@@ -9,8 +9,8 @@ use crate::reading::Reading;
 use raft_base::{FileId, LogFileContext, LogQueue, Result, Version};
 use raft_files::EngineFiles;
 
-/// Asks what a reading of found files says: what is missing of the append queue, and of the rewrite queue; and the rewrite
-/// queue is told what it is to be told.
+/// Asks what a reading of found files says is missing: first of the append queue, then of the rewrite queue. Then it puts the
+/// batch `reading.told`, if it has items, after the bytes of the last rewrite file, and syncs that queue.
 ///
 /// # Errors
 ///
@@ -32,7 +32,8 @@ pub fn complete<F: EngineFiles>(
     tell(files, version, reading)
 }
 
-/// Puts what the rewrite queue is to be told behind its last file and syncs the queue, if there is anything to tell.
+/// Puts the batch that the rewrite queue has to be told at once after the bytes of its last file, and syncs the queue; nothing
+/// is asked if the batch is without items.
 ///
 /// # Errors
 ///

@@ -1,4 +1,4 @@
-//! Parts of a region's entries, each for one batch.
+//! Dividing the entries of a region that move into parts, one for each batch.
 
 ghost use Rattle.std.specs.Prelude.{◌≡◌, ◌<◌, ◌^◌, ◌↔◌, IsTrue};
 ghost use Rattle.raft_engine.specs.Parts.{IsCapped, IsFirstBlock, IsFirstPart};
@@ -6,8 +6,8 @@ ghost use Rattle.raft_engine.specs.Parts.{IsCapped, IsFirstBlock, IsFirstPart};
 use crate::limits::MAX_REWRITE_BATCH_BYTES;
 use raft_base::{EntryIndex, FileBlockHandle};
 
-/// Returns how many of the entries are the first part: those of as many blocks as have [`MAX_REWRITE_BATCH_BYTES`] together at
-/// most, and of the first block at least.
+/// Returns how many of `entries`, from the first one on, go into the next batch. These are the entries of as many blocks as
+/// have [`MAX_REWRITE_BATCH_BYTES`] together at most, and always those of the first block. 0 without entries.
 pub fn part_len(entries: &[EntryIndex]) -> usize
     ensures { IsFirstPart entries.now result }
 {
@@ -27,7 +27,8 @@ pub fn part_len(entries: &[EntryIndex]) -> usize
     len
 }
 
-/// Returns how many of the entries stand in the block of the first one, up to the first that doesn't.
+/// Returns how many of `entries`, from the first one on, stand in the block of the first entry. It stops at the first one in
+/// another block.
 fn block_len(entries: &[EntryIndex]) -> usize
     ensures { IsFirstBlock entries.now result }
 {
@@ -44,14 +45,15 @@ fn block_len(entries: &[EntryIndex]) -> usize
     len
 }
 
-/// Tests whether `place` is the block in which an entry stands.
+/// Tests whether the entry stands in the block at `place`; for `None` whether it has no place.
 fn stands_at(entry: &EntryIndex, place: Option<FileBlockHandle>) -> bool
     ensures { IsTrue result ↔ (entry.now.entries ≡ place) }
 {
     entry.entries == place
 }
 
-/// Returns how many bytes entries have together, or, where these are more than [`MAX_REWRITE_BATCH_BYTES`], some number above it.
+/// Returns how many bytes `entries` have together. If these are more than [`MAX_REWRITE_BATCH_BYTES`], it returns some number
+/// above that.
 pub(crate) fn bytes_of(entries: &[EntryIndex]) -> u64
     ensures capped { IsCapped result entries.now }
     ensures small { result < 2 ^ 33 }

@@ -1,4 +1,4 @@
-//! Files that no table needs.
+//! Finding and deleting the files that no table needs.
 
 ghost use Rattle.std.specs.Prelude.{◌≡◌, ◌≤◌, ◌++◌, map, IfErr, IfOk, OnOk};
 ghost use Rattle.std.specs.Vec.{vec_len};
@@ -12,11 +12,12 @@ use raft_base::{Error, FileSeq, LogQueue, Result};
 use raft_files::EngineFiles;
 use raft_table::MemTable;
 
-/// Returns the least number of a file of the queue that a table needs, or `last`, if that is less.
+/// Returns the least file number that a table needs in `queue`, or `last` if that is less, or no table needs a file there.
+/// Which file a table needs is said by `MemTable::min_file_seq`.
 ///
 /// # Errors
 ///
-/// `Memory`.
+/// `Memory` alone.
 pub fn least_needed(accessor: &MemTableAccessor, queue: LogQueue, last: FileSeq) -> Result<FileSeq>
     ensures ok { IfOk result (λ least. IsLeastNeeded queue accessor.now.tables last least) }
     ensures memory { IfErr result (λ e. e ≡ Error.Memory) }
@@ -25,7 +26,8 @@ pub fn least_needed(accessor: &MemTableAccessor, queue: LogQueue, last: FileSeq)
     Ok(least_among(tables.as_slice(), queue, last))
 }
 
-/// Returns the least number of a file of the queue that one of `tables` needs, or `last`, if that is less.
+/// Returns the least file number that one of `tables` has in `queue` (`MemTable::min_file_seq`), or `last` if that is less, or
+/// none has a record there.
 fn least_among(tables: &[&MemTable], queue: LogQueue, last: FileSeq) -> FileSeq
     ensures { result ≡ least_among queue last (map (λ t. t.now) tables.now) }
 {
@@ -38,7 +40,7 @@ fn least_among(tables: &[&MemTable], queue: LogQueue, last: FileSeq) -> FileSeq
     least
 }
 
-/// Returns how many of `seqs`, from the first one on, are below `least`.
+/// Returns how many of `seqs`, from the first one on, are below `least`: it stops at the first that isn't.
 pub fn count_below(seqs: &[FileSeq], least: FileSeq) -> usize
     ensures { result ≡ front_below least seqs.now }
 {
@@ -52,11 +54,12 @@ pub fn count_below(seqs: &[FileSeq], least: FileSeq) -> usize
     count
 }
 
-/// Deletes the `count` oldest files of the queue, and takes their numbers off its list.
+/// Deletes the `count` oldest files of `queue`, and takes their numbers off the list of closed files of that queue, which is
+/// `append` or `rewrite`.
 ///
 /// # Errors
 ///
-/// Those of `EngineFiles::delete_oldest`. Some were deleted then, and both lists are as they were.
+/// Those of `EngineFiles::delete_oldest`. Some files were deleted then, and both lists are unchanged.
 pub fn delete_oldest<F: EngineFiles>(
     files: &mut F,
     queue: LogQueue,

@@ -1,4 +1,4 @@
-//! A batch that is put behind the bytes of a file.
+//! Putting a batch after the bytes of a queue's last file.
 
 ghost use Rattle.std.specs.Prelude.{◌≡◌, ◌≤◌, ◌^◌, [], ◌++◌, IfErr, OnOk, OnErr};
 ghost use Rattle.raft_records.specs.LogBatch.{encoded, encoded_length};
@@ -12,12 +12,12 @@ use raft_base::{FileBlockHandle, LogFileContext, LogQueue, Result};
 use raft_files::EngineFiles;
 use raft_records::LogBatch;
 
-/// Puts an encoded batch of `len` bytes behind the last file of a queue, which ends at `offset`, and gives its items their
-/// places there.
+/// Puts an encoded batch of `len` bytes after those of `file`, the last one of a queue, which ends at `offset`. The batch is
+/// signed for the file before, and its items get their places there afterwards.
 ///
 /// # Errors
 ///
-/// Those of `EngineFiles::append`.
+/// Those of `EngineFiles::append`. Some of the bytes may be in the file then, and the items have no places.
 pub fn put<F: EngineFiles>(
     files: &mut F,
     file: &LogFileContext,
@@ -46,11 +46,12 @@ pub fn put<F: EngineFiles>(
     Ok(())
 }
 
-/// Puts an encoded batch of `len` bytes behind the last file of a queue, which ends at `offset`, if it has items.
+/// Puts an encoded batch of `len` bytes after those of `file`, the last one of a queue, which ends at `offset`, as [`put`]
+/// does, if the batch has items. Without items it asks nothing.
 ///
 /// # Errors
 ///
-/// Those of `EngineFiles::append`.
+/// Those of `EngineFiles::append`. Some of the bytes may be in the file then.
 pub fn put_items<F: EngineFiles>(
     files: &mut F,
     file: &LogFileContext,
@@ -71,7 +72,7 @@ pub fn put_items<F: EngineFiles>(
     put(files, file, offset, batch, len)
 }
 
-/// Syncs the append queue, if that is wanted.
+/// Syncs the append queue if `sync` is set; else asks nothing.
 ///
 /// # Errors
 ///

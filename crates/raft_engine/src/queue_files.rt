@@ -15,13 +15,13 @@ use std::alloc::Global;
 pub struct QueueFiles {
     /// The numbers of all but the last one, oldest first.
     pub closed: Vec<FileSeq>,
-    /// The number of the last one.
+    /// The number of the last one, to which batches are written.
     pub seq: FileSeq,
-    /// How many bytes the last one has.
+    /// The length of the last one in bytes.
     pub len: u64,
 }
 
-/// Returns which of `append` and `rewrite` are the files of `queue`.
+/// Returns that one of `append` and `rewrite` which is about `queue`.
 pub fn files_known<'a>(
     queue: LogQueue,
     append: &'a QueueFiles,
@@ -51,11 +51,11 @@ impl QueueFiles {
         }
     }
 
-    /// Returns what is known of a queue that has `files`, one at least.
+    /// Returns what is known of a queue that has `files`, oldest first; there must be one at least.
     ///
     /// # Errors
     ///
-    /// `Memory`.
+    /// `Memory` alone.
     pub fn of(files: &Vec<(FileSeq, Vec<u8>)>) -> Result<QueueFiles>
         requires { 0 < length files.now.items }
         ensures ok { IfOk result (AreOf (map file_shown files.now.items)) }
@@ -77,11 +77,12 @@ impl QueueFiles {
         })
     }
 
-    /// Lists the last file among the closed ones, before another is begun.
+    /// Lists the last file among the closed ones, before another is begun. The number and the length of the last file stay as
+    /// they are.
     ///
     /// # Errors
     ///
-    /// `Full` where it has the greatest number, `Memory`. The list is then as it was.
+    /// `Full` if it has the greatest number; `Memory`. The list is unchanged then.
     pub fn close_last(&mut self) -> Result<()>
         ensures ok { OnOk result (self.new.closed.items ≡ self.old.closed.items ++ self.old.seq ∷ []) }
         ensures below { OnOk result (self.old.seq < 2 ^ 64 - 1) }
@@ -97,11 +98,11 @@ impl QueueFiles {
         Ok(())
     }
 
-    /// Syncs the queue, and begins a file of the next number in it, which is the last one then.
+    /// Syncs `queue`, and begins the file with the next number in it, which is the last one then.
     ///
     /// # Errors
     ///
-    /// Those of `EngineFiles::sync` and `EngineFiles::rotate`.
+    /// Those of `EngineFiles::sync` and `EngineFiles::rotate`. The list of closed files is unchanged.
     pub fn begin_next<F: EngineFiles>(&mut self, files: &mut F, queue: LogQueue) -> Result<()>
         requires { self.old.seq < 2 ^ 64 - 1 }
         ensures ok { OnOk result (F.asked files.new
@@ -120,7 +121,7 @@ impl QueueFiles {
         Ok(())
     }
 
-    /// Returns what the list is allocated by.
+    /// Returns the allocator of the list.
     pub fn allocator(&self) -> Global {
         *self.closed.allocator()
     }

@@ -1,4 +1,4 @@
-//! The files of a queue, replayed by workers up to where the reading of the last one stops.
+//! Replaying the files of a queue by workers, up to where the reading of the last one stops.
 
 ghost use Rattle.std.specs.Prelude.{◌≡◌, ◌<◌, ◌≤◌, List, [], ◌∷◌, ◌++◌, IfOk, MatchOption};
 ghost use Rattle.raft_base.specs.declared.pipe_log.Version.{Version};
@@ -19,22 +19,24 @@ use raft_replay::{OpenGate, Segment, replay_accepted};
 use std::alloc::Global;
 use std::thread::Threads;
 
-/// About how many bytes a share has at least: for fewer a further piece costs more than its worker saves.
+/// The least number of bytes, about, that a share has: for fewer a further piece costs more than its worker saves.
 pub const LEAST_SHARE: usize = 1 << 20;
 
-/// What the reading of a queue's files gives: a machine that has replayed their batches, up to the tail of the last file.
+/// What the reading of a queue's files gives.
 #[derive(Drop)]
 pub struct QueueRead<M> {
+    /// The machine that has replayed their batches, up to the tail of the last file.
     pub machine: M,
+    /// The tail of the last file; `None` if all of it can be read, or there is no file.
     pub tail: Option<CutTail>,
 }
 
-/// Replays the files of a queue, a segment each, by `workers` threads: first all but the last one, then that one, up to the first
-/// batch of it that can't be read.
+/// Replays the files of a queue, a segment each, by `workers` threads: first all but the last one, then that one, up to the
+/// first byte of it at which no batch can be read.
 ///
 /// # Errors
 ///
-/// `Memory`, the factory's own and those of the machine; `Corruption`, `Codec` or `Io` where a batch of another file than the last
+/// `Memory`, those of the factory and of the machine; `Corruption`, `Codec` or `Io` if a batch of another file than the last
 /// can't be read.
 pub fn read_queue<M: ReplayMachine, F: Factory<M>, R: Threads + Sync>(
     rt: &R,
@@ -63,8 +65,13 @@ pub fn read_queue<M: ReplayMachine, F: Factory<M>, R: Threads + Sync>(
     Ok(QueueRead { machine, tail })
 }
 
-/// Replays the last file of a queue into the machine of those before it: by several workers, if it is long, who can where it ends
-/// with its batches, and else up to the first batch that can't be read.
+/// Replays the last file of a queue into `machine`, which has replayed those before it. Returns its tail, `None` if all of it
+/// can be read. A long file is first tried by several workers, who can replay it only if all of it can be read; else it is
+/// replayed by the caller's thread, up to the first byte at which no batch can be read.
+///
+/// # Errors
+///
+/// `Memory`, those of the factory and of the machine. Some of the batches may have been replayed then.
 fn read_last<M: ReplayMachine, F: Factory<M>, R: Threads + Sync>(
     rt: &R,
     alloc: Global,
@@ -95,7 +102,12 @@ fn read_last<M: ReplayMachine, F: Factory<M>, R: Threads + Sync>(
     }
 }
 
-/// Replays segments that end with a batch, in equal shares by `workers` threads.
+/// Replays segments without a tail, in shares of about the same size by `workers` threads, and returns the machine that has
+/// replayed them all.
+///
+/// # Errors
+///
+/// `Memory`, those of the factory and of the machine; `Corruption`, `Codec` or `Io` if a batch can't be read.
 fn replay_shares<M: ReplayMachine, F: Factory<M>, R: Threads + Sync>(
     rt: &R,
     alloc: Global,
@@ -120,7 +132,7 @@ fn replay_shares<M: ReplayMachine, F: Factory<M>, R: Threads + Sync>(
     )
 }
 
-/// Returns how many bytes all parts hold, capped at 2^64 - 1.
+/// Returns how many bytes all segments have together, at most `usize::MAX`.
 pub fn bytes_of(segments: &[Segment]) -> usize {
     let mut bytes = 0usize;
     for segment in segments {

@@ -1,4 +1,4 @@
-//! Laws of tables that are read back of the append files.
+//! Laws of the tables that the append files give when they are read back.
 
 ghost use Rattle.raft_engine.specs.ReadBack.{MovedBatchesAreReadBack, MovedGroupsAreReadBack, WrittenBatchesAreReadBack};
 ghost use Rattle.raft_engine.specs.RoundTrip.{ReadBackIsRoundTrip};
@@ -14,8 +14,9 @@ use raft_history::histories::{
 };
 use raft_recover::files_hold_few_records;
 
-/// States that what the append files hold is read back as the tables: with a batch more, as the tables that take it; and
-/// where records move to the rewrite queue, in one batch or in a group, as before, so that only places differ.
+/// States that the append files are read back as the engine's tables. With a batch more they are read back as the tables that
+/// take it. If records move to the rewrite queue, in one batch or in a group, they are read back as before, so that only
+/// places differ. These are laws: they compute nothing.
 pub fn batches_are_read_back()
     ensures written { WrittenBatchesAreReadBack }
     ensures moved { MovedBatchesAreReadBack }
@@ -28,8 +29,8 @@ pub fn batches_are_read_back()
     readings_go_on();
 }
 
-/// States that tables which are read back of the append files are those that a recovery gives of these files, and that a
-/// stop leaves those of a prefix of the batches in them. This is a law: it computes nothing.
+/// States that tables which are read back from the append files are those that a recovery gives of these files, and that a
+/// crash leaves those of a prefix of the batches in them. This is a law: it computes nothing.
 pub fn what_is_read_back_is_recovered()
     ensures { ReadBackIsRoundTrip }
 {

@@ -1,4 +1,4 @@
-//! The replay of a file up to where its reading stops.
+//! Replaying a file up to where its reading stops.
 
 ghost use Rattle.std.specs.Prelude.{◌≡◌, ◌≢◌, ◌+◌, ◌<◌, ◌^◌, length, drop, IfOk, IfSome, MatchOption};
 ghost use Rattle.raft_base.specs.Signature.{signature_of};
@@ -15,8 +15,8 @@ use raft_history::ReplayMachine;
 use raft_records::{FilePart, ReadBatch};
 use std::alloc::Global;
 
-/// Replays the batches of a whole file up to the first one that can't be read, and returns the tail from there on; `None` if the
-/// file ends with a batch.
+/// Replays the batches of a whole file up to the first byte at which no batch can be read. Returns the tail from there on;
+/// `None` if all of the file can be read.
 ///
 /// # Errors
 ///
@@ -39,8 +39,9 @@ pub fn replay_whole<M: ReplayMachine>(machine: &mut M, file: &FilePart) -> Resul
     Ok(Some(CutTail::from(file, at, error)))
 }
 
-/// Replays the batches at the start of `bytes`, which stand in `file` from `offset` on, up to the first one that can't be read.
-/// Returns how many bytes they have, and why the next one can't be read; `None` if `bytes` end with a batch.
+/// Replays the batches at the start of `bytes`, which stand in `file` from `offset` on, up to the first byte at which no batch
+/// can be read. Returns how many bytes these batches have, and the error for which the next one can't be read, which may be
+/// `Memory`; `None` if all of `bytes` can be read.
 ///
 /// # Errors
 ///

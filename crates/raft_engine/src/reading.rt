@@ -1,4 +1,4 @@
-//! What the reading of found files gives.
+//! Reading found files, and what that gives.
 
 ghost use Rattle.std.specs.Prelude.{◌≡◌, ◌≢◌, ◌⊎◌, List, map, IfErr, IfOk, OnOk};
 ghost use Rattle.raft_base.specs.declared.pipe_log.LogQueue.TheVariants.{Append, Rewrite};
@@ -32,33 +32,44 @@ use raft_replay::{Segment, segments_read_as_one_history};
 use std::alloc::Global;
 use std::thread::Threads;
 
-/// What is known of found files of both queues that are ready.
+/// What is known of the found files of both queues that may be opened.
 #[derive(Drop)]
 pub struct Ready {
+    /// What is known of the append files.
     pub append: ReadyQueue,
+    /// What is known of the rewrite files.
     pub rewrite: ReadyQueue,
 }
 
-/// Found files of both queues that are ready, and segments of the files that are there once what is missing was asked.
+/// Found files of both queues that may be opened, with their segments.
 #[derive(Drop)]
 pub struct ReadySegments {
+    /// What is known of the files.
     pub ready: Ready,
+    /// The segments of the append files.
     pub append: Vec<Segment>,
+    /// The segments of the rewrite files.
     pub rewrite: Vec<Segment>,
 }
 
-/// What the reading of found files gives, before anything is asked of them: what is missing of each queue, the files that
-/// are there once that was asked, their tables, and what the rewrite queue is to be told, at once or later.
+/// What the reading of found files gives, before anything is asked of them: what is missing in each queue, the files that are
+/// there once that was asked, their tables, and what the rewrite queue is to be told, at once or later. To tell it means to
+/// put a batch there of commands and deletions, which say what the append files took away of rewritten records.
 #[derive(Drop)]
 pub struct Reading {
+    /// What is missing in the append queue.
     pub append_missing: Missing,
+    /// What is missing in the rewrite queue.
     pub rewrite_missing: Missing,
+    /// The append files that are there once what is missing was asked.
     pub append: QueueFiles,
+    /// The rewrite files that are there once what is missing was asked.
     pub rewrite: QueueFiles,
+    /// The tables of all regions, with the cleaned regions and the live counts.
     pub accessor: MemTableAccessor,
-    /// What the rewrite queue is to be told at once, as bytes.
+    /// What the rewrite queue is to be told at once, as an encoded batch.
     pub told: LogBatch,
-    /// How many bytes that has.
+    /// The length of that batch in bytes; 0 if it has no items.
     pub told_len: usize,
     /// What the rewrite queue may be told later.
     pub untold: LogBatch,
@@ -67,13 +78,15 @@ pub struct Reading {
 /// What the reading of found files gives, and which batches of the last append file have damaged entries.
 #[derive(Drop)]
 pub struct ReadFiles {
+    /// What the reading gives.
     pub reading: Reading,
+    /// The batches of the last append file with damaged entries, in order.
     pub damaged: Vec<DamagedBatch>,
 }
 
 impl Ready {
-    /// Checks that the found files of both queues may be opened in `mode`. `append_tail` and `rewrite_tail` are what
-    /// [`FoundQueue::tail`] returned of each queue.
+    /// Checks that the found files of both queues may be opened in `mode`. Returns what is known of them, and their segments,
+    /// unchanged. `append_tail` and `rewrite_tail` are what [`FoundQueue::tail`] returned of each queue.
     ///
     /// # Errors
     ///
@@ -111,12 +124,13 @@ impl Ready {
         })
     }
 
-    /// Puts the context that has read the append files over that of the rewrite files, and makes what the rewrite queue is to be
-    /// told of what the former takes away.
+    /// Puts `appended`, the context that has read the append files, over `rewritten`, that of the rewrite files, and finds out
+    /// what the rewrite queue has to be told of what the append files take away. Returns all that the reading of these files
+    /// gives.
     ///
     /// # Errors
     ///
-    /// `Full` where what is to be told at once has 2^56 bytes or more; `Memory`.
+    /// `Full` if what has to be told at once has 2^56 bytes or more; `Memory`. The contexts are gone then.
     pub fn with_contexts(
         self,
         alloc: Global,
@@ -152,13 +166,13 @@ impl Ready {
 }
 
 impl ReadySegments {
-    /// Checks that the found files of both queues may be opened in `mode`, and turns their segments into those of the files that
-    /// are there once what is missing was asked. `append_tail` is what [`FoundQueue::tail`] returned of the append queue; the
-    /// last rewrite file is read here to find its tail.
+    /// Checks that the found files of both queues may be opened in `mode`, and turns their segments into those of the files
+    /// that are there once what is missing was asked. `append_tail` is what [`FoundQueue::tail`] returned of the append queue;
+    /// the last rewrite file is read here to find its tail.
     ///
     /// # Errors
     ///
-    /// Those of `Ready::of`; `Full` if the files of a queue have 2^63 bytes or more then.
+    /// Those of [`FoundQueue::ready`]; `Full` if the files of a queue have 2^63 bytes or more then.
     fn of(
         mode: RecoveryMode,
         version: Version,
@@ -197,13 +211,14 @@ impl ReadySegments {
     }
 }
 
-/// Reads found files, each byte once, and recovers the tables of those that are there once what is missing was asked; and checks the
-/// entries of the last append file.
+/// Reads found files by `workers` threads, each byte once, and recovers the tables of those that are there once what is
+/// missing was asked. It also checks the entries of the last append file. `append` and `rewrite` are the numbers and bytes of
+/// each queue's files, oldest first.
 ///
 /// # Errors
 ///
-/// Those of `FoundQueue::of` and of `Ready::of`, and those of [`read_again`]: where a reading is refused the files are read once
-/// more, since a tail that a mode refuses comes before any other refusal.
+/// Those of [`FoundQueue::of`] and of [`FoundQueue::ready`], and those of [`read_again`]: if the files are refused they are
+/// read once more, since the error must be that of a tail which `mode` refuses, if there is one, before any other.
 pub fn read_found<R: Threads + Sync>(
     rt: &R,
     alloc: Global,
@@ -240,12 +255,12 @@ pub fn read_found<R: Threads + Sync>(
     Ok(ReadFiles { reading, damaged })
 }
 
-/// Reads found files that a reading refused, to say why.
+/// Reads found files that a reading has refused once more, in the order in which errors have to be reported.
 ///
 /// # Errors
 ///
-/// Those of `ReadySegments::of` and of `replay_both`; `InvalidArgument` where an atomic group of the rewrite files doesn't stand
-/// in a row, in one file; `Full` where what is to be told at once has 2^56 bytes or more; `Memory`.
+/// Those of `ReadySegments::of` and of `replay_both`; `InvalidArgument` if an atomic group of the rewrite files doesn't stand
+/// in a row, in one file; `Full` if what has to be told at once has 2^56 bytes or more; `Memory`.
 fn read_again<R: Threads + Sync>(
     rt: &R,
     alloc: Global,
@@ -279,11 +294,13 @@ fn read_again<R: Threads + Sync>(
     Ok(ReadFiles { reading, damaged })
 }
 
-/// Reads found files as [`read_found`] does, with the contexts that read them.
+/// Returns what the reading of found files gives, as [`read_found`] does, from contexts of the caller: `appended` has read the
+/// batches of the append files and `rewritten` those of the rewrite files, each up to the tail of the last file. It starts no
+/// threads.
 ///
 /// # Errors
 ///
-/// Those of [`read_found`], but for `replay_both`.
+/// Those of [`read_found`], but never for a batch that can't be read or can't follow, nor for the number of workers.
 pub fn read_over(
     alloc: Global,
     mode: RecoveryMode,

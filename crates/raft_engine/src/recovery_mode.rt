@@ -1,18 +1,18 @@
-//! What an opening does where a queue's last file can't be read to its end.
+//! What an opening does if a queue's last file can't be read to its end.
 
-/// What an opening does where a queue's last file can't be read to its end: which tails it cuts off, and which it refuses.
+/// What an opening does if a queue's last file can't be read to its end: which tails it cuts off, and which it refuses.
 ///
-/// In no mode a file is missing between two, a file but the last one of its queue can't be read, or a last file is of the other
-/// version: such files are refused.
+/// Each mode refuses files if one is missing between two, if one but the last of its queue can't be read, or if a last file is
+/// of the other version.
 #[derive(Clone, Copy, PartialEq, Eq, Debug)]
 pub enum RecoveryMode {
     /// Nothing is cut off: whatever can't be read is refused, with its place.
     AbsoluteConsistency,
-    /// Cut off is what a crash can leave: what stands from the first batch on that can't be read, if that can be all that is left of
-    /// one batch, or no batch stands behind. Anything else is damage, which is refused.
+    /// What a crash can leave is cut off: all from the first byte on at which no batch can be read, if that can be all that is
+    /// left of one batch, or if no batch stands after it. Anything else is damage, which is refused.
     TolerateTornTail,
-    /// All is cut off from the first batch on that can't be read, whatever stands behind it. This loses sound batches where the
-    /// file is damaged: a choice for those who looked at the file.
+    /// All is cut off from the first byte on at which no batch can be read, whatever stands after it. This loses sound batches
+    /// if the file is damaged: a choice for those who have looked at the file.
     TolerateTailCorruption,
 }
 

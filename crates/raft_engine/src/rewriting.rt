@@ -1,4 +1,5 @@
-//! Batches that move records of a region to the rewrite queue.
+//! Making batches that move records of a region to the rewrite queue. With a gate, which is the number of an append file, the
+//! records move that are in append files numbered at or below it; without one those that are in rewrite files.
 
 ghost use Rattle.std.specs.Prelude.{◌≡◌, ◌≢◌, length, map, IfOk, IfErr, None, OnOk, OnErr};
 ghost use Rattle.raft_base.specs.Runs.{IsConsecutive};
@@ -20,12 +21,12 @@ use raft_records::LogBatch;
 use raft_table::MemTable;
 use std::alloc::Global;
 
-/// Returns the entries of a table that move past a gate: the appended ones, from the first on while their file is at or below
-/// it; without a gate those that are rewritten already.
+/// Returns the entries of a table that move. With a gate these are the appended ones, from the first one on while their file
+/// is numbered at or below it; without one those that are in rewrite files.
 ///
 /// # Errors
 ///
-/// `Memory`.
+/// `Memory` alone.
 pub fn entries_to_move(
     alloc: Global,
     table: &MemTable,
@@ -49,12 +50,12 @@ pub fn entries_to_move(
     }
 }
 
-/// Returns the keys of a table, with their values, whose pairs move past a gate: those in append files at or below it; without
-/// a gate those that are rewritten already.
+/// Returns the keys of a table that move, with their values. With a gate these are those in append files numbered at or below
+/// it; without one those in rewrite files.
 ///
 /// # Errors
 ///
-/// `Memory`.
+/// `Memory` alone.
 pub fn pairs_to_move(
     alloc: Global,
     table: &MemTable,
@@ -76,11 +77,11 @@ pub fn pairs_to_move(
     }
 }
 
-/// Puts keys of a region in a batch, one after another.
+/// Adds to `batch` that the keys of `pairs` get their values in `region`, in order.
 ///
 /// # Errors
 ///
-/// `InvalidArgument` for the key of the group markers, `Memory`.
+/// `InvalidArgument` if a key is that of the group markers; `Memory`. The pairs before it may have been added then.
 pub fn put_pairs(batch: &mut LogBatch, region: u64, pairs: Vec<(Vec<u8>, Vec<u8>)>) -> Result<()>
     requires { batch.old.stage ≡ is_open }
     ensures ok { OnOk result (batch.new ≡ with_puts batch.old region (pairs_shown pairs.items)) }
@@ -94,7 +95,8 @@ pub fn put_pairs(batch: &mut LogBatch, region: u64, pairs: Vec<(Vec<u8>, Vec<u8>
     Ok(())
 }
 
-/// Returns how many of the entries that move are in the next batch: past a gate those of the first part, without a gate all.
+/// Returns how many of the entries that move, from the first one on, are in the next batch: with a gate those of the first
+/// part (see [`part_len`]), without one all.
 pub fn batch_len(entries: &[EntryIndex], gate: Option<FileSeq>) -> usize
     ensures part { gate ≢ None → IsFirstPart entries.now result }
     ensures all { gate ≡ None → result ≡ length entries.now }
@@ -105,13 +107,13 @@ pub fn batch_len(entries: &[EntryIndex], gate: Option<FileSeq>) -> usize
     }
 }
 
-/// Returns a batch of the next ones of what of a table moves past a gate (what it has in append files at or below it; without a
-/// gate what it has in rewrite files): of a part of the entries, whose bytes it reads, each block once for all neighbors in it;
-/// and, where no entries are left behind them, of the keys.
+/// Returns the next batch that moves records of a table: with the entries `part`, whose bytes it reads, each block once for
+/// all neighbors in it; and with all keys that move, if no entries are `left` after these.
 ///
 /// # Errors
 ///
-/// Those of [`read_joined`]; `Full` where these bytes are 2^31 or more; `InvalidArgument` for the key of the group markers.
+/// Those of [`read_joined`]; `Full` if the bytes of the entries are 2^31 or more; `InvalidArgument` if a key is that of the
+/// group markers; `Memory`. Only reads were asked then.
 pub fn moving_batch<F: EngineFiles>(
     alloc: Global,
     files: &mut F,
@@ -137,12 +139,12 @@ pub fn moving_batch<F: EngineFiles>(
     Ok(batch)
 }
 
-/// Returns the keys, with their values, that go into a batch of a table that moves: all of those that move up to the gate if
-/// `left` is empty, so that no batch follows, else none.
+/// Returns the keys, with their values, that go into a batch of a table that moves: all that move if `left` is empty, so that
+/// no batch follows, else none.
 ///
 /// # Errors
 ///
-/// `Memory`.
+/// `Memory` alone.
 fn batch_pairs(
     alloc: Global,
     table: &MemTable,
@@ -160,11 +162,11 @@ fn batch_pairs(
     }
 }
 
-/// Returns the regions of all tables, in no set order.
+/// Returns the ids of all regions that have a table, in no set order.
 ///
 /// # Errors
 ///
-/// `Memory`.
+/// `Memory` alone.
 pub fn regions_of(accessor: &MemTableAccessor) -> Result<Vec<u64>>
     ensures ok { IfOk result (λ regions. AreRegions accessor.now.tables regions.items) }
     ensures memory { IfErr result (λ e. e ≡ Error.Memory) }
@@ -173,11 +175,11 @@ pub fn regions_of(accessor: &MemTableAccessor) -> Result<Vec<u64>>
     ids_of(*tables.allocator(), tables.as_slice())
 }
 
-/// Returns the regions of tables, in order.
+/// Returns the region ids of `tables`, in their order.
 ///
 /// # Errors
 ///
-/// `Memory`.
+/// `Memory` alone.
 fn ids_of(alloc: Global, tables: &[&MemTable]) -> Result<Vec<u64>>
     ensures ok { IfOk result (λ ids. ids.items ≡ map (λ t. t.now.region_id) tables.now) }
     ensures memory { IfErr result (λ e. e ≡ Error.Memory) }

@@ -1,4 +1,4 @@
-//! How many bytes the segments of a queue have.
+//! The limit on how many bytes the segments of a queue have.
 
 ghost use Rattle.std.specs.Prelude.{◌≡◌, ◌≤◌, ◌<◌, ◌+◌, ◌^◌, IfErr, MatchOption, OnOk};
 ghost use Rattle.raft_replay.specs.WrittenParts.{bytes_of_parts, bytes_of_segments};
@@ -6,11 +6,11 @@ ghost use Rattle.raft_replay.specs.WrittenParts.{bytes_of_parts, bytes_of_segmen
 use raft_base::{Error, Result};
 use raft_replay::Segment;
 
-/// Checks that segments have fewer than 2^63 bytes together.
+/// Checks that `segments` have fewer than 2^63 bytes together.
 ///
 /// # Errors
 ///
-/// `Full` if they have more.
+/// `Full` alone, if they have as many or more.
 pub fn check_few(segments: &[Segment]) -> Result<()>
     ensures ok { OnOk result (bytes_of_segments segments.now < 2 ^ 63) }
     ensures fault { IfErr result (λ e. (2 ^ 63 ≤ bytes_of_segments segments.now) × (e ≡ Error.Full)) }
@@ -25,7 +25,7 @@ pub fn check_few(segments: &[Segment]) -> Result<()>
     Ok(())
 }
 
-/// Returns `count` less the number of bytes that `segment` has; `None` if it has more.
+/// Returns `count` less the number of bytes that `segment` has; `None` if it has more than `count`.
 fn bytes_left(segment: &Segment, count: u64) -> Option<u64>
     ensures { MatchOption result (count < bytes_of_parts segment.now.items)
         (λ left. left + bytes_of_parts segment.now.items ≡ count) }

@@ -1,4 +1,5 @@
-//! Laws of what is stored of an engine.
+//! Laws of what the files of an engine store, and of what each ask makes of it. An ask is what an engine asked of its files by
+//! a call of `EngineFiles`.
 
 ghost use Rattle.raft_base.specs.declared.pipe_log.LogQueue.TheVariants.{Append, Rewrite};
 ghost use Rattle.raft_engine.specs.StoredAsks.{DeletionsAreStored, FailedSyncsAreStored, FirstFilesAreStored, NewFilesAreStored, SyncsAreStored, ToldBatchesAreStored, WhatIsDoneLasts, WrittenBatchesAreStored};
@@ -17,8 +18,9 @@ use raft_engine_prefixes::done::{asks_do_deeds, files_that_are_left_hold_what_ma
 use raft_engine_prefixes::prefixes::{asks_put_batches, files_that_stand_hold_a_prefix};
 use raft_history::histories::placed_items_are_in_their_file;
 
-/// States that where no crash loses anything of what was done to both queues, the batches that were put last: whatever is
-/// left of the files has the records of a prefix of them, with the synced ones at least.
+/// States that the batches that were put outlast a crash, if no crash loses anything of what was done to both queues: whatever
+/// is left of the files has the records of a prefix of them, with the synced ones at least. This is a law: it computes
+/// nothing.
 pub fn what_is_done_lasts()
     ensures { WhatIsDoneLasts }
 {
@@ -27,11 +29,16 @@ pub fn what_is_done_lasts()
     files_that_stand_hold_a_prefix();
 }
 
-/// States what each ask makes of what is stored: the first files are stored as no tables; a sync, also one that fails, and a new
-/// file change nothing of it; a batch that is put behind the append queue's last file is stored as the tables that take it, and what
-/// it takes away is untold; once the append queue is synced, the rewrite queue may be told; and then, with both queues
-/// synced, files of either may be deleted that no table needs. No group of the rewrite queue ends in another file than that in
-/// which it begins, so none is torn by it.
+/// States what each ask makes of what is stored:
+/// - The first files are stored as no tables.
+/// - A sync, also one that fails, and a new file change nothing of what is stored.
+/// - A batch that is put after the bytes of the last append file is stored as the tables that take it, and what it takes away
+///   is untold: the rewrite queue doesn't say so yet.
+/// - Once the append queue is synced, the rewrite queue may be told what is untold, by a batch of commands and deletions.
+/// - Then, with both queues synced, files of either may be deleted that no table needs. No group of the rewrite queue ends in
+///   another file than that in which it begins, so none is torn by it.
+///
+/// This is a law: it computes nothing.
 pub fn asks_are_stored()
     ensures first { FirstFilesAreStored }
     ensures synced { SyncsAreStored }

@@ -1,4 +1,5 @@
-//! What the rewrite queue isn't told of a batch.
+//! Finding out what items take away of the tables, which the rewrite queue has to be told before files are deleted or records
+//! move.
 
 ghost use Rattle.std.specs.Prelude.{◌≡◌, [], ◌∷◌, ◌++◌, IfErr, IfOk, OnOk, map};
 ghost use Rattle.std.specs.FinMap as finite;
@@ -13,12 +14,13 @@ use raft_base::{EntryIndex, Error, Result};
 use raft_records::{Command, KeyValue, LogBatch, LogItem, LogItemContent, OpType};
 use std::alloc::Global;
 
-/// Returns what items take away of the tables that they are written to, as a batch that tells it: each command, each
-/// deletion of a key, and each run that begins below the end of its table as the truncation there.
+/// Returns what `items` take away of the tables to which they will be written, as a batch that tells it: each command, each
+/// deletion of a key, and, for each run of entries that begins below the end of its table, the truncation there. Other items
+/// take nothing away.
 ///
 /// # Errors
 ///
-/// `Memory`.
+/// `Memory` alone.
 pub fn taken_away(alloc: Global, accessor: &MemTableAccessor, items: &[LogItem]) -> Result<LogBatch>
     ensures ok { IfOk result (λ taken. taken ≡ record empty_batch {
       items = told_items (taking_items accessor.now.tables (map item_of items.now));
@@ -32,11 +34,11 @@ pub fn taken_away(alloc: Global, accessor: &MemTableAccessor, items: &[LogItem])
     Ok(taken)
 }
 
-/// Adds what an item takes away.
+/// Adds to `taken` what one item takes away.
 ///
 /// # Errors
 ///
-/// `Memory`.
+/// `Memory` alone. Nothing is added then.
 fn tell_item(taken: &mut LogBatch, accessor: &MemTableAccessor, item: &LogItem) -> Result<()>
     requires { taken.old.stage ≡ is_open }
     ensures ok { OnOk result (taken.new ≡ record taken.old {
@@ -55,11 +57,11 @@ fn tell_item(taken: &mut LogBatch, accessor: &MemTableAccessor, item: &LogItem) 
     }
 }
 
-/// Adds the truncation at the first index of entries, if they begin below the end of their table.
+/// Adds to `taken` the truncation at the first index of `run`, if that is below the end of the region's table; else nothing.
 ///
 /// # Errors
 ///
-/// `Memory`.
+/// `Memory` alone. Nothing is added then.
 fn tell_run(
     taken: &mut LogBatch,
     accessor: &MemTableAccessor,
@@ -83,7 +85,7 @@ fn tell_run(
     Ok(())
 }
 
-/// Returns the end of the entries of a region's table, 0 without entries.
+/// Returns the index after the last entry of a region's table, or 0 if it has no table.
 fn end_in(accessor: &MemTableAccessor, region: u64) -> u64
     ensures { result ≡ end_of (table_of region (finite.get accessor.now.tables region)).entries }
 {
@@ -93,11 +95,11 @@ fn end_in(accessor: &MemTableAccessor, region: u64) -> u64
     }
 }
 
-/// Adds the deletion of a key to a batch, if it is one.
+/// Adds to `told` the deletion of a key, if `change` is one; a put takes nothing away.
 ///
 /// # Errors
 ///
-/// `Memory`.
+/// `Memory` alone. Nothing is added then.
 fn tell_pair(region: u64, change: &KeyValue, told: &mut LogBatch) -> Result<()>
     requires { told.old.stage ≡ is_open }
     ensures ok { OnOk result (told.new ≡ record told.old {

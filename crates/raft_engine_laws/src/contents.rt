@@ -1,4 +1,5 @@
-//! The law of the bytes of entries, which a `content` may stand for.
+//! A law on the bytes of entries. Other laws are about any function from entries to bytes, `content`; this
+//! one says that the bytes in the files are such a function.
 
 ghost use Rattle.std.specs.Prelude.{ℕ, ◌+◌, List, ◌∷◌, ◌++◌, length, drop, Option};
 ghost use Rattle.std.specs.List.{concat};
@@ -10,9 +11,9 @@ ghost use Rattle.raft_records.specs.ItemBatch.{with_offsets_from};
 ghost use Rattle.raft_records.specs.LogBatch.{entry_block, log_batch_bytes};
 ghost use Rattle.raft_engine_laws.specs.Contents.{HaveBytes};
 
-/// States that the bytes of entries are read where they were written. If a batch with items was written
-/// behind other bytes, its entry bytes are read at the place of its entries, whatever comes behind; and in
-/// these each entry that was added has its byte string.
+/// States that the bytes of entries are read where they were written. If a batch with items was written after
+/// other bytes, its entry bytes are read at the place of its entries, whatever bytes follow; and among these
+/// each entry that was added has its byte string. This is a law: it computes nothing.
 pub fn written_entries_are_read()
     ensures block { (signature : Option ℕ) (item : Item) (items : List Item) (es old rest : List ℕ)
         → IsEntryBlockOf (length (entry_block es))

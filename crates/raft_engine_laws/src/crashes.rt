@@ -1,4 +1,11 @@
-//! Laws of an engine that may crash at any moment: what a restart finds then, and what may be done to the queues.
+//! Laws of an engine that may crash at any moment: what a restart finds then, and what may be done to the two
+//! queues.
+//!
+//! A *deed* (`Deed`) is what was done to a queue: a batch was written, all was synced, files were deleted, or
+//! the machine crashed. The deeds of both queues are *safe* (`IsSafe`) if the engine's tables have the
+//! records that all written batches make, and whatever a crash leaves of the files is read as the records of
+//! those batches of the append queue that it left. A step of the append queue is *untold* until a batch of
+//! the rewrite queue takes away what the step takes away; *telling* is to write such a batch.
 
 ghost use Rattle.std.specs.Prelude.{◌≡◌, ℕ, List, [], ◌∷◌, ◌++◌, Some, None, flat_map};
 ghost use Rattle.std.specs.FinMap as finite;
@@ -21,19 +28,19 @@ ghost use Rattle.raft_engine_laws.specs.Records.{Records, no_base, live, HaveRec
 ghost use Rattle.raft_engine_laws.specs.Crashes.{Deed, Write, Sync, Delete, Crash, written, synced, MayStand, MayBeGone, in_files_from, AreInFileOf, FilesEndNoOlderGroup, IsSynced, IsLeft, IsNextIn, LoseNothing, IsSafe};
 ghost use Rattle.raft_engine_laws.specs.Telling.{AreRemovals, SayEnough, SayEnoughAtOpening, SayTheSame, taking_steps};
 
-/// States what is found whenever the machine crashes, if what was done to both queues is safe. Whatever is
-/// left of both queues, each by itself, can be read. The reading of both has the records that there were
-/// before, as those batches of the append queue change them that the crash left: all that were synced, and a
-/// prefix of those written since. So only a batch that is written changes records, and it is found whole or
-/// not at all.
+/// States what is found whenever the machine crashes, if the deeds of both queues are safe. Whatever is left
+/// of both queues, each by itself, can be read. The reading of both has the records that there were at first,
+/// as changed by those batches of the append queue that the crash left: all that were synced, and a prefix of
+/// those written since. So only a written batch changes records, and after a crash it is there whole or not
+/// at all. This is a law: it computes nothing.
 pub fn nothing_is_lost()
     ensures { (content : EntryIndex → List ℕ) (base : ℕ → Records) (appended rewritten : List Deed) (untold : List RegionStep)
         (tables : Tables) → IsSafe content base appended rewritten untold tables
         → LoseNothing content base appended rewritten }
 {}
 
-/// States what a crash may leave of a queue: exactly the prefixes of what was written that have all that was
-/// synced.
+/// States what a crash may leave of a queue: exactly the prefixes of the written batches that have all synced
+/// ones. This is a law: it computes nothing.
 pub fn prefixes_may_stand()
     ensures front { (deeds : List Deed) (more lost : List Event) → written deeds ≡ (synced deeds ++ more) ++ lost
         → MayStand deeds (synced deeds ++ more) }
@@ -41,14 +48,14 @@ pub fn prefixes_may_stand()
         → (more : List Event) × (lost : List Event) × (h ≡ synced deeds ++ more) × (written deeds ≡ h ++ lost) }
 {}
 
-/// States that two queues to which nothing was done are safe.
+/// States that two queues to which nothing was done are safe. This is a law: it computes nothing.
 pub fn empty_queues_are_safe()
     ensures { (content : EntryIndex → List ℕ) → IsSafe content no_base [] [] [] finite.empty }
 {}
 
-/// States that a batch that the tables take may be written to the append queue at any time. Its steps are
-/// then *untold*: the rewrite queue doesn't know yet what they take away. Of them only those have to be told
-/// that take something away from the tables: no put, and no run behind all entries of its region.
+/// States that a batch that the tables accept may be written to the append queue at any time. Its steps are
+/// untold then. Of them only those have to be told that take something away from the tables: no put, and no
+/// run that begins after all entries of its region. This is a law: it computes nothing.
 pub fn writing_is_safe()
     ensures all { (content : EntryIndex → List ℕ) (base : ℕ → Records) (appended rewritten : List Deed) (untold : List RegionStep)
         (tables new : Tables) (e : Event) → IsSafe content base appended rewritten untold tables
@@ -60,7 +67,7 @@ pub fn writing_is_safe()
         → IsSafe content base (Write e ∷ appended) rewritten (untold ++ taking_steps tables (steps_of_items e.items)) new }
 {}
 
-/// States that each queue may be synced at any time.
+/// States that each queue may be synced at any time. This is a law: it computes nothing.
 pub fn syncing_is_safe()
     ensures append { (content : EntryIndex → List ℕ) (base : ℕ → Records) (appended rewritten : List Deed) (untold : List RegionStep)
         (tables : Tables) → IsSafe content base appended rewritten untold tables
@@ -70,10 +77,10 @@ pub fn syncing_is_safe()
         → IsSafe content base appended (Sync ∷ rewritten) untold tables }
 {}
 
-/// States when the rewrite queue may be told, by a batch, what untold steps take away. Once the append queue
-/// is synced, it may be told all of it or some. Other steps may stand for the untold ones if they say the
-/// same. Steps needn't be told that take away nothing of what the rewrite files give, whichever of these are
-/// gone.
+/// States when the rewrite queue may be told, by a batch, what untold steps take away: all of it or some,
+/// once the append queue is synced. Other steps may stand for the untold ones if they say the same. Steps
+/// needn't be told that take away nothing of what the rewrite files give, whichever of these files are gone.
+/// This is a law: it computes nothing.
 pub fn telling_is_safe()
     ensures told { (content : EntryIndex → List ℕ) (base : ℕ → Records) (appended rewritten : List Deed) (untold : List RegionStep)
         (tables : Tables) (e : Event) → IsSafe content base appended rewritten untold tables
@@ -93,8 +100,8 @@ pub fn telling_is_safe()
         → IsSafe content base appended rewritten fewer tables }
 {}
 
-/// States that a batch that begins a group, or goes on with one, may be written to the rewrite queue at any
-/// time.
+/// States that a batch that begins an atomic group, or goes on with one, may be written to the rewrite queue
+/// at any time. This is a law: it computes nothing.
 pub fn open_groups_are_safe()
     ensures { (content : EntryIndex → List ℕ) (base : ℕ → Records) (appended rewritten : List Deed) (untold : List RegionStep)
         (tables : Tables) (e : Event) → IsSafe content base appended rewritten untold tables
@@ -106,7 +113,7 @@ pub fn open_groups_are_safe()
 /// They move with one batch, or with the last batch of a whole group, if their places are right whichever
 /// rewrite files may be deleted by then (clause `records`). A batch with copies of one region's records may
 /// move them. So may copies of rewritten records of any regions, in one batch, or in a group whose batches
-/// follow one another in one file.
+/// follow one another in one file. This is a law: it computes nothing.
 pub fn moving_is_safe()
     ensures records { (content : EntryIndex → List ℕ) (base : ℕ → Records) (appended rewritten : List Deed) (tables new : Tables) (e : Event)
         → IsSafe content base appended rewritten [] tables → IsNextIn Rewrite rewritten e → IsSynced appended
@@ -137,9 +144,9 @@ pub fn moving_is_safe()
         → IsSafe content base appended (Write e ∷ rewritten) [] new }
 {}
 
-/// States when files may be deleted: once no step is untold and both queues are synced, those of a queue
-/// below a number that isn't above any table's least file there. In the rewrite queue the files that stay
-/// must end no group that began in those that go.
+/// States when files may be deleted: those of a queue below a number, once no step is untold, both queues are
+/// synced, and the least file of each table in the queue is at that number or above. In the rewrite queue the
+/// files that stay must end no group that began in those that go. This is a law: it computes nothing.
 pub fn deleting_is_safe()
     ensures append { (content : EntryIndex → List ℕ) (base : ℕ → Records) (appended rewritten : List Deed) (tables : Tables) (n : ℕ)
         → IsSafe content base appended rewritten [] tables → IsSynced appended → IsSynced rewritten
@@ -151,18 +158,20 @@ pub fn deleting_is_safe()
         → IsSafe content base appended (Delete n ∷ rewritten) [] tables }
 {}
 
-/// States that if each group is in one file, the files that stay end no group that began in those that go,
-/// wherever the latter end.
+/// States that if each group is in one file, the files that stay end no group that began in the deleted ones,
+/// wherever these end. This is a law: it computes nothing.
 pub fn groups_in_one_file_let_files_go()
     ensures none { FilesEndNoOlderGroup [] }
     ensures more { (h k : List Event) (seq : ℕ) → FilesEndNoOlderGroup h → AreInFileOf seq k → EndNoOlderGroup k
         → FilesEndNoOlderGroup (h ++ k) }
 {}
 
-/// States that an engine may go on after a crash with the tables that it finds. What is in the append files
-/// that are left is untold then. From then on the contents of entries may be told otherwise, and so the
-/// records that there were before, if by these the tables have the records too: so a batch that was lost says
-/// nothing of what is put in its place later.
+/// States that after a crash an engine may go on with the tables that it finds. The steps in the append files
+/// that are left are untold then.
+///
+/// From then on another function may say the bytes of entries (`content`), with other records at first, if
+/// the tables that were found have their records by these too. So a batch that was lost says nothing of what
+/// is put in its place later. This is a law: it computes nothing.
 pub fn restarting_is_safe()
     ensures same { (content : EntryIndex → List ℕ) (base : ℕ → Records) (appended rewritten : List Deed)
         (untold : List RegionStep) (tables found : Tables) → IsSafe content base appended rewritten untold tables
@@ -182,11 +191,13 @@ pub fn restarting_is_safe()
 {}
 
 /// States when an engine may go on with the tables that it finds in any sound files, whoever wrote them. The
-/// rewrite queue has to be told what the append files take away from the rewritten tables and, as a
-/// compaction, what lies before the entries that were found, and to be synced. If there is nothing to tell,
-/// the engine may go on at once. If the append files leave no rewritten entry before those that were found,
-/// in all regions or in some, that may be told later. The records that there were before are then those found
-/// ones that no batch of the append files makes. No crash until then loses anything.
+/// rewrite queue has to be told what the append files take away from the rewritten tables and, by a
+/// compaction, what lies before the entries that were found; then it has to be synced. If there is nothing to
+/// tell, the engine may go on at once. If the append files leave no rewritten entry before those that were
+/// found, in all regions or in some, that may be told later.
+///
+/// The records that there were at first are then those found ones that no batch of the append files makes. No
+/// crash until then loses anything. This is a law: it computes nothing.
 pub fn opening_is_safe()
     ensures told { (append rewrite : List Event) (found : Tables) (cleaned : List ℕ) (e : Event)
         → IsSoundIn Append append → IsSoundIn Rewrite rewrite → Apart rewrite

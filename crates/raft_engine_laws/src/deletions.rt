@@ -1,4 +1,5 @@
-//! Laws of files that are deleted, the oldest first.
+//! A law on files that are deleted, the oldest first. *Kept* tables (`AreKept`) are those of an engine,
+//! beside the batches of its files and the steps that the rewrite queue hasn't been told.
 
 ghost use Rattle.std.specs.Prelude.{ℕ, List, [], ◌++◌};
 ghost use Rattle.raft_base.specs.declared.entry_index.EntryIndex.{EntryIndex};
@@ -9,9 +10,9 @@ ghost use Rattle.raft_engine_laws.specs.DeletedFiles.{AreFilesBelow, AreLeastFro
 ghost use Rattle.raft_engine_laws.specs.Groups.{EndNoOlderGroup};
 ghost use Rattle.raft_engine_laws.specs.KeptTables.{AreKept};
 
-/// States that tables are still kept without the files of a queue below a number that isn't above any table's
-/// least file there, once no step is untold. In the rewrite queue the files that stay must end no group that
-/// began in those that go.
+/// States that tables are still kept without the files of a queue below a number, once no step is untold and
+/// the least file of each table in the queue is at that number or above. In the rewrite queue the files that
+/// stay must end no group that began in those that go. This is a law: it computes nothing.
 pub fn files_below_the_least_may_go()
     ensures append { (content : EntryIndex → List ℕ) (n : ℕ) (gone append rewrite : List Event)
         (tables : Tables) → AreKept content (gone ++ append) rewrite [] tables → AreFilesBelow n gone

@@ -1,4 +1,6 @@
-//! Laws of atomic groups in the rewrite files.
+//! Laws of atomic groups in the rewrite files: batches that take effect together, from one with a `Begin` to
+//! one with the `End`. An *effect* is a whole group, or a batch without a group marker. Two effects are
+//! *apart* if they don't overlap or name no common region.
 
 ghost use Rattle.std.specs.Prelude.{◌≡◌, ◌⊎◌, ℕ, List, [], ◌∷◌, ◌++◌, flat_map};
 ghost use Rattle.std.specs.List.{AllByRecursion};
@@ -14,8 +16,8 @@ ghost use Rattle.raft_engine_laws.specs.KeptTables.{AreKept};
 ghost use Rattle.raft_engine_laws.specs.NextBatches.{IsRewrittenNext};
 ghost use Rattle.raft_engine_laws.specs.Crashes.{Deed, written, AreInFileOf, FilesEndNoOlderGroup, IsLeft};
 
-/// States that tables are still kept after a batch of the rewrite queue that begins a group or goes on with
-/// one.
+/// States that an engine's tables are still kept after a batch of the rewrite queue that begins a group or
+/// goes on with one: such a batch has no effect yet. This is a law: it computes nothing.
 pub fn open_groups_change_nothing()
     ensures { (content : EntryIndex → List ℕ) (append rewrite : List Event)
         (untold : List RegionStep) (tables : Tables) (e : Event)
@@ -24,8 +26,8 @@ pub fn open_groups_change_nothing()
 {}
 
 /// States that the effects of a history stay apart with one more batch without a group marker, with one that
-/// leaves its group open, and with a whole group whose batches follow one another; and which steps each of
-/// these adds.
+/// leaves its group open, and with a whole group whose batches follow one another. It also says which steps
+/// each of these adds. This is a law: it computes nothing.
 pub fn groups_stand_together()
     ensures alone { (h : List Event) (e : Event) → HasNoMarker e → Apart h → Apart (h ++ e ∷ []) }
     ensures alone_steps { (h : List Event) (e : Event) → HasNoMarker e
@@ -40,10 +42,10 @@ pub fn groups_stand_together()
         ≡ steps_of r (batches h) ++ whole_steps r (flat_map (λ e. steps_of_items e.items) (begin ∷ (middles ++ end ∷ []))) begin.file.seq end.file.seq }
 {}
 
-/// States which batches end no group that began before them: none at all, a batch without a group marker, one
-/// that leaves its group open, a whole group whose batches follow one another, and two such lists of batches
+/// States which lists of batches end no group that began before them: the empty one, a batch without a group
+/// marker, one that leaves its group open, a whole group whose batches follow one another, and two such lists
 /// one after the other. So the files of an engine that keeps each group in one file end no group of an older
-/// file.
+/// file. This is a law: it computes nothing.
 pub fn groups_in_one_file_end_no_older_group()
     ensures none { EndNoOlderGroup [] }
     ensures alone { (e : Event) → HasNoMarker e → EndNoOlderGroup (e ∷ []) }
@@ -55,10 +57,10 @@ pub fn groups_in_one_file_end_no_older_group()
 {}
 
 /// States what holds of batches if each group is in a *row*, that is in batches that follow one another in
-/// one file. The effects of the batches are apart, and wherever deleted files end, the files that stay end no
-/// group of the deleted ones. The batches that a crash leaves have their groups in rows again. So have the
-/// batches with one more that has no group marker, that begins a group, or that is a Middle or the End of the
-/// group of the last row.
+/// one file. Their effects are apart, and wherever deleted files end, the files that stay end no group of the
+/// deleted ones. The batches that a crash leaves have their groups in rows again. So have the batches with
+/// one more that has no group marker, that begins a group, or that is a Middle or the End of the group of the
+/// last row. This is a law: it computes nothing.
 pub fn groups_stay_in_rows()
     ensures none { AreGroupsInRows [] }
     ensures apart { (h : List Event) → AreGroupsInRows h → Apart h }

@@ -1,4 +1,5 @@
-//! Laws of kept tables: what they are at first, what recovery finds of them, and which files they need.
+//! Laws of *kept* tables (`AreKept`): those of an engine, beside the batches of its append and rewrite files,
+//! and the steps that the rewrite queue hasn't been told (*untold* ones).
 
 ghost use Rattle.std.specs.Prelude.{ℕ, List, []};
 ghost use Rattle.std.specs.FinMap as finite;
@@ -12,13 +13,14 @@ ghost use Rattle.raft_engine_laws.specs.DeletedFiles.{AreLeastFrom, NeedsNoneBel
 ghost use Rattle.raft_engine_laws.specs.KeptTables.{AreKept};
 ghost use Rattle.raft_engine_laws.specs.MovedRecords.{AreFound};
 
-/// States that without a file no tables are kept.
+/// States that empty tables are kept where there are no batches. This is a law: it computes nothing.
 pub fn without_files_there_are_no_tables()
     ensures { (content : EntryIndex → List ℕ) → AreKept content [] [] [] finite.empty }
 {}
 
-/// States that recovery of both queues finds the records of kept tables, whatever else the files hold; only
-/// places and files may be others, if they moved to the rewrite queue.
+/// States that recovery of both queues finds the records of kept tables, whatever else the files hold. Only
+/// places and files of records may differ, if they moved to the rewrite queue. This is a law: it computes
+/// nothing.
 pub fn kept_tables_are_found()
     ensures { (content : EntryIndex → List ℕ) (append rewrite : List Event)
         (untold : List RegionStep) (tables found : Tables) (cleaned : List ℕ)
@@ -26,8 +28,9 @@ pub fn kept_tables_are_found()
         → IsReadingOfBoth rewrite append found cleaned → AreFound content tables found }
 {}
 
-/// States that no record of a kept table is in a file of a queue below a number that isn't above any table's
-/// least file there; in the rewrite queue, once no step is untold.
+/// States which files of a queue kept tables don't need: no record of a table is in a file below a number if
+/// the least file of each table is at that number or above. For the rewrite queue no step may be untold. This
+/// is a law: it computes nothing.
 pub fn kept_tables_need_their_files()
     ensures append { (content : EntryIndex → List ℕ) (append rewrite : List Event)
         (untold : List RegionStep) (tables : Tables) → AreKept content append rewrite untold tables

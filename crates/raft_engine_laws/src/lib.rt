@@ -1,4 +1,5 @@
-//! Laws of an engine over two queues: what it writes, moves, deletes and finds again after a restart, and that nothing is lost by it.
+//! Laws of an engine over two queues: of what it writes, moves, deletes, and finds again after a restart, and
+//! that no record is lost by it. Each law is a function with an empty body, whose contract is the law.
 #![tactic(auto)]
 
 pub mod contents;

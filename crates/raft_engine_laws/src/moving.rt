@@ -1,4 +1,6 @@
-//! Laws of records that move to the rewrite queue, or from one of its files to another.
+//! Laws of records that move to the rewrite queue, or from one of its files to another. *Kept* tables
+//! (`AreKept`) are those of an engine, beside the batches of its files and the steps that the rewrite queue
+//! hasn't been told (*untold* ones).
 
 ghost use Rattle.std.specs.Prelude.{◌≡◌, ℕ, ◌≤◌, List, [], ◌∷◌, ◌++◌, Some, None};
 ghost use Rattle.std.specs.FinMap as finite;
@@ -19,7 +21,8 @@ ghost use Rattle.raft_engine_laws.specs.Moving.{AreRecordsMoved, IsMovingBatch, 
 ghost use Rattle.raft_engine_laws.specs.NextBatches.{IsRewrittenNext};
 
 /// States that tables are still kept once records have moved, if no step was untold: with one batch, or with
-/// the last one of a whole group, whose records the reading of the rewrite files then has.
+/// the last one of a whole group, if reading the rewrite files then gives these records at their new places.
+/// This is a law: it computes nothing.
 pub fn moved_records_are_kept()
     ensures { (content : EntryIndex → List ℕ) (append rewrite : List Event)
         (tables new rewritten put : Tables) (e : Event) → AreKept content append rewrite [] tables
@@ -30,9 +33,10 @@ pub fn moved_records_are_kept()
         → AreKept content append (rewrite ++ e ∷ []) [] new }
 {}
 
-/// States that a batch without a group marker may move records of one region that a gate lets pass, once no
-/// step is untold: copies of its first appended entries, and of its key values, as they were fetched. The
-/// tables are those that the rewriting of its items leaves.
+/// States that a batch without a group marker may move records of one region, once no step is untold: copies
+/// of the first of its entries in append files, which the gate lets pass, and of key values, as they were
+/// read. The tables are then those that rewriting the batch's items leaves. This is a law: it computes
+/// nothing.
 pub fn moving_items_move_records()
     ensures { (content : EntryIndex → List ℕ) (append rewrite : List Event) (tables new : Tables)
         (e : Event) → AreKept content append rewrite [] tables → IsRewrittenNext rewrite e → HasNoMarker e
@@ -41,9 +45,9 @@ pub fn moving_items_move_records()
         → AreKept content append (rewrite ++ e ∷ []) [] new }
 {}
 
-/// States that tables take items that move records of theirs within the rewrite queue, in any order, if the
+/// States that tables accept items that move records of theirs within the rewrite queue, in any order, if the
 /// entries of each table are sound, and none of their rewritten key values is in a file above the one that
-/// these move to.
+/// these move to. This is a law: it computes nothing.
 pub fn tables_take_what_moves_again()
     ensures { (content : EntryIndex → List ℕ) (seq : ℕ) (tables : Tables) (items : List Item)
         → ((r : ℕ) → AreTableEntries (table_of r (finite.get tables r)).entries)

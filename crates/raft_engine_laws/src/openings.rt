@@ -1,4 +1,5 @@
-//! Laws of what is told when files are opened.
+//! Laws of what the rewrite queue has to be told when an engine opens files: what the append files take away
+//! from the rewritten tables.
 
 ghost use Rattle.std.specs.Prelude.{◌≡◌, ◌↔◌, None, true, ◌+◌, ◌<◌, ℕ, List, [], ◌∷◌, ◌++◌};
 ghost use Rattle.std.specs.FinMap as finite;
@@ -28,8 +29,8 @@ ghost use Rattle.raft_engine_laws.specs.RowSummaries.{Summary, FirstMayStand, Is
 ghost use Rattle.raft_engine_laws.specs.TakenTold.{AreFoundTables, DoesTakenTakeAway, IsTakenToldByMarks, IsTakenToldNowOrLater};
 ghost use Rattle.raft_engine_laws.specs.Telling.{AreAllSteps, AreRemovals, SayEnoughAtOpening};
 
-/// States that once the rewrite queue was told what an opening tells, the next opening of the same append
-/// files has nothing to tell.
+/// States that once the rewrite queue was told what an opening has to tell, the next opening of the same
+/// append files has nothing to tell. This is a law: it computes nothing.
 pub fn a_second_opening_needs_to_tell_nothing()
     ensures { (append rewrite : List Event) (found : Tables) (cleaned : List ℕ) (e : Event)
         → IsSoundIn Append append → IsSoundIn Rewrite rewrite
@@ -42,9 +43,9 @@ pub fn a_second_opening_needs_to_tell_nothing()
         → (r : ℕ) → SayEnoughAtOpening (steps_of r (batches append)) [] (table_of r (finite.get too.rewritten r)) (table_of r (finite.get others r)) }
 {}
 
-/// States that it is enough to tell at an opening what a region mark takes away from the rewritten table. It
-/// may be told later if the steps leave no rewritten entry before what was found. Nothing is told if nothing
-/// needs to be, and what is told only takes away.
+/// States that it is enough to tell, at an opening, what a region mark takes away from the rewritten table.
+/// It may be told later if the steps leave no rewritten entry before what was found. Nothing is told if
+/// nothing needs to be, and what is told only takes away. This is a law: it computes nothing.
 pub fn region_marks_tell_enough()
     ensures at_once { (m : Mark) (kept : List Step) (rewritten found : Table) → IsExactMark m kept
         → SayEnoughAtOpening kept (told_at_once m rewritten found) rewritten found }
@@ -55,14 +56,16 @@ pub fn region_marks_tell_enough()
     ensures removals { (m : Mark) (rewritten : Table) → AreRemovals (told_by_mark m rewritten) }
 {}
 
-/// States that a context that has read the append queue holds in each region mark what its steps take away.
+/// States that each region mark of a context that has read the append queue is exact: it says what the steps
+/// on its region take away. This is a law: it computes nothing.
 pub fn contexts_hold_exact_marks()
     ensures { (context : RecoverContext) (h : List Event) → HasRead context h → Suits Append context.context.files → (r : ℕ)
         → IsExactMark (region_in context.context.regions r).mark (steps_of r (batches h)) }
 {}
 
-/// States why a compaction before what was found, which drops rewritten entries, has to be told at once: as
-/// long as it isn't, a truncation that is written to the append queue brings these entries back.
+/// States why a compaction of rewritten entries that lie before the found ones, and are dropped with them,
+/// has to be told at once. As long as it isn't, a truncation that is written to the append queue brings these
+/// entries back. The contract has an example of two entries. This is a law: it computes nothing.
 pub fn what_is_dropped_in_front_comes_back()
     ensures { (old new : EntryIndex) (t : Table) → t.entries ≡ old ∷ [] → old.index + 1 < new.index
         → (own none : Table) → own.entries ≡ new ∷ [] → none.entries ≡ []
@@ -70,15 +73,17 @@ pub fn what_is_dropped_in_front_comes_back()
         × ((overlay (Run (new ∷ []) ∷ Truncate new.index ∷ []) none t).entries ≡ old ∷ []) }
 {}
 
-/// States that the summaries of two neighbors, joined, are the summary of both, and that a summary tells
-/// whether each group is in a row.
+/// States that the joined summaries of two neighboring histories are the summary of both, and that a summary
+/// tells whether each atomic group is in a row, that is in batches that follow one another in one file. This
+/// is a law: it computes nothing.
 pub fn row_summaries_are_joined()
     ensures joined { (s t both : Summary) → AreJoined s t both → (h g : List Event) → IsSummaryOf s h → IsSummaryOf t g → IsSummaryOf both (h ++ g) }
     ensures whole { (s : Summary) (h : List Event) → IsSummaryOf s h → (FirstMayStand s.first None × (s.inner ≡ true)) ↔ AreGroupsInRows h }
 {}
 
-/// States that nothing was dropped before what is found in files that keep tables, as those of an engine do,
-/// so everything may be told later. If nothing was dropped, whoever wrote the files, nothing is told at once.
+/// States that nothing was dropped before what is found in files that keep an engine's tables, so everything
+/// may be told later. And if nothing was dropped, whoever wrote the files, nothing is told at once. This is a
+/// law: it computes nothing.
 pub fn own_files_may_be_told_later()
     ensures joins { (content : EntryIndex → List ℕ) (append rewrite : List Event) (untold : List RegionStep) (tables found : Tables) (cleaned : List ℕ)
         → AreKept content append rewrite untold tables
@@ -93,9 +98,10 @@ pub fn own_files_may_be_told_later()
         → items ≡ [] }
 {}
 
-/// States that what a context of the append queue takes away from the tables of one of the rewrite queue is
-/// told, region by region, as its marks say; at once, or so that it may be told later. It only takes away,
-/// and the entries that both give are those of tables.
+/// States that what a context of the append queue takes away from the tables of one of the rewrite queue
+/// (`TakenAway`) is told, region by region, as its marks say: at once, or so that it may be told later. It
+/// only takes away, and the entries that both queues give are those of tables. This is a law: it computes
+/// nothing.
 pub fn taken_away_is_told()
     ensures tells { IsTakenToldByMarks }
     ensures says { IsTakenToldNowOrLater }

@@ -1,4 +1,4 @@
-//! Laws of the records of tables, without places and files.
+//! Laws of the records of tables: their entries and key values without places and files.
 
 ghost use Rattle.std.specs.Prelude.{◌≡◌, ℕ, List, [], ◌∷◌, ◌++◌, Some};
 ghost use Rattle.std.specs.FinMap as finite;
@@ -15,9 +15,9 @@ ghost use Rattle.raft_engine_laws.specs.MovedRecords.{AreFound};
 ghost use Rattle.raft_engine_laws.specs.Moving.{AreRecordsMoved};
 ghost use Rattle.raft_engine_laws.specs.Records.{Records, entries_told, no_base, live, AreToldAlike, HasRecords, HaveRecords};
 
-/// States that tables with the records of a history have, once they take one more batch, the records of the
-/// history with that batch, whatever records there were before. Of tables with the same records each takes
-/// what one of them takes.
+/// States that if tables have the records of a history and accept one more batch, they then have the records
+/// of the history with that batch, whatever records there were at first. Of two sets of tables with the same
+/// records, each accepts what the other accepts. This is a law: it computes nothing.
 pub fn records_come_from_written_batches()
     ensures none { (content : EntryIndex → List ℕ) → HaveRecords content finite.empty (live content no_base []) }
     ensures more { (content : EntryIndex → List ℕ) (base : ℕ → Records) (tables new : Tables) (h : List Event) (e : Event)
@@ -29,8 +29,8 @@ pub fn records_come_from_written_batches()
         → (later : Tables) × (after_items Appending others items ≡ Some later) }
 {}
 
-/// States that tables that were found have the records of the kept ones, and that records that move stay the
-/// same.
+/// States that tables that were found have the records of the kept ones, and that a move changes no record,
+/// only its place. This is a law: it computes nothing.
 pub fn records_stay_where_places_change()
     ensures found { (content : EntryIndex → List ℕ) (kept found : Tables) (records : ℕ → Records)
         → AreFound content kept found → HaveRecords content kept records → HaveRecords content found records }
@@ -39,8 +39,9 @@ pub fn records_stay_where_places_change()
         → HasRecords content moved rs }
 {}
 
-/// States that tables have the records of a history by either of two ways to tell the contents of entries if
-/// they have them by one, and both tell alike of all entries in the tables and in the batches of the history.
+/// States when two functions that say the bytes of entries are equally good: if tables have the records of a
+/// history by one of them, and both say the same of all entries in the tables and in the batches of the
+/// history, they have them by the other. This is a law: it computes nothing.
 pub fn records_are_told_alike()
     ensures { (told content : EntryIndex → List ℕ) (base : ℕ → Records) (tables : Tables) (h : List Event)
         → AllByRecursion (λ (e : Event). AllByRecursion (λ (item : Item). AreToldAlike told content item.content) e.items) h

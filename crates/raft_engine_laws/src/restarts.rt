@@ -1,4 +1,5 @@
-//! Laws of a restart.
+//! Laws of a restart. *Kept* tables (`AreKept`) are those of an engine, beside the batches of its files and
+//! the steps that the rewrite queue hasn't been told (*untold* ones).
 
 ghost use Rattle.std.specs.Prelude.{ℕ, List, [], ◌∷◌, ◌++◌, flat_map};
 ghost use Rattle.std.specs.FinMap as finite;
@@ -16,8 +17,8 @@ ghost use Rattle.raft_engine_laws.specs.KeptTables.{AreKept};
 ghost use Rattle.raft_engine_laws.specs.NextBatches.{IsRewrittenNext};
 ghost use Rattle.raft_engine_laws.specs.Telling.{AreRemovals, SayEnoughAtOpening};
 
-/// States that the tables that a recovery found of kept ones are kept by the same files. What is in the
-/// append files is untold then.
+/// States that the tables that a recovery finds in files which keep an engine's tables are kept by the same
+/// files. The steps in the append files are untold then. This is a law: it computes nothing.
 pub fn found_tables_are_kept()
     ensures { (content : EntryIndex → List ℕ) (append rewrite : List Event)
         (untold : List RegionStep) (tables found : Tables) (cleaned : List ℕ)
@@ -25,9 +26,9 @@ pub fn found_tables_are_kept()
         → AreKept content append rewrite (flat_map (λ (e : Event). steps_of_items e.items) append) found }
 {}
 
-/// States that the tables that a recovery found in any sound files, whoever wrote them, are kept once the
-/// rewrite queue is told what the append files take away and, as a compaction, what lies before the entries
-/// that were found.
+/// States that the tables that a recovery finds in any sound files, whoever wrote them, are kept once the
+/// rewrite queue is told what the append files take away and, by a compaction, what lies before the entries
+/// that were found. This is a law: it computes nothing.
 pub fn opened_tables_are_kept()
     ensures { (content : EntryIndex → List ℕ) (append rewrite : List Event) (found : Tables)
         (cleaned : List ℕ) (e : Event) → IsSoundIn Append append → IsSoundIn Rewrite rewrite

@@ -1,4 +1,5 @@
-//! Laws of what the rewrite queue is told.
+//! Laws of what the rewrite queue is told: what steps of the append queue take away, in batches of commands
+//! and deletions. Until then these steps are *untold*.
 
 ghost use Rattle.std.specs.Prelude.{◌≡◌, ℕ, List, [], ◌∷◌, ◌++◌, map};
 ghost use Rattle.std.specs.FinMap as finite;
@@ -20,9 +21,9 @@ ghost use Rattle.raft_engine_laws.specs.NextBatches.{IsRewrittenNext};
 ghost use Rattle.raft_engine_laws.specs.Speaking.{unspoken};
 ghost use Rattle.raft_engine_laws.specs.Telling.{AreRemovals, SayTheSame, SayEnough, TakeAway, told_items, taking_items, taking_steps};
 
-/// States that what is told of items takes away what they take away: a run is told as a truncation at its
-/// first index. It is made of commands and deletions, which put nothing, and may be in a batch of any file,
-/// without a group marker.
+/// States that the items by which a batch is told to the rewrite queue take away what its own items take
+/// away: a run is told as a truncation at its first index. They are commands and deletions, which put
+/// nothing, and may stand in a batch of any file, without a group marker. This is a law: it computes nothing.
 pub fn told_items_take_away_the_same()
     ensures same { (items : List Item) (r : ℕ)
         → SayTheSame (steps_on r (steps_of_items (told_items items))) (steps_on r (steps_of_items items)) }
@@ -35,9 +36,9 @@ pub fn told_items_take_away_the_same()
         → HasNoMarker record { items = items; file = file } }
 {}
 
-/// States that of items that are written to tables only those need to be told that take something away from
+/// States that of items that are written to tables only those have to be told that take something away from
 /// these: what is told of them takes away what those of their steps do that take something away. It is the
-/// same wherever the items are placed.
+/// same wherever the items are placed. This is a law: it computes nothing.
 pub fn items_that_take_nothing_away_need_no_telling()
     ensures same { (tables : Tables) (items : List Item) (r : ℕ)
         → SayTheSame (steps_on r (steps_of_items (told_items (taking_items tables items)))) (steps_on r (taking_steps tables (steps_of_items items))) }
@@ -45,8 +46,9 @@ pub fn items_that_take_nothing_away_need_no_telling()
         → told_items (taking_items tables (map (placed_item place compression) items)) ≡ told_items (taking_items tables items) }
 {}
 
-/// States that steps may stand for the untold ones if they say the same, region by region. Lists of steps
-/// that say the same still do, one after the other.
+/// States that other steps may stand for the untold ones if they say the same, region by region: they take
+/// away the same. Lists of steps that say the same still do when they are put one after the other. This is a
+/// law: it computes nothing.
 pub fn what_says_the_same_is_as_untold()
     ensures kept { (content : EntryIndex → List ℕ) (append rewrite : List Event)
         (untold other : List RegionStep) (tables : Tables)
@@ -58,7 +60,8 @@ pub fn what_says_the_same_is_as_untold()
 {}
 
 /// States that no step is untold once a batch without a group marker has told the rewrite queue, in any
-/// order, what the untold ones take away. If it told some of it, the others are still untold.
+/// order, what the untold steps take away. If it told some of it, the others are still untold. This is a law:
+/// it computes nothing.
 pub fn told_steps_are_no_longer_untold()
     ensures all { (content : EntryIndex → List ℕ) (append rewrite : List Event)
         (untold : List RegionStep) (tables : Tables) (e : Event)
@@ -74,8 +77,9 @@ pub fn told_steps_are_no_longer_untold()
         → AreKept content append (rewrite ++ e ∷ []) others tables }
 {}
 
-/// States that steps that take away nothing of what the rewrite files give needn't be told. Such is a run
-/// behind all of a region's rewritten entries that are live.
+/// States that steps that take away nothing of what the rewrite files give needn't be told. One such step is
+/// a run that begins after all rewritten entries of its region that are live. This is a law: it computes
+/// nothing.
 pub fn quiet_steps_need_no_telling()
     ensures kept { (content : EntryIndex → List ℕ) (append rewrite : List Event)
         (untold fewer : List RegionStep) (tables rewritten : Tables)

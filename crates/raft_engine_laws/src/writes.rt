@@ -1,4 +1,5 @@
-//! The law of a batch that is written.
+//! A law on a batch that is written. *Kept* tables (`AreKept`) are those of an engine, beside the batches of
+//! its files and the steps that the rewrite queue hasn't been told (*untold* ones).
 
 ghost use Rattle.std.specs.Prelude.{ℕ, List, [], ◌∷◌, ◌++◌};
 ghost use Rattle.raft_base.specs.declared.entry_index.EntryIndex.{EntryIndex};
@@ -7,8 +8,8 @@ ghost use Rattle.raft_history.specs.RegionSteps.{RegionStep, Tables, steps_of_it
 ghost use Rattle.raft_engine_laws.specs.KeptTables.{AreKept};
 ghost use Rattle.raft_engine_laws.specs.NextBatches.{IsWrittenNext};
 
-/// States that once a batch is written to the append queue and to the tables, these are kept, and its steps
-/// are untold.
+/// States that once a batch is written to the append queue and to the tables, these tables are kept, and the
+/// steps of the batch are untold. This is a law: it computes nothing.
 pub fn written_batches_are_kept()
     ensures { (content : EntryIndex → List ℕ) (append rewrite : List Event)
         (untold : List RegionStep) (tables new : Tables) (e : Event)

@@ -1,4 +1,4 @@
-//! Laws of disks that write pages out of order.
+//! Laws of disks that write unsynced pages in any order. They may leave any bytes after the synced ones.
 
 ghost use Rattle.std.specs.Prelude.{◌<◌, List, length};
 ghost use Rattle.raft_base.specs.declared.pipe_log.LogQueue.{LogQueue};
@@ -12,14 +12,16 @@ ghost use Rattle.raft_engine_prefixes.specs.TornTails.{FilesHoldTorn};
 ghost use Rattle.raft_engine_prefixes.specs.Prefixes.{AreFirstOf, ArePut};
 ghost use Rattle.raft_engine_prefixes.specs.AnyTails.{BeginWithSynced, FilesBeginWith, FilesHoldPrefix, IsUnforgedLeftOf, PrefixesAreUnforged};
 
-/// States that what a disk may leave that writes in order, a disk may leave that writes in any order.
+/// States that whatever a disk that writes in order may leave, a disk that writes in any order may leave too.
+/// This is a law: it computes nothing.
 pub fn prefixes_may_stand_unordered()
     ensures { (acts : List Act) (files : List NumberedBytes) → MayStand acts files → MayStandUnordered acts files }
 {}
 
-/// States what is read of files that a disk leaves that writes in any order. Whatever is read of files begins
-/// with the batches that they begin with. Whatever may be left of the files of a queue, with any bytes behind
-/// the synced ones, begins with the synced batches; so does whatever is read of it.
+/// States what is read of files that a disk that writes in any order leaves. What is read of any files begins
+/// with the batches that they begin with. Whatever may be left of the files of a queue, with any bytes after
+/// the synced ones, begins with the synced batches; so does whatever is read of it. This is a law: it
+/// computes nothing.
 pub fn synced_batches_are_read_first()
     ensures first { (queue : LogQueue) (version : Version) (files : List NumberedBytes) (a g : List Event)
         → FilesHoldPrefix queue version files a → FilesHoldTorn queue version files g → AreFirstOf a g }
@@ -30,9 +32,9 @@ pub fn synced_batches_are_read_first()
         → FilesHoldTorn queue version files read → AreFirstOf synced read }
 {}
 
-/// States that what a disk that writes in any order may leave of a queue's files, with any bytes behind the
-/// synced ones, begins with the synced batches, apart from those of deleted files. The queue's last file must
-/// never be deleted.
+/// States that whatever a disk that writes in any order may leave of a queue's files, with any bytes after
+/// the synced ones, begins with the synced batches, apart from those of deleted files. The queue's last file
+/// must never be deleted. This is a law: it computes nothing.
 pub fn synced_batches_are_left_first()
     ensures { (queue : LogQueue) (version : Version) (asked : List Ask) (synced h : List Event) (files : List NumberedBytes)
         → ArePut queue version (acts_on queue asked) synced h
@@ -40,8 +42,9 @@ pub fn synced_batches_are_left_first()
         → IsLeftUnordered queue asked files → BeginWithSynced queue version asked synced files }
 {}
 
-/// States that what a disk that writes in any order may leave of a queue's files holds batches that may be
-/// left of what was done to the queue, if it can be read and has nothing that was never written.
+/// States that what a disk that writes in any order leaves of a queue's files holds batches that a crash may
+/// leave of what was done to the queue, if it can be read and has nothing that was never written. This is a
+/// law: it computes nothing.
 pub fn unforged_files_hold_what_may_be_left()
     ensures { (queue : LogQueue) (version : Version) (asked : List Ask) (deeds : List Deed) (files : List NumberedBytes)
         (read : List Event) → AreDone queue version (acts_on queue asked) deeds
@@ -49,7 +52,8 @@ pub fn unforged_files_hold_what_may_be_left()
         → HoldLeft queue version deeds files }
 {}
 
-/// States that what a disk leaves that writes in order has nothing that was never written.
+/// States that what a disk that writes in order leaves has nothing that was never written. This is a law: it
+/// computes nothing.
 pub fn prefixes_are_unforged()
     ensures { PrefixesAreUnforged }
 {}

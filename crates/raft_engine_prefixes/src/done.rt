@@ -1,4 +1,6 @@
-//! Laws of what is done to a queue by what is asked of its files, and of what a disk leaves of both queues then.
+//! Laws of what is done to a queue by what is asked of its files, and of what a disk leaves of both queues
+//! then. An *ask* is a call that an engine makes on its files; a *deed* (`Deed`) is what is done to a queue:
+//! a batch is written, all is synced, files are deleted, or the machine crashed.
 
 ghost use Rattle.std.specs.Prelude.{◌≡◌, ℕ, ◌<◌, ◌≤◌, List, [], ◌∷◌, ◌++◌, length};
 ghost use Rattle.raft_base.specs.declared.entry_index.EntryIndex.{EntryIndex};
@@ -17,17 +19,18 @@ ghost use Rattle.raft_recover.specs.Files.{FilesHold, whole_file};
 ghost use Rattle.raft_engine_prefixes.specs.TornTails.{FilesHoldTorn, FoundUndamaged, IsDamagedAt, StopsAt};
 ghost use Rattle.raft_engine_prefixes.specs.Done.{AreDone, AreDoneWhole, AreConsecutive, AreRisingFrom, Follows, HoldLeft, HoldRecords, LastFileIsNext, WrittenBatchIsDone, numbers};
 
-/// States what each ask of an engine does to a queue.
-/// - A written batch that is put is written, and a sync is one.
-/// - A new file does nothing, if all is synced and its number is above that of the last one and not among
-///   those of deleted files.
+/// States which deed each ask of an engine is.
+/// - Putting a written batch writes it, and a sync is a sync.
+/// - A new file is no deed, if all is synced and its number is above that of the last one and not among those
+///   of deleted files.
 /// - The deletion of a file that isn't the last one deletes the files below a number above its own, up to
 ///   that of the next one.
-/// - Files that are found when the machine starts, with or without a torn tail, are those of a crash.
-/// - Where a reader stops in the last file, a torn tail may be cut off.
-/// - A read does nothing, nor does a sync that fails.
+/// - Files that are found when the machine starts, with or without a torn tail, are those that a crash left.
+/// - Where a reader stops in the last file, a torn tail may be cut off. That is no deed.
+/// - A read is no deed, nor is a sync that fails.
 ///
-/// A batch in the last file is one that may be written next.
+/// A batch whose items may stand in the last file is one that may be written next. This is a law: it computes
+/// nothing.
 pub fn asks_do_deeds()
     ensures none { (queue : LogQueue) (version : Version) → AreDoneWhole queue version [] [] }
     ensures written { WrittenBatchIsDone }
@@ -66,16 +69,17 @@ pub fn asks_do_deeds()
 {}
 
 /// States that what a crash leaves of a queue's files holds batches that may be left of what was done to the
-/// queue, and at most a torn tail behind them.
+/// queue, and at most a torn tail after them. This is a law: it computes nothing.
 pub fn files_that_are_left_hold_what_may_be_left()
     ensures { (queue : LogQueue) (version : Version) (asked : List Ask) (deeds : List Deed) (files : List NumberedBytes)
         → AreDone queue version (acts_on queue asked) deeds → IsLeftOf queue asked files
         → HoldLeft queue version deeds files }
 {}
 
-/// States that no crash damages files. If there was no damage in the files that were found when the machine
-/// started, none begins where a reader stops in the last file of those that are left. So who refuses damaged
-/// files never refuses what a crash left of files that were accepted.
+/// States that no crash damages files. If the files that were found when the machine started weren't damaged,
+/// those that a crash leaves aren't either: at the place where a reader stops in the last one there is no
+/// damage. So whoever refuses damaged files never refuses what a crash left of files that were accepted. This
+/// is a law: it computes nothing.
 pub fn no_crash_damages_files()
     ensures { (queue : LogQueue) (version : Version) (asked : List Ask) (deeds : List Deed)
         (closed : List NumberedBytes) (last : NumberedBytes) (at : ℕ)
@@ -85,8 +89,8 @@ pub fn no_crash_damages_files()
 {}
 
 /// States that no crash loses records. If what was done to both queues is safe, or at least loses nothing,
-/// whatever is left of their files can be read, and gives the records that the batches make which are left of
-/// the append queue.
+/// whatever is left of their files can be read, and gives the records that those batches make which are left
+/// of the append queue. This is a law: it computes nothing.
 pub fn no_crash_loses_records()
     ensures safe { (content : EntryIndex → List ℕ) (base : ℕ → Records) (version : Version) (asked : List Ask)
         (appended rewritten : List Deed) (untold : List RegionStep) (tables : Tables)

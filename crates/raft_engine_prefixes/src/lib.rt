@@ -1,5 +1,5 @@
-//! Laws of an engine's files after a crash: what is left holds a prefix of the batches that were put, and a torn
-//! tail at most.
+//! Laws of an engine's files after a crash: what is left holds a prefix of the batches that were put into
+//! them, and at most a torn tail. Each law is a function with an empty body, whose contract is the law.
 #![tactic(auto)]
 
 pub mod any_tails;

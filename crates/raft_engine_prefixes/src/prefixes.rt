@@ -1,4 +1,5 @@
-//! Laws of what a disk leaves of one queue: a prefix of the batches that were put.
+//! Laws of what a disk leaves of one queue: a prefix of the batches that were put into its files. An *ask* is
+//! a call that an engine makes on the files.
 
 ghost use Rattle.std.specs.Prelude.{◌≡◌, ℕ, ◌<◌, ◌≤◌, List, [], ◌∷◌, ◌++◌, length, take};
 ghost use Rattle.std.specs.List.{AllByRecursion};
@@ -14,10 +15,10 @@ ghost use Rattle.raft_engine_prefixes.specs.TornTails.{FilesHoldTorn, StopsAt};
 ghost use Rattle.raft_engine_prefixes.specs.Prefixes.{ArePut, ArePutWhole, HoldPrefixWith, HoldRestOfPrefix, PutsGoOn, WrittenBatchIsPut};
 
 /// States what each ask of an engine makes of the batches that were put, and of those that are synced. Before
-/// the first ask there are none. A written batch that is put is one more. A sync, a new file, and files that
-/// are found make all of them synced. Where a reader stops in the last file, the torn tail may be cut off. A
-/// deletion is counted elsewhere; a read puts nothing, nor does a sync that fails. Asks put one history only,
-/// and sync one prefix of it.
+/// the first ask there are none. Putting a written batch adds it. A sync, a new file, and files that are
+/// found make all of them synced. Where a reader stops in the last file, the torn tail may be cut off. A
+/// deletion changes neither list, as deleted files are counted apart. A read puts nothing, nor does a sync
+/// that fails. Asks put one history only, and sync one prefix of it. This is a law: it computes nothing.
 pub fn asks_put_batches()
     ensures nothing { (queue : LogQueue) (version : Version) → ArePutWhole queue version [] [] [] }
     ensures written { WrittenBatchIsPut }
@@ -44,9 +45,10 @@ pub fn asks_put_batches()
         → ArePut queue version acts synced' h' → (synced ≡ synced') × (h ≡ h') }
 {}
 
-/// States that the files of a queue hold the batches that were put if nothing is lost. Whatever a crash
-/// leaves of them holds a prefix of these batches, with at least those that were synced, and at most a torn
-/// tail behind them; and after a sync without a torn tail, all of them.
+/// States what the files of a queue hold if none is deleted: the batches that were put, if nothing is lost.
+/// Whatever a crash leaves of the files holds a prefix of these batches, with at least the synced ones, and
+/// at most a torn tail after them. After a sync it holds all of them, without a torn tail. This is a law: it
+/// computes nothing.
 pub fn files_that_stand_hold_a_prefix()
     ensures all { (queue : LogQueue) (version : Version) (acts : List Act) (synced h : List Event)
         → ArePut queue version acts synced h → FilesHoldTorn queue version (begun acts) h }
@@ -58,9 +60,9 @@ pub fn files_that_stand_hold_a_prefix()
         → FilesHold queue version files h }
 {}
 
-/// States that what is left of a queue whose last file is never deleted holds the same, without the batches
-/// of the oldest files. If nothing is lost and there is no torn tail, the deleted files and those that are
-/// there hold all batches.
+/// States what is left of a queue of which the oldest files, but never the last one, are deleted: it holds
+/// the same prefix, without the batches of the oldest files. If nothing is lost and there is no torn tail,
+/// the deleted files and those that are there hold all batches together. This is a law: it computes nothing.
 pub fn files_that_are_left_hold_the_rest()
     ensures whole { (queue : LogQueue) (version : Version) (asked : List Ask) (synced h : List Event)
         → ArePutWhole queue version (acts_on queue asked) synced h
@@ -73,8 +75,8 @@ pub fn files_that_are_left_hold_the_rest()
         → IsLeftOf queue asked files → HoldRestOfPrefix queue version asked synced h files }
 {}
 
-/// States that batches are in the files that hold them: if these are below a number, or from it on, so are
-/// the files of the batches.
+/// States that batches are in the files that hold them: if these are all below a number, or all from it on,
+/// so are the files of the batches. This is a law: it computes nothing.
 pub fn batches_lie_in_their_files()
     ensures below { (queue : LogQueue) (version : Version) (n : ℕ) (files : List NumberedBytes)
         (h : List Event) → FilesHold queue version files h
@@ -86,8 +88,8 @@ pub fn batches_lie_in_their_files()
         → AllByRecursion (λ (e : Event). n ≤ e.file.seq) h }
 {}
 
-/// States that the batches that were put, and those that were synced, are a prefix of those behind each
-/// further act.
+/// States that the batches that were put before an act, and those that were synced, are prefixes of those
+/// after it. This is a law: it computes nothing.
 pub fn puts_go_on()
     ensures { PutsGoOn }
 {}

@@ -1,4 +1,4 @@
-//! Laws of torn tails: a part of a batch is none, and a reader stops where the whole batches end.
+//! Laws of torn tails: a part of a batch is no batch, and a reader stops where the whole batches end.
 
 ghost use Rattle.std.specs.Prelude.{◌≡◌, ◌≢◌, ℕ, List, [], ◌∷◌, ◌++◌, Option};
 ghost use Rattle.raft_codec.specs.Reading.{HasNoFront, HasOneFront};
@@ -12,7 +12,8 @@ ghost use Rattle.raft_recover.specs.Files.{FilesHold, whole_file};
 ghost use Rattle.raft_engine_prefixes.specs.TornTails.{AreUndamaged, FilesHoldTorn, ReadableFrontStops, StopsAt};
 
 /// States that no readable batch is the start of another one, and that no proper part of one begins with a
-/// readable batch, whatever the signature: its header names the length of the whole.
+/// readable batch, whatever the signature: its header gives the length of the whole. This is a law: it
+/// computes nothing.
 pub fn parts_of_batches_are_unreadable()
     ensures one_front { (signature : Option ℕ) → HasOneFront (λ bytes. IsReadable bytes signature) }
     ensures part { (bytes part rest : List ℕ) (signature other : Option ℕ) (items : List Item)
@@ -21,10 +22,11 @@ pub fn parts_of_batches_are_unreadable()
 {}
 
 /// States what is known of torn tails, bytes at the end of the last file that don't begin with a readable
-/// batch. Files that hold batches hold them with no tail, too. Files, with or without a tail, are read in one
-/// way only. Where a reader stops in the last file, the whole batches end: cut there, the files hold them.
-/// Files that hold batches with no tail aren't damaged. Files that hold batches once they are cut held them
-/// with that tail before. `readable_front` tells where a reader stops.
+/// batch. Files that hold batches also hold them with an empty tail. Files, with or without a tail, are read
+/// in one way only. Where a reader stops in the last file, the whole batches end: cut there, the files hold
+/// these batches. Files that hold batches with no tail aren't damaged. Files that hold batches once they are
+/// cut held them with that tail before. `readable_front` tells where a reader stops. This is a law: it
+/// computes nothing.
 pub fn torn_tails_are_found()
     ensures whole { (queue : LogQueue) (version : Version) (files : List NumberedBytes) (h : List Event)
         → FilesHold queue version files h → FilesHoldTorn queue version files h }

@@ -1,5 +1,5 @@
-//! Rewritten records that move to a new file of the rewrite queue, whose older files are deleted then; and files that fail in
-//! the midst of it.
+//! Tests of moving rewritten records to a new rewrite file, after which the older ones are deleted; also with files that fail
+//! in the midst of it.
 
 ghost use Rattle.std.specs.Prelude.{◌≡◌};
 
@@ -16,7 +16,7 @@ use raft_records::{Error, Result};
 use std::alloc::Global;
 use std::thread::Threads;
 
-/// Parts of a batch that changes [1,10) and `k=v` in a rewrite file, and what they leave.
+/// Batches that are written after [1,10) and `k=v` have moved to a rewrite file, and what each leaves.
 static CHANGES: [(&[Part], &str); 8] = [
     (&[], "[1,10)k=v"),
     (&[Compact(3)], "[3,10)k=v"),
@@ -28,12 +28,13 @@ static CHANGES: [(&[Part], &str); 8] = [
     (&[Clean, Entries(4, 6)], "[4,6)"),
 ];
 
-/// Tests whether a purge leaves one rewrite file, and deletes so many.
+/// Tests whether a purge deletes `deleted` rewrite files, and leaves one.
 fn leaves_one(engine: &mut Engine<MemoryFiles>, deleted: usize) -> Result<bool> {
     Ok(purge_rewrites(engine)? == deleted && count_files(engine, LogQueue::Rewrite) == 1)
 }
 
-/// Tests whether what an engine holds is found once it moved again, and once the older rewrite file went.
+/// Moves the rewritten records to a new rewrite file, and purges the older one. Tests whether a restart finds `left` after
+/// each of both.
 pub fn is_found_again<R: Threads + Sync>(
     rt: &R,
     alloc: Global,
@@ -51,7 +52,7 @@ pub fn is_found_again<R: Threads + Sync>(
     )
 }
 
-/// Moves what the append files hold, and deletes all of them but the last.
+/// Moves all that the append files have to the rewrite queue, and purges them. Returns whether one append file is left.
 pub fn empty_append_files(engine: &mut Engine<MemoryFiles>) -> Result<bool> {
     rotate(engine)?;
     rewrite(engine, FileSeq::MAX)?;
@@ -59,8 +60,8 @@ pub fn empty_append_files(engine: &mut Engine<MemoryFiles>) -> Result<bool> {
     Ok(count_files(engine, LogQueue::Append) == 1)
 }
 
-/// Tests whether an engine finds what a change leaves that isn't told yet, and again once all was moved out of the append
-/// files.
+/// Writes `parts` to an engine whose records have moved. Tests whether restarts find `left`: after the rewritten records have
+/// moved again, and once more after all has moved out of the append files.
 fn change_stays<R: Threads + Sync>(
     rt: &R,
     alloc: Global,
@@ -96,15 +97,21 @@ fn records_move_again(rt: HostRuntime) {
     }
 }
 
-/// Files in memory that fail once so many calls were made of them.
+/// Files in memory of which only some calls succeed.
 #[derive(Drop)]
 struct Failing {
+    /// The files.
     files: MemoryFiles,
+    /// How many calls still succeed.
     left: usize,
 }
 
 impl Failing {
     /// Counts a call.
+    ///
+    /// # Errors
+    ///
+    /// `Failed` if no call is left.
     fn call(&mut self) -> Result<()>
         ensures { self.new.files ≡ self.old.files }
     {
@@ -150,7 +157,7 @@ impl EngineFiles for Failing {
     }
 }
 
-/// Makes an engine over files of which so many calls are left.
+/// Makes an engine over files of which `left` calls succeed.
 fn new_failing(alloc: Global, left: usize) -> Result<Engine<Failing>> {
     let files = Failing {
         files: MemoryFiles::new(alloc),
@@ -159,7 +166,7 @@ fn new_failing(alloc: Global, left: usize) -> Result<Engine<Failing>> {
     Engine::new(alloc, Version::V2, files)
 }
 
-/// Makes an engine over files of which so many calls are left once it wrote these entries, a batch each, and `k=v`.
+/// Makes an engine that wrote the parts `entries`, a batch each, and `k=v`. Of its files `left` further calls succeed.
 fn started(alloc: Global, left: usize, entries: &[Part]) -> Result<Engine<Failing>> {
     let calls = entries.len().saturating_add(4);
     let mut engine = new_failing(alloc, left.saturating_add(calls))?;
@@ -168,7 +175,7 @@ fn started(alloc: Global, left: usize, entries: &[Part]) -> Result<Engine<Failin
     Ok(engine)
 }
 
-/// Writes a batch for each of these parts.
+/// Writes a batch for each of these parts, in order.
 pub fn write_each<F: EngineFiles>(
     alloc: Global,
     engine: &mut Engine<F>,
@@ -180,7 +187,8 @@ pub fn write_each<F: EngineFiles>(
     Ok(())
 }
 
-/// Moves all out of the append files, and then to a new rewrite file.
+/// Moves all records out of the append files, and then to a new rewrite file; purges both queues. Returns how many rewrite
+/// files were deleted.
 fn move_twice(engine: &mut Engine<Failing>) -> Result<usize> {
     rotate(engine)?;
     rewrite(engine, FileSeq::MAX)?;
@@ -189,14 +197,18 @@ fn move_twice(engine: &mut Engine<Failing>) -> Result<usize> {
     purge_rewrites(engine)
 }
 
-/// Entries that move while files fail, what is found then, and how many calls of the files it takes.
+/// Records that move while files fail.
 struct Moving {
+    /// The entries, a part for each batch.
     entries: &'static [Part],
+    /// What restarts have to find.
     text: &'static str,
+    /// How many calls of the files the move takes.
     calls: usize,
 }
 
-/// Entries that are one part, and such that are two: these move in two batches, and then in a group of four.
+/// Entries that are one part of a rewriting, and entries that are two: the latter move in two batches, and then in a group of
+/// four.
 static MOVING: [Moving; 2] = [
     Moving {
         entries: &[Entries(1, 3)],
@@ -210,7 +222,8 @@ static MOVING: [Moving; 2] = [
     },
 ];
 
-/// Tests whether all is found where files fail after so many calls; and returns whether they did.
+/// Moves the records of `moving` over files of which `left` calls succeed. Returns whether the files failed, and whether a
+/// restart finds all records then.
 fn finds_after<R: Threads + Sync>(
     rt: &R,
     alloc: Global,
@@ -232,7 +245,7 @@ fn finds_moved<R: Threads + Sync>(
     Ok((failed, found))
 }
 
-/// Tests whether the files failed.
+/// Returns whether the files failed. Any other error is passed on.
 fn has_failed(moved: Result<usize>) -> Result<bool> {
     match moved {
         Ok(_) => Ok(false),
@@ -241,7 +254,7 @@ fn has_failed(moved: Result<usize>) -> Result<bool> {
     }
 }
 
-/// Tests whether this is what an engine holds that is opened over copies of files.
+/// Tests whether an engine that is opened over copies of `files` holds `text`.
 fn is_found_in<R: Threads + Sync>(
     rt: &R,
     alloc: Global,
@@ -261,7 +274,8 @@ fn opened<R: Threads + Sync>(
     open(rt, alloc, append, files.copies(LogQueue::Rewrite)?)
 }
 
-/// Returns after how many calls no file fails any more, if all is found at each number of calls up to it.
+/// Returns how many calls of the files the move takes, if after each smaller number of calls a restart finds all records; else
+/// `None`.
 fn calls_to_move<R: Threads + Sync>(
     rt: &R,
     alloc: Global,
@@ -279,7 +293,7 @@ fn calls_to_move<R: Threads + Sync>(
     Ok(None)
 }
 
-/// Tests whether it takes as many calls as it says.
+/// Tests whether the move takes as many calls as `moving` says, and loses nothing if it is cut short.
 fn moves_in_calls<R: Threads + Sync>(rt: &R, alloc: Global, moving: &Moving) -> Result<bool> {
     Ok(calls_to_move(rt, alloc, moving)? == Some(moving.calls))
 }

@@ -1,4 +1,4 @@
-//! What the batches of the histories say.
+//! The batches that histories and engines write.
 
 ghost use Rattle.std.specs.Prelude.{◌≡◌, IfOk, OnOk};
 ghost use Rattle.raft_records.specs.LogBatch.{is_open};
@@ -11,36 +11,40 @@ use std::alloc::Global;
 /// The region of all histories.
 pub const REGION: u64 = 1;
 
-/// An item of a batch.
+/// An item of a batch of [`REGION`].
 #[derive(Clone, Copy)]
 pub enum Part {
-    /// Entries from the first index on and below the second, of one byte each.
+    /// Entries of one byte each, from the first index on and below the second.
     Entries(u64, u64),
-    /// Such entries of 1,500 bytes each.
+    /// Entries of 1,500 bytes each, from the first index on and below the second.
     Medium(u64, u64),
-    /// Such entries of 3 KiB each.
+    /// Entries of 3 KiB each, from the first index on and below the second.
     Large(u64, u64),
-    /// A value of the key `k`.
+    /// This value for the key `k`.
     Put(&'static str),
+    /// The deletion of the key `k`.
     Delete,
+    /// The command that drops the entries below this index.
     Compact(u64),
+    /// The command that drops the entries from this index on.
     Truncate(u64),
+    /// The command that drops all records of the region.
     Clean,
-    /// The first group marker of a group.
+    /// The marker that begins the group with this number.
     Begin(u64),
-    /// One between the first and the last.
+    /// The marker that goes on with this group.
     Middle(u64),
-    /// The last one.
+    /// The marker that ends this group.
     End(u64),
 }
 
-/// The bytes of a medium entry.
+/// The bytes of each medium entry.
 static MEDIUM: [u8; 1_500] = [b'x'; 1_500];
 
-/// The bytes of a large entry.
+/// The bytes of each large entry.
 static LARGE: [u8; 3_072] = [b'x'; 3_072];
 
-/// Returns a batch of an entry of these bytes.
+/// Returns an open batch with one entry of `region`, which has these bytes.
 pub fn batch_with(alloc: Global, region: u64, index: u64, bytes: Vec<u8>) -> Result<LogBatch>
     ensures { IfOk result (λ batch. batch.stage ≡ is_open) }
 {
@@ -58,7 +62,7 @@ pub fn batch_with(alloc: Global, region: u64, index: u64, bytes: Vec<u8>) -> Res
     Ok(batch)
 }
 
-/// Returns the bytes that a file has of a batch.
+/// Returns the bytes of a batch, signed for `file`.
 pub fn bytes_for(alloc: Global, mut batch: LogBatch, file: FileId) -> Result<Vec<u8>> {
     if !batch.is_open() {
         return Err(Error::Failed);
@@ -68,7 +72,7 @@ pub fn bytes_for(alloc: Global, mut batch: LogBatch, file: FileId) -> Result<Vec
     Ok(Vec::from_slice(alloc, batch.encoded_bytes())?)
 }
 
-/// Returns a batch of these items.
+/// Returns an open batch of these items, in order.
 pub fn batch_of(alloc: Global, parts: &[Part]) -> Result<LogBatch>
     ensures { IfOk result (λ batch. batch.stage ≡ is_open) }
 {
@@ -119,7 +123,8 @@ fn entries_from(alloc: Global, first: u64, end: u64, bytes: &[u8]) -> Result<Vec
     Ok(entries)
 }
 
-/// Adds a group marker; one that isn't the first is of a group that another batch began.
+/// Adds to `batch` the marker of group `id` with this status. For a Middle or an End, the group is begun in another batch
+/// before, which is dropped.
 fn add_marker(alloc: Global, batch: &mut LogBatch, id: u64, status: AtomicGroupStatus) -> Result<()>
     requires { batch.old.stage ≡ is_open }
     ensures { OnOk result (batch.new.stage ≡ is_open) }

@@ -1,5 +1,5 @@
-//! Damaged entries in found files: in the last rewrite file they refuse the opening, in other files the read, and in the last append
-//! file an opening names their batches.
+//! Tests of damaged entries in found files. In the last rewrite file they refuse the opening; in the last append file the
+//! opening names their batches; in any file the read of such an entry is refused.
 
 use crate::calls::{LogFiles, are_named, holds, open_in_mode, with_flipped};
 use crate::found::{Answer, four_files, names, one_file, says};
@@ -22,8 +22,8 @@ enum Files {
     ClosedRewrite,
 }
 
-/// In which files the lowest bit of which byte is changed, what an opening answers in each mode, and where the batches begin that it
-/// names.
+/// The files and the position of the byte of the first one whose lowest bit is changed; what an opening answers in each mode;
+/// and the offsets of the batches that it names.
 type Row = (Files, usize, Answer, &'static [u64]);
 
 static ROWS: [Row; 8] = [
@@ -59,7 +59,7 @@ fn rows() -> &'static [Row] {
     &ROWS
 }
 
-/// Opens an engine over the files of a row in a mode.
+/// Opens an engine over the changed files of a row in a mode.
 fn opened<R: Threads + Sync>(
     rt: &R,
     alloc: Global,
@@ -76,7 +76,7 @@ fn opened<R: Threads + Sync>(
     Ok(open_in_mode(rt, alloc, mode, append, rewrite)??)
 }
 
-/// Tests whether an opened engine holds this, and these batches were named.
+/// Tests whether the opened engine holds `text`, and the opening named the batches at the offsets `named`.
 fn is_held(
     alloc: Global,
     opened: Result<Opened<MemoryFiles>>,

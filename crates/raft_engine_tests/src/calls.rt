@@ -12,28 +12,33 @@ use raft_recover::{file_segments, recover_both};
 use std::alloc::Global;
 use std::thread::Threads;
 
+/// The numbers and the bytes of the files of a queue, oldest first.
 pub type LogFiles = Vec<(FileSeq, Vec<u8>)>;
 
 /// How files are opened.
 #[derive(Clone, Copy)]
 pub struct Way {
+    /// The version in which the files are read.
     pub version: Version,
+    /// The number of threads.
     pub workers: usize,
 }
 
+/// The way in which the files of the tests have to be opened.
 pub const RIGHT: Way = Way {
     version: Version::V2,
     workers: 2,
 };
 
+/// What an opening returns.
 pub type Opened = std::result::Result<Engine<MemoryFiles>, Unopened<MemoryFiles>>;
 
-/// Makes an engine over files in memory.
+/// Makes a new engine over files in memory.
 pub fn new_engine(alloc: Global) -> Result<Engine<MemoryFiles>> {
     Engine::new(alloc, Version::V2, MemoryFiles::new(alloc))
 }
 
-/// Opens an engine over files.
+/// Opens an engine over copies of files in memory, in the given way. The outer error is want of memory for the copies.
 pub fn open_as<R: Threads + Sync>(
     rt: &R,
     alloc: Global,
@@ -47,7 +52,7 @@ pub fn open_as<R: Threads + Sync>(
     Ok(Engine::open(rt, alloc, way.version, files, append, rewrite, way.workers))
 }
 
-/// Opens an engine over files in a mode, with two workers, and returns what was cut off from them.
+/// Opens an engine over files in a mode, with two workers. Returns what was cut off them.
 pub fn cut_of<R: Threads + Sync>(
     rt: &R,
     alloc: Global,
@@ -59,12 +64,14 @@ pub fn cut_of<R: Threads + Sync>(
     Ok(opened.recovered)
 }
 
+/// What an opening in a mode returns.
 pub type OpenedInMode = std::result::Result<
     raft_engine::Opened<MemoryFiles>,
     Unopened<MemoryFiles>,
 >;
 
-/// Opens an engine over files in a mode, with two workers.
+/// Opens an engine over copies of files in memory in a mode, with two workers. The outer error is want of memory for the
+/// copies.
 pub fn open_in_mode<R: Threads + Sync>(
     rt: &R,
     alloc: Global,
@@ -87,14 +94,14 @@ pub fn open_in_mode<R: Threads + Sync>(
     ))
 }
 
-/// Tests whether these batches of the first append file begin at these offsets, one after the other, and are refused with their place.
+/// Tests whether the batches `damaged` are those of file 1 that begin at `offsets`, in this order.
 pub fn are_named(damaged: &[DamagedBatch], offsets: &[u64]) -> bool {
     damaged.len() == offsets.len()
         && damaged.iter().zip(offsets).all(|(batch, offset)| batch.offset == *offset
             && batch.file == 1)
 }
 
-/// Opens an engine over files, with two workers.
+/// Opens an engine over copies of files in memory, with two workers.
 pub fn open<R: Threads + Sync>(
     rt: &R,
     alloc: Global,
@@ -105,7 +112,7 @@ pub fn open<R: Threads + Sync>(
     Ok(engine)
 }
 
-/// Opens an engine over copies of the files of another one.
+/// Opens an engine over copies of the files of another one, with two workers.
 pub fn reopened<R: Threads + Sync>(
     rt: &R,
     alloc: Global,
@@ -114,7 +121,7 @@ pub fn reopened<R: Threads + Sync>(
     Engine::open_copies(rt, alloc, Version::V2, engine.files(), 2)
 }
 
-/// Returns the tables that files give.
+/// Returns the tables that a recovery gives of the files of both queues.
 pub fn recovered<R: Threads + Sync>(
     rt: &R,
     alloc: Global,
@@ -130,7 +137,7 @@ pub fn copies(engine: &Engine<MemoryFiles>, queue: LogQueue) -> Result<LogFiles>
     engine.files().copies(queue)
 }
 
-/// Returns files of which a byte of the first one is another one.
+/// Returns the files with the lowest bit of the byte at position `at` of the first one changed.
 pub fn with_flipped(mut files: LogFiles, at: usize) -> LogFiles {
     if let Some(first) = files.first_mut() {
         if let Some(byte) = first.1.get_mut(at) {
@@ -140,7 +147,7 @@ pub fn with_flipped(mut files: LogFiles, at: usize) -> LogFiles {
     files
 }
 
-/// Returns how many files of a queue an engine has.
+/// Returns how many files of `queue` an engine has.
 pub fn count_files(engine: &Engine<MemoryFiles>, queue: LogQueue) -> usize {
     engine.files().files(queue).len()
 }
@@ -204,8 +211,8 @@ pub fn fetch<F: EngineFiles>(
     engine.fetch_entries_to(region, range.0, range.1, max_size, entries)
 }
 
-/// Returns whether a test held; `None` where it found no memory, and is to run once more. Any other error counts as not held, so
-/// only `Some(true)` is to be asked for.
+/// Returns whether a test held. `None` if it found no memory, and has to be run once more. Any other error counts as not held,
+/// so only `Some(true)` means that it held.
 pub fn ended(held: Result<bool>) -> Option<bool> {
     match held {
         Ok(held) => Some(held),
@@ -214,7 +221,7 @@ pub fn ended(held: Result<bool>) -> Option<bool> {
     }
 }
 
-/// Tests whether a call holds; one that found no memory is made once more, and has to find it then.
+/// Tests whether a test holds. One that found no memory is run once more, and has to hold then.
 macro_rules! holds {
     ($call:expr) => {{
         let mut held = crate::calls::ended($call);
@@ -227,7 +234,7 @@ macro_rules! holds {
 
 pub(crate) use holds;
 
-/// Tests whether a call is refused as damage. Another refusal is handed on.
+/// Tests whether a call returned `Corruption`. Any other error is passed on.
 pub fn finds_damage<T: Drop>(answer: Result<T>) -> Result<bool> {
     match answer {
         Ok(_) => Ok(false),
@@ -236,7 +243,7 @@ pub fn finds_damage<T: Drop>(answer: Result<T>) -> Result<bool> {
     }
 }
 
-/// Tests whether a call is refused as invalid. Another refusal is handed on.
+/// Tests whether a call returned `InvalidArgument`. Any other error is passed on.
 pub fn finds_invalid<T: Drop>(answer: Result<T>) -> Result<bool> {
     match answer {
         Ok(_) => Ok(false),

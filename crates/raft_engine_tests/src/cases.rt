@@ -1,4 +1,4 @@
-//! The histories, by what they are about.
+//! The histories, in a module for each subject.
 
 pub mod failures;
 pub mod groups;
@@ -8,10 +8,13 @@ pub mod rewritings;
 use crate::engine::Step;
 use raft_base::LogQueue;
 
-/// A history, what the table holds at its end, and what a restart finds.
+/// A history of steps, with what must come of it.
 pub struct Case {
+    /// The steps, in order.
     pub steps: &'static [Step],
+    /// What the tables hold at its end.
     pub kept: &'static str,
+    /// What a restart finds in the files at its end.
     pub found: &'static str,
 }
 

@@ -1,4 +1,5 @@
-//! An engine that keeps tables and writes files of both queues, all in memory.
+//! A model of an engine, for the histories: it keeps tables and writes files of both queues, all in memory, by the calls of
+//! the layer below.
 
 ghost use Rattle.std.specs.Prelude.{◌≡◌};
 ghost use Rattle.raft_records.specs.LogBatch.{is_open};
@@ -12,47 +13,52 @@ use raft_records::{
 use raft_recover::replay_segment;
 use std::alloc::Global;
 
-/// What an engine does.
+/// A step of a history.
 #[derive(Clone, Copy)]
 pub enum Step {
-    /// Writes a batch to an append file and to the tables.
+    /// Writes a batch to this append file and to the tables.
     Append(FileSeq, &'static [Part]),
-    /// Writes a batch to a rewrite file and to the tables, by a gate.
+    /// Writes a batch to this rewrite file and to the tables; the records in append files up to the gate move.
     Rewrite(FileSeq, Option<FileSeq>, &'static [Part]),
-    /// Writes a batch to a rewrite file alone.
+    /// Writes a batch to this rewrite file, and not to the tables.
     Tell(FileSeq, &'static [Part]),
-    /// Writes the cleaned regions to a rewrite file.
+    /// Writes the list of cleaned regions to this rewrite file.
     TellCleaned(FileSeq),
-    /// Tells the table the first and the last file of its group.
+    /// Sets the first and the last file of the table's atomic group.
     ApplyGroup(FileSeq, FileSeq),
-    /// Deletes those files of a queue up to a number that the tables don't need.
+    /// Deletes the files of a queue, up to this number, that the tables don't need.
     Purge(LogQueue, FileSeq),
-    /// Makes what a queue holds last.
+    /// Syncs all files of a queue.
     Sync(LogQueue),
-    /// Makes what one file holds last.
+    /// Syncs one file of a queue.
     SyncFile(LogQueue, FileSeq),
-    /// Power fails: what wasn't synced is lost.
+    /// Loses the bytes that weren't synced, as a power failure does.
     Fail,
-    /// Takes the tables that the files of both queues give.
+    /// Replaces the tables by those that the files of both queues give.
     Restart,
-    /// Reads an entry out of its file.
+    /// Reads the entry with this index from its file.
     Read(u64),
 }
 
-/// A log file.
+/// A log file of the model.
 #[derive(Drop)]
 struct LogFile {
+    /// Its queue and its number.
     id: FileId,
+    /// Its bytes.
     bytes: Vec<u8>,
-    /// How many bytes were synced.
+    /// How many of its bytes were synced.
     synced: usize,
 }
 
-/// Files, oldest first in each queue, and the tables that are kept.
+/// The model: files of both queues, and the tables that are kept of them.
 #[derive(Drop)]
 pub struct Engine {
+    /// What everything is allocated with.
     alloc: Global,
+    /// The files, in the order in which they were begun.
     files: Vec<LogFile>,
+    /// The tables.
     tables: MemTableAccessor,
 }
 
@@ -127,7 +133,7 @@ impl Engine {
         Ok(())
     }
 
-    /// Makes what all files of a queue hold last, or what the one of a number holds.
+    /// Syncs the file `seq` of `queue`, or for `None` all of its files.
     fn sync(&mut self, queue: LogQueue, seq: Option<FileSeq>) {
         for file in &mut self.files {
             if file.id.queue == queue && seq.is_none_or(|seq| file.id.seq == seq) {
@@ -142,7 +148,7 @@ impl Engine {
         }
     }
 
-    /// Appends the bytes of a batch to a file, and gives its items their places.
+    /// Appends the bytes of a batch to a file, and returns the batch with the places of its items.
     fn write(&mut self, queue: LogQueue, seq: FileSeq, mut batch: LogBatch) -> Result<LogBatch>
         requires { batch.stage ≡ is_open }
     {
@@ -160,7 +166,7 @@ impl Engine {
         Ok(batch)
     }
 
-    /// Appends bytes to a file, which is made where there is none, and returns where they are.
+    /// Appends bytes to a file, which is made if there is none. Returns the offset at which they stand.
     fn append(&mut self, id: FileId, bytes: &[u8]) -> Result<u64> {
         for file in &mut self.files {
             if file.id == id {
@@ -178,7 +184,7 @@ impl Engine {
         Ok(0)
     }
 
-    /// Deletes the files of a queue up to a number and below the least one that the table needs.
+    /// Deletes the files of `queue` whose number is at most `last`, and below the least one that the table needs.
     fn purge(&mut self, queue: LogQueue, last: FileSeq) {
         let table = self.tables.get(REGION);
         let least = table.and_then(|table: &MemTable| table.min_file_seq(queue));
@@ -188,7 +194,7 @@ impl Engine {
         });
     }
 
-    /// Writes a batch to an append file and to the tables, if they would take it.
+    /// Writes a batch to an append file and to the tables, if the tables accept it; else nothing is written.
     pub fn write_tested(&mut self, seq: FileSeq, parts: &'static [Part]) -> Result<()> {
         let batch = batch_of(self.alloc, parts)?;
         self.tables.check_append_writes(batch.items())?;
@@ -206,7 +212,7 @@ impl Engine {
         Ok(copies)
     }
 
-    /// Returns how many bytes the last file has.
+    /// Returns the length of the last file in bytes; 0 without files.
     pub fn len(&self) -> usize {
         match self.files.last() {
             Some(file) => file.bytes.len(),
@@ -214,7 +220,7 @@ impl Engine {
         }
     }
 
-    /// Puts zeros in place of bytes of the last file, as where a page of it was never written.
+    /// Sets the bytes of the last file from `first` on and below `end` to zero, as if a page of it had never been written.
     pub fn lose_page(&mut self, first: usize, end: usize) {
         if let Some(file) = self.files.last_mut() {
             for at in first..end {
@@ -225,21 +231,21 @@ impl Engine {
         }
     }
 
-    /// Drops the bytes of the last file from one on.
+    /// Drops the bytes of the last file from position `end` on.
     pub fn lose_from(&mut self, end: usize) {
         if let Some(file) = self.files.last_mut() {
             file.bytes.truncate(end);
         }
     }
 
-    /// Takes the last byte of the last file away.
+    /// Drops the last byte of the last file.
     pub fn tear(&mut self) {
         if let Some(file) = self.files.last_mut() {
             let _ = file.bytes.pop();
         }
     }
 
-    /// Changes a byte of the first batch of the last file.
+    /// Changes the lowest bit of the byte at position `at` of the last file.
     pub fn flip(&mut self, at: usize) {
         if let Some(file) = self.files.last_mut() {
             if let Some(byte) = file.bytes.get_mut(at) {
@@ -248,7 +254,11 @@ impl Engine {
         }
     }
 
-    /// Cuts the last file where its readable batches end, unless a readable one stands behind the unreadable one.
+    /// Cuts the last file at the end of its readable prefix.
+    ///
+    /// # Errors
+    ///
+    /// The reason why no batch can be read there, if a readable batch follows the unreadable one. Nothing is cut then.
     pub fn cut_tail(&mut self) -> Result<()> {
         let Some(file) = self.files.last_mut() else {
             return Ok(());
@@ -265,7 +275,7 @@ impl Engine {
         Ok(())
     }
 
-    /// Tests whether a readable batch stands anywhere behind the place where reading of the last file stops.
+    /// Tests whether a readable batch stands anywhere after the position where reading of the last file stops.
     pub fn has_batch_later(&self) -> Result<bool> {
         let Some(file) = self.files.last() else {
             return Ok(false);
@@ -280,14 +290,14 @@ impl Engine {
         Ok(false)
     }
 
-    /// Writes an entry to append file 1 whose bytes are a batch that might stand in that file.
+    /// Writes to append file 1 an entry whose bytes are a batch that could stand in that file.
     pub fn append_batch_in_entry(&mut self, index: u64) -> Result<()> {
         let batch = batch_with(self.alloc, REGION, index, batch_bytes(self.alloc)?)?;
         let mut written = self.write(LogQueue::Append, 1, batch)?;
         self.tables.apply_append_writes(written.drain())
     }
 
-    /// Reads an entry of the table out of its file.
+    /// Reads the bytes of an entry of the table from its file.
     pub fn entry(&self, index: u64) -> Result<Vec<u8>> {
         let entry = self.entry_index(index)?;
         let place = entry.entries.ok_or(Error::EntryNotFound)?;
@@ -299,7 +309,7 @@ impl Engine {
         Err(Error::EntryNotFound)
     }
 
-    /// Returns what the table has of an entry.
+    /// Returns what the table has of an entry: its place, and its span there.
     fn entry_index(&self, index: u64) -> Result<EntryIndex> {
         let table = self.tables.get(REGION).ok_or(Error::EntryNotFound)?;
         let mut entries: Vec<EntryIndex> = Vec::new(self.alloc);
@@ -310,12 +320,12 @@ impl Engine {
         }
     }
 
-    /// Returns what the tables hold.
+    /// Returns what the tables hold, as a text.
     pub fn kept(&self) -> Result<String> {
         text_of(self.alloc, self.tables.get(REGION))
     }
 
-    /// Returns what the files of both queues give.
+    /// Returns what the files of both queues give, as a text.
     pub fn recovered(&self) -> Result<String> {
         text_of(self.alloc, self.reopened()?.get(REGION))
     }
@@ -345,13 +355,13 @@ impl Engine {
     }
 }
 
-/// Returns the bytes of a batch that might stand in append file 1.
+/// Returns the bytes of a batch that could stand in append file 1.
 fn batch_bytes(alloc: Global) -> Result<Vec<u8>> {
     let batch = batch_of(alloc, &[Part::Put("v")])?;
     bytes_for(alloc, batch, FileId::new(LogQueue::Append, 1))
 }
 
-/// Returns the bytes of an entry in its file.
+/// Returns the bytes of an entry, whose block is at `place` of a file.
 fn bytes_in(
     alloc: Global,
     file: &LogFile,
@@ -363,8 +373,8 @@ fn bytes_in(
     Ok(Vec::from_slice(alloc, entry_bytes(alloc, block, entry)?)?)
 }
 
-/// Tests whether a readable batch stands where the header of the unreadable one says that it ends: on purpose without the
-/// engine that is tested, since a test must not ask it whether it is right.
+/// Tests whether a readable batch stands where the unreadable one at position `at` ends by its header. This is written without
+/// the engine under test, so that the test doesn't ask that whether it is right.
 fn has_batch_behind(part: &FilePart, at: usize) -> Result<bool> {
     let mut bytes = part.bytes().get(at..).unwrap_or(b"");
     let Ok((_, _, len)) = LogBatch::decode_header(part.allocator(), &mut bytes) else {
@@ -377,7 +387,7 @@ fn has_batch_behind(part: &FilePart, at: usize) -> Result<bool> {
     finds_batch(next_batch(part, end))
 }
 
-/// Tests whether a batch is readable. Want of memory is handed on.
+/// Tests whether a batch could be read. Want of memory is passed on.
 fn finds_batch<T: Drop>(read: Result<T>) -> Result<bool> {
     match read {
         Ok(_) => Ok(true),
@@ -386,12 +396,13 @@ fn finds_batch<T: Drop>(read: Result<T>) -> Result<bool> {
     }
 }
 
-/// Returns the bytes of a file.
+/// Returns a copy of a file as a part.
 fn part_of(file: &LogFile) -> Result<FilePart> {
     FilePart::new(file.id, Version::V2, 0, file.bytes.clone()?)
 }
 
-/// Returns the entries of a table as `[first,end)`, and the value of `k` as `k=value`.
+/// Returns the entries of a table as `[first,end)`, where `end` is the index after the last one, and the value of the key `k`
+/// as `k=value`; an empty text for `None`.
 pub fn text_of(alloc: Global, table: Option<&MemTable>) -> Result<String> {
     let mut text = String::new(alloc);
     let Some(table) = table else {

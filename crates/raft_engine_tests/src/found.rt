@@ -1,5 +1,5 @@
-//! What an opening makes of found files: what is damaged or missing is refused with its place, a torn tail is cut off, and files
-//! of which nothing says that they were there aren't missed.
+//! Tests of what an opening makes of found files. What is damaged or missing is refused with its place, and a torn tail is cut
+//! off. Files of which nothing says that they were there aren't missed.
 
 use crate::batches::Part::{Entries, Put};
 use crate::calls::{
@@ -13,7 +13,7 @@ use raft_records::{Error, Result};
 use std::alloc::Global;
 use std::thread::Threads;
 
-/// Makes the append file of an engine that wrote [1,3), `k=v` and [3,9): batches of 33, 28 and 41 bytes.
+/// Returns the append file of an engine that wrote [1,3), `k=v` and [3,9): batches of 33, 28 and 41 bytes.
 pub fn one_file(alloc: Global) -> Result<LogFiles> {
     let mut engine = new_engine(alloc)?;
     write_one(alloc, &mut engine)
@@ -26,7 +26,7 @@ fn write_one(alloc: Global, engine: &mut Engine<MemoryFiles>) -> Result<LogFiles
     copies(engine, LogQueue::Append)
 }
 
-/// Makes the append files of an engine that wrote these in a file each, and [9,12) in a fourth one.
+/// Returns the four append files of an engine that wrote [1,3), `k=v`, [3,9) and [9,12), each to a file of its own.
 pub fn four_files(alloc: Global) -> Result<LogFiles> {
     let mut engine = new_engine(alloc)?;
     write_four(alloc, &mut engine)
@@ -43,17 +43,17 @@ fn write_four(alloc: Global, engine: &mut Engine<MemoryFiles>) -> Result<LogFile
     copies(engine, LogQueue::Append)
 }
 
-/// What happens to append files before they are opened.
+/// What is done to append files before they are opened.
 enum Change {
-    /// The lowest bit of this byte of the one file is changed.
+    /// The lowest bit of the byte at this position of the one file is changed.
     Flipped(usize),
     /// The one file gets this number.
     Renumbered(FileSeq),
-    /// So many bytes of the one file are left.
+    /// The one file is cut to this length.
     Cut(usize),
     /// Of the four files those with these numbers are taken away.
     Without(&'static [FileSeq]),
-    /// The one file is one of raft-engine: its header, with the version behind it.
+    /// The one file has just the header of raft-engine's files, with the version after it.
     OfEngine,
 }
 
@@ -102,13 +102,13 @@ fn without(alloc: Global, files: LogFiles, numbers: &[FileSeq]) -> Result<LogFil
     Ok(left)
 }
 
-/// What an opening makes of append files.
+/// What an opening of append files has to answer.
 pub enum Answer {
-    /// An engine that holds this.
+    /// It opens them, and the engine holds this.
     Holds(&'static str),
-    /// A refusal as damage with this text.
+    /// It refuses them with `Corruption` and this text.
     Says(&'static str),
-    /// A refusal as an invalid argument with this text.
+    /// It refuses them with `InvalidArgument` and this text.
     Names(&'static str),
 }
 
@@ -234,7 +234,7 @@ fn rows_of_modes() -> &'static [(RecoveryMode, Change, Answer)] {
     &ROWS_OF_MODES
 }
 
-/// Tests whether an opening is refused as damage with this text. Another refusal is handed on.
+/// Tests whether an opening returned `Corruption` with this text. Any other error is passed on.
 pub fn says<T: Drop>(opened: Result<T>, text: &str) -> Result<bool> {
     match opened {
         Ok(_) => Ok(false),
@@ -243,7 +243,7 @@ pub fn says<T: Drop>(opened: Result<T>, text: &str) -> Result<bool> {
     }
 }
 
-/// Tests whether an opening is refused as an invalid argument with this text. Another refusal is handed on.
+/// Tests whether an opening returned `InvalidArgument` with this text. Any other error is passed on.
 pub fn names<T: Drop>(opened: Result<T>, text: &str) -> Result<bool> {
     match opened {
         Ok(_) => Ok(false),

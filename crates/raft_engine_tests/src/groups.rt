@@ -1,5 +1,5 @@
-//! Atomic groups in the rewrite files that are found: a whole group takes effect, an open or a dead one doesn't, and a group
-//! that doesn't stand in a row, in one file, is refused.
+//! Tests of atomic groups in found rewrite files. A whole group takes effect; one that is still open, or that was begun anew,
+//! doesn't. A group that doesn't stand in a row, in one file, is refused.
 
 use crate::again::{empty_append_files, is_found_again};
 use crate::batches::Part::{Begin, Clean, Compact, End, Entries, Middle, Put};
@@ -15,16 +15,16 @@ use raft_records::Result;
 use std::alloc::Global;
 use std::thread::Threads;
 
-/// The batches of rewrite files, of each file those in one list.
+/// Rewrite files: of each file the batches, and of each batch the items.
 type Batches = &'static [&'static [&'static [Part]]];
 
-/// Returns the bytes of a batch of a rewrite file.
+/// Returns the bytes of a batch that is signed for rewrite file `seq`.
 fn bytes_of(alloc: Global, seq: FileSeq, parts: &[Part]) -> Result<Vec<u8>> {
     let batch = batch_of(alloc, parts)?;
     bytes_for(alloc, batch, FileId::new(LogQueue::Rewrite, seq))
 }
 
-/// Returns rewrite files of these batches.
+/// Returns rewrite files with these batches, numbered from 1 on.
 fn files_of(alloc: Global, files: Batches) -> Result<LogFiles> {
     let mut made = Vec::new(alloc);
     let mut seq = 1;
@@ -35,7 +35,7 @@ fn files_of(alloc: Global, files: Batches) -> Result<LogFiles> {
     Ok(made)
 }
 
-/// Returns the bytes of a rewrite file of these batches.
+/// Returns the bytes of rewrite file `seq` with these batches.
 fn file_of(alloc: Global, seq: FileSeq, batches: &[&[Part]]) -> Result<Vec<u8>> {
     let mut bytes = Vec::new(alloc);
     for parts in batches {
@@ -44,7 +44,7 @@ fn file_of(alloc: Global, seq: FileSeq, batches: &[&[Part]]) -> Result<Vec<u8>> 
     Ok(bytes)
 }
 
-/// Rewrite files of at most 9 of which each group stands in a row, and what they hold.
+/// Rewrite files of which each group stands in a row, and what they hold.
 static ROWS: [(Batches, &str); 7] = [
     (
         &[&[
@@ -122,14 +122,15 @@ fn opened<R: Threads + Sync>(rt: &R, alloc: Global, files: Batches) -> Result<En
     open(rt, alloc, Vec::new(alloc), files_of(alloc, files)?)
 }
 
-/// Moves all to a new rewrite file, and deletes the older ones.
+/// Moves all to a new rewrite file, and purges the older ones. Returns whether one rewrite file is left.
 fn move_and_purge(engine: &mut Engine<MemoryFiles>) -> Result<bool> {
     rewrite_again(engine)?;
     purge_rewrites(engine)?;
     Ok(count_files(engine, LogQueue::Rewrite) == 1)
 }
 
-/// Tests whether rewrite files hold this, and still do after a restart, a purge and a change.
+/// Tests whether an engine that is opened over these rewrite files holds `left`, and a restart finds it too, also after a move
+/// and a purge; and whether the engine goes on then.
 fn are_held<R: Threads + Sync>(rt: &R, alloc: Global, files: Batches, left: &str) -> Result<bool> {
     let mut engine = opened(rt, alloc, files)?;
     is_held(rt, alloc, &mut engine, left)
@@ -161,7 +162,7 @@ fn groups_in_rows_are_found(rt: HostRuntime) {
     }
 }
 
-/// Tests whether rewrite files are refused.
+/// Tests whether an opening refuses these rewrite files with `InvalidArgument`.
 fn are_refused<R: Threads + Sync>(rt: &R, alloc: Global, files: Batches) -> Result<bool> {
     finds_invalid(opened(rt, alloc, files))
 }
@@ -173,7 +174,8 @@ fn groups_out_of_rows_are_refused(rt: HostRuntime) {
     }
 }
 
-/// The batches of a rewrite file that moves [1,3) again in a group, beside more entries, and what so many of them leave.
+/// The batches of a rewrite file, in order, and what the file holds up to the end of each: a group of three batches among
+/// others.
 static FRONTS: [(&[Part], &str); 6] = [
     (&[Entries(1, 3), Put("v")], "[1,3)k=v"),
     (&[Compact(2)], "[2,3)k=v"),
@@ -183,8 +185,8 @@ static FRONTS: [(&[Part], &str); 6] = [
     (&[Begin(8), Clean], "[2,5)k=w"),
 ];
 
-/// Tests whether an engine finds what so many of the batches leave, where the last file has that many and a part of the next
-/// one, and goes on.
+/// Tests whether an engine that is opened over a rewrite file of these bytes holds `left`, and goes on. The bytes may end in
+/// the midst of a batch.
 fn finds<R: Threads + Sync>(rt: &R, alloc: Global, bytes: &[u8], left: &str) -> Result<bool> {
     let mut engine = opened_bytes(rt, alloc, bytes)?;
     goes_on(rt, alloc, &mut engine, left)
@@ -209,8 +211,8 @@ fn goes_on<R: Threads + Sync>(
     Ok(holds(alloc, engine, left)? && move_and_purge(engine)? && is_found(rt, alloc, engine, left)?)
 }
 
-/// Tests whether an engine finds this at each number of bytes up to the end of one more batch, which is put behind those that
-/// there are.
+/// Appends the bytes `next`, which are a batch, to `bytes`, one after another. Tests before each of them whether an engine
+/// over the bytes so far holds `left`.
 fn finds_to_next<R: Threads + Sync>(
     rt: &R,
     alloc: Global,
@@ -227,7 +229,8 @@ fn finds_to_next<R: Threads + Sync>(
     Ok(true)
 }
 
-/// Puts the batches, one after another, and tests whether an engine finds what they leave at each number of bytes.
+/// Appends the batches of [`FRONTS`] to `bytes`. Tests at each length of the file whether an engine over it holds what the
+/// whole batches leave.
 fn finds_batches<R: Threads + Sync>(rt: &R, alloc: Global, bytes: &mut Vec<u8>) -> Result<bool> {
     let mut left = "";
     for (parts, next) in &FRONTS {
@@ -240,7 +243,7 @@ fn finds_batches<R: Threads + Sync>(rt: &R, alloc: Global, bytes: &mut Vec<u8>) 
     finds(rt, alloc, bytes.as_slice(), left)
 }
 
-/// Tests whether an engine finds what the batches leave at each number of bytes.
+/// Tests at each length of a file of the batches of [`FRONTS`] whether an engine over it holds what the whole batches leave.
 fn finds_prefixes<R: Threads + Sync>(rt: &R, alloc: Global) -> Result<bool> {
     let mut bytes = Vec::new(alloc);
     finds_batches(rt, alloc, &mut bytes)

@@ -1,5 +1,9 @@
-//! The rules that an engine over this layer keeps: for each a history that breaks it, with what that loses or brings
-//! back, and one that keeps it; and an engine over files in memory, which is written and recovered.
+//! Tests of the rules that an engine over this layer keeps: for each rule a history that breaks it, with what that loses or
+//! brings back, and one that keeps it. And tests of `Engine` over files in memory, which is written, opened again and
+//! recovered.
+//!
+//! What tables hold is written as a text: `[1,3)k=v` are the entries with the indexes 1 and 2, and the key `k` with the value
+//! `v`.
 #![tactic(auto)]
 
 #[cfg(test)]

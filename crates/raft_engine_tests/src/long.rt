@@ -1,4 +1,4 @@
-//! A long last file, which several workers read.
+//! Tests of a long last file, which several workers read.
 
 use crate::batches::Part::Large;
 use crate::batches::REGION;
@@ -13,16 +13,16 @@ use raft_records::Result;
 use std::alloc::Global;
 use std::thread::Threads;
 
-/// All four workers read the append queue, as there are no rewrite files.
+/// A way with four workers. All of them read the append queue, as there are no rewrite files.
 const BY_FOUR: Way = Way {
     version: Version::V2,
     workers: 4,
 };
 
-/// How many bytes the file lacks at its end, and what is opened.
+/// How many bytes the file lacks at its end, and what the engine holds that is opened over it.
 static ROWS: [(usize, &str); 3] = [(0, "[1,1201)"), (1, "[1,801)"), (1_400_000, "[1,401)")];
 
-/// Makes a file of three batches of more than a MiB each, which lacks so many bytes at its end.
+/// Returns an append file of three batches of more than a MiB each, without its last `lacks` bytes.
 fn long(alloc: Global, lacks: usize) -> Result<LogFiles> {
     let mut engine = new_engine(alloc)?;
     write_long(alloc, &mut engine)?;
@@ -52,7 +52,7 @@ fn a_long_last_file_is_opened(rt: HostRuntime) {
     }
 }
 
-/// Returns how long the first batch of a file is, as the first seven bytes of its header say.
+/// Returns the length of the first batch of one file, which the first seven bytes of its header name.
 fn len_of_first(files: &LogFiles) -> usize {
     let mut len = 0;
     for (_, bytes) in files {
@@ -63,7 +63,7 @@ fn len_of_first(files: &LogFiles) -> usize {
     len
 }
 
-/// Tests whether two workers find the damaged entries of the second batch.
+/// Tests whether an opening by two workers names the second batch, if its entries are damaged.
 fn is_named<R: Threads + Sync>(rt: &R, alloc: Global) -> Result<bool> {
     let files = long(alloc, 0)?;
     let second = len_of_first(&files);

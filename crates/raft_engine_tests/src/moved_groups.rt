@@ -1,4 +1,5 @@
-//! A region whose entries are more than one part moves in several batches, and from rewrite files in an atomic group.
+//! Tests of regions whose entries are more than one part: they move to the rewrite queue in several batches, and from there in
+//! an atomic group.
 
 use crate::again::{empty_append_files, is_found_again, write_each};
 use crate::batches::Part::{Medium, Put};
@@ -12,12 +13,12 @@ use raft_records::{AtomicGroupStatus, FilePart, Result, next_batch};
 use std::alloc::Global;
 use std::thread::Threads;
 
-/// Entries of 1,500 bytes each, of which two are one part, and a key.
+/// What the engine holds: entries of 1,500 bytes each, of which two are one part, and a key.
 const TEXT: &str = "[1,4)k=v";
 
 type Marker = Option<(u64, AtomicGroupStatus)>;
 
-/// Makes an engine that moved them to its first rewrite file.
+/// Makes an engine that wrote these records, and moved them to its first rewrite file.
 fn grown(alloc: Global) -> Result<Engine<MemoryFiles>> {
     let mut engine = new_engine(alloc)?;
     grow(alloc, &mut engine)?;
@@ -31,7 +32,7 @@ fn grow(alloc: Global, engine: &mut Engine<MemoryFiles>) -> Result<()> {
     Ok(())
 }
 
-/// Returns the group marker that each batch of a rewrite file begins with, of five batches at most.
+/// Returns for each of the first five batches of a rewrite file the group marker with which it begins, or `None`.
 fn markers_in(alloc: Global, part: &FilePart) -> Result<Vec<Marker>> {
     let mut markers = Vec::new(alloc);
     let mut at = 0;
@@ -47,7 +48,7 @@ fn markers_in(alloc: Global, part: &FilePart) -> Result<Vec<Marker>> {
     Ok(markers)
 }
 
-/// Returns those of the last rewrite file.
+/// Returns the markers with which the batches of the last rewrite file begin.
 fn last_markers(alloc: Global, engine: &Engine<MemoryFiles>) -> Result<Vec<Marker>> {
     let Some((seq, bytes)) = copies(engine, LogQueue::Rewrite)?.pop() else {
         return Ok(Vec::new(alloc));
@@ -56,12 +57,12 @@ fn last_markers(alloc: Global, engine: &Engine<MemoryFiles>) -> Result<Vec<Marke
     markers_in(alloc, &FilePart::new(file, Version::V2, 0, bytes)?)
 }
 
-/// Tests whether the last rewrite file has two batches, of no group.
+/// Tests whether the last rewrite file has two batches, none of them of a group.
 fn has_two_batches(alloc: Global, engine: &Engine<MemoryFiles>) -> Result<bool> {
     Ok(last_markers(alloc, engine)?.as_slice() == [None, None].as_slice())
 }
 
-/// Tests whether the last rewrite file has a group of its number, with two parts.
+/// Tests whether the last rewrite file has just a group of the number `seq`, with two parts.
 fn has_group(alloc: Global, engine: &Engine<MemoryFiles>, seq: u64) -> Result<bool> {
     let group = [
         Some((seq, Begin)),
@@ -72,7 +73,8 @@ fn has_group(alloc: Global, engine: &Engine<MemoryFiles>, seq: u64) -> Result<bo
     Ok(last_markers(alloc, engine)?.as_slice() == group.as_slice())
 }
 
-/// Tests whether all is found once it moved in two batches, in a group, and in another one once the older files went.
+/// Tests whether the records move in two batches, then in a group, and then in another group once the older file is deleted;
+/// and whether a restart finds them after each move.
 fn moves_in_groups<R: Threads + Sync>(rt: &R, alloc: Global) -> Result<bool> {
     let mut engine = grown(alloc)?;
     moves_in_two_groups(rt, alloc, &mut engine)

@@ -1,4 +1,5 @@
-//! An opening that is refused asks nothing: the files are as they were, and are opened with all that they hold afterwards.
+//! Tests that an opening which refuses files asks nothing of them: they are as they were, and can be opened afterwards with
+//! all that they hold.
 
 use crate::batches::Part::{Entries, Put};
 use crate::batches::REGION;
@@ -23,7 +24,7 @@ const IN_OTHER_VERSION: Way = Way {
     workers: 2,
 };
 
-/// Opens an engine over copies of the files of both queues.
+/// Opens an engine over copies of the files of both queues, in the given way.
 fn opened<R: Threads + Sync>(
     rt: &R,
     alloc: Global,
@@ -34,7 +35,7 @@ fn opened<R: Threads + Sync>(
     open_as(rt, alloc, way, append, files.copies(LogQueue::Rewrite)?)
 }
 
-/// Makes the files of an engine that wrote [1,3) and `k=v`, and stopped in the midst of a third batch.
+/// Returns the append file of an engine that wrote [1,3), `k=v` and a third batch, which lacks its last byte.
 fn torn(alloc: Global) -> Result<LogFiles> {
     let mut engine = new_engine(alloc)?;
     tear(alloc, &mut engine)
@@ -52,13 +53,13 @@ fn tear(alloc: Global, engine: &mut Engine<MemoryFiles>) -> Result<LogFiles> {
     Ok(append)
 }
 
-/// Makes a file whose first batch is damaged.
+/// Returns that file with a byte of its first batch changed.
 fn damaged(alloc: Global) -> Result<LogFiles> {
     let files = torn(alloc)?;
     Ok(with_flipped(files, 24))
 }
 
-/// Returns the files that are handed back where they aren't opened, if the refusal isn't want of memory.
+/// Returns the files that a refused opening hands back, or `None` if it succeeded. Want of memory is passed on.
 fn refused(opened: Opened) -> Result<Option<MemoryFiles>> {
     match opened {
         Ok(_) => Ok(None),
@@ -69,13 +70,13 @@ fn refused(opened: Opened) -> Result<Option<MemoryFiles>> {
     }
 }
 
-/// Tests whether files are opened in the right way, and hold what was written before the torn batch.
+/// Tests whether files can be opened in the right way, and hold what was written before the torn batch.
 fn are_opened<R: Threads + Sync>(rt: &R, alloc: Global, files: &MemoryFiles) -> Result<bool> {
     let engine = opened(rt, alloc, RIGHT, files)??;
     Ok(text_of(alloc, engine.accessor().get(REGION))?.as_str() == "[1,3)k=v")
 }
 
-/// Tests whether a refusal leaves each byte of the torn file.
+/// Tests whether the append file still has each byte of the torn file.
 fn is_left(alloc: Global, files: &MemoryFiles) -> Result<bool> {
     let torn = torn(alloc)?;
     match (files.files(LogQueue::Append).last(), torn.last()) {
@@ -84,7 +85,8 @@ fn is_left(alloc: Global, files: &MemoryFiles) -> Result<bool> {
     }
 }
 
-/// Tests whether torn files are refused when they are opened in a wrong way, and are opened in the right one then.
+/// Tests whether an opening in this wrong way refuses the torn file and leaves it as it is, and one in the right way opens it
+/// then.
 fn is_refused<R: Threads + Sync>(rt: &R, alloc: Global, way: Way) -> Result<bool> {
     match refused(open_as(rt, alloc, way, torn(alloc)?, Vec::new(alloc))?)? {
         Some(files) => is_left_and_opened(rt, alloc, &files),
@@ -100,7 +102,7 @@ fn is_left_and_opened<R: Threads + Sync>(
     Ok(is_left(alloc, files)? && are_opened(rt, alloc, files)?)
 }
 
-/// Tests whether damage of the rewrite queue leaves the torn file of the append queue.
+/// Tests whether an opening refuses a damaged rewrite file, and leaves the torn append file as it is.
 fn damage_is_refused<R: Threads + Sync>(rt: &R, alloc: Global) -> Result<bool> {
     match refused(open_as(rt, alloc, RIGHT, torn(alloc)?, damaged(alloc)?)?)? {
         Some(files) => is_left(alloc, &files),
@@ -108,12 +110,12 @@ fn damage_is_refused<R: Threads + Sync>(rt: &R, alloc: Global) -> Result<bool> {
     }
 }
 
-/// Returns the length of a file.
+/// Returns the length of the last file in bytes.
 fn file_len(files: &LogFiles) -> u64 {
     files.last().map_or(0, |file| file.1.len() as u64)
 }
 
-/// Returns the length of the file that has the first two batches of the torn one alone.
+/// Returns how many bytes the first two batches of the torn file have.
 fn whole_len(alloc: Global) -> Result<u64> {
     let mut engine = new_engine(alloc)?;
     write(alloc, &mut engine, &[Entries(1, 3)], true)?;
@@ -122,7 +124,7 @@ fn whole_len(alloc: Global) -> Result<u64> {
     Ok(file_len(&append))
 }
 
-/// Tests whether a tail begins behind so many bytes of the first file, and goes on to its end.
+/// Tests whether `tail` is that of file 1 from the offset `whole` on, up to the file's length `len`.
 fn is_tail(tail: Option<&CutTail>, whole: u64, len: u64) -> bool {
     match tail {
         Some(tail) => {
@@ -132,7 +134,8 @@ fn is_tail(tail: Option<&CutTail>, whole: u64, len: u64) -> bool {
     }
 }
 
-/// Tests whether an opening tells the torn tail that it cuts off from the append queue, and none of the rewrite queue.
+/// Tests whether an opening tells which torn tail it cuts off the append queue, and that it cuts nothing off the rewrite
+/// queue.
 fn tail_is_told<R: Threads + Sync>(rt: &R, alloc: Global) -> Result<bool> {
     let append = torn(alloc)?;
     let len = file_len(&append);
@@ -146,7 +149,7 @@ fn a_cut_is_told(rt: HostRuntime) {
     assert!(rt; holds!(tail_is_told(&rt, rt.alloc())));
 }
 
-/// Tests whether the mode that cuts off damage tells of a file whose first byte is changed that all of it goes.
+/// Tests whether an opening in the mode that cuts off damage tells that it cuts off all of a file whose first byte is changed.
 fn damage_is_cut_and_told<R: Threads + Sync>(rt: &R, alloc: Global) -> Result<bool> {
     let append = with_flipped(torn(alloc)?, 0);
     let len = file_len(&append);
@@ -160,7 +163,7 @@ fn a_cut_of_damage_is_told(rt: HostRuntime) {
     assert!(rt; holds!(damage_is_cut_and_told(&rt, rt.alloc())));
 }
 
-/// Makes the torn file with another number.
+/// Returns the torn file with another number.
 fn renumbered(alloc: Global) -> Result<LogFiles> {
     let mut append = torn(alloc)?;
     if let Some(last) = append.last_mut() {
@@ -169,14 +172,15 @@ fn renumbered(alloc: Global) -> Result<LogFiles> {
     Ok(append)
 }
 
-/// Tests whether append files are refused.
+/// Tests whether an opening refuses append files. Want of memory is passed on.
 fn are_refused<R: Threads + Sync>(rt: &R, alloc: Global, append: LogFiles) -> Result<bool> {
     let left = refused(open_as(rt, alloc, RIGHT, append, Vec::new(alloc))?)?;
     Ok(left.is_some())
 }
 
-/// Tests whether a file is refused whose first byte is changed, so that a header names more bytes than there are, and one that
-/// got another number: sound batches stand behind the first byte, or batches that are signed for the file of the old number.
+/// Tests whether an opening refuses a file whose first byte is changed, so that its header names more bytes than there are,
+/// and a file that got another number: after the first byte stand sound batches, or batches that are signed for the old
+/// number.
 fn damage_is_told_from_torn_tails<R: Threads + Sync>(rt: &R, alloc: Global) -> Result<bool> {
     Ok(
         are_refused(rt, alloc, with_flipped(torn(alloc)?, 0))?

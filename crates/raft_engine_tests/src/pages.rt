@@ -1,4 +1,5 @@
-//! A page of zeros among batches that weren't synced: whatever is opened gives each entry, or names its batch.
+//! Tests of a page of zeros among batches that weren't synced: an engine that is opened gives each entry, or its batch is
+//! named.
 
 use crate::batches::{REGION, batch_with, bytes_for};
 use crate::calls::{LogFiles, OpenedInMode, finds_damage, get_entry, holds, open_in_mode};
@@ -9,22 +10,24 @@ use raft_records::Result;
 use std::alloc::Global;
 use std::thread::Threads;
 
-/// How many batches the file has, of an entry each.
+/// The number of batches of the file, each with one entry.
 const BATCHES: u64 = 8;
 
-/// How many bytes an entry has.
+/// The length of an entry in bytes.
 const ENTRY: usize = 1_024;
 
-/// How many bytes a page has.
+/// The length of the page in bytes.
 const PAGE: usize = 512;
 
-/// At how many places the page is put.
+/// The number of places at which the page is put.
 const PLACES: usize = 200;
 
-/// The only append file, and where its batches begin.
+/// The only append file.
 #[derive(Drop)]
 struct File {
+    /// Its bytes.
     bytes: Vec<u8>,
+    /// The offsets of its batches.
     offsets: Vec<u64>,
 }
 
@@ -41,7 +44,7 @@ fn written(alloc: Global) -> Result<File> {
     Ok(File { bytes, offsets })
 }
 
-/// Returns the file with a page of zeros from a byte on.
+/// Returns the file with a page of zeros from position `at` on.
 fn without_page(alloc: Global, file: &File, at: usize) -> Result<LogFiles> {
     let mut bytes = Vec::from_slice(alloc, file.bytes.as_slice())?;
     for byte in bytes.iter_mut().skip(at).take(PAGE) {
@@ -50,12 +53,13 @@ fn without_page(alloc: Global, file: &File, at: usize) -> Result<LogFiles> {
     Ok(vec![in alloc; (1, bytes)]?)
 }
 
-/// Tests whether a batch is named that begins at this offset.
+/// Tests whether the batch at this offset is named.
 fn is_named(damaged: &[DamagedBatch], offset: u64) -> bool {
     damaged.iter().any(|batch| batch.offset == offset)
 }
 
-/// Tests whether each entry that an engine has is read, or its batch is named, and not both; it has the first ones.
+/// Tests whether each entry of the opened engine can be read or has its batch named, and not both. The batches begin at
+/// `offsets`, and the engine has the entries of the first ones.
 fn are_read_or_named(opened: &mut Opened<MemoryFiles>, offsets: &[u64]) -> Result<bool> {
     let last = opened.engine.last_index(REGION).unwrap_or(0);
     let mut are_so = last <= BATCHES;
@@ -72,15 +76,18 @@ fn are_read_or_named(opened: &mut Opened<MemoryFiles>, offsets: &[u64]) -> Resul
     Ok(are_so)
 }
 
-/// What came of the places.
+/// What came of the openings with the page at each place.
 #[derive(Drop)]
 struct Counts {
+    /// How many were opened.
     opened: usize,
+    /// How many batches were named.
     named: usize,
+    /// How many were refused as damage.
     refused: usize,
 }
 
-/// Counts what is opened, which has to give its entries or name them, and what is refused as damage.
+/// Counts an opening. Returns whether it was refused as damage, or gives each entry or names its batch.
 fn counted(opened: OpenedInMode, file: &File, counts: &mut Counts) -> Result<bool> {
     match opened {
         Ok(mut opened) => {

@@ -1,4 +1,4 @@
-//! Append files that no table needs: an engine deletes them, and what is left gives its records.
+//! Tests of append files that no table needs: an engine deletes them, and what is left gives its records.
 
 use crate::batches::Part::{Clean, Compact, Delete, Entries, Put};
 use crate::batches::{Part, REGION};
@@ -12,10 +12,13 @@ use raft_records::Result;
 use std::alloc::Global;
 use std::thread::Threads;
 
-/// Batches, each in a file of its own, of which how many a purge deletes, the last file aside; and what is left.
+/// Batches, each in a file of its own, with what a purge must do.
 struct Purge {
+    /// The batches.
     batches: &'static [&'static [Part]],
+    /// How many files a purge deletes. The last file, which is empty, is never deleted.
     deleted: usize,
+    /// What the engine holds then.
     left: &'static str,
 }
 
@@ -57,7 +60,7 @@ static PURGES: [Purge; 7] = [
     },
 ];
 
-/// Writes each batch and begins a new file behind it.
+/// Makes an engine that wrote each batch of a row, and began a new file after each.
 fn written(alloc: Global, row: &Purge) -> Result<Engine<MemoryFiles>> {
     let mut engine = new_engine(alloc)?;
     write_all(alloc, &mut engine, row.batches)?;
@@ -72,7 +75,7 @@ fn write_all(alloc: Global, engine: &mut Engine<MemoryFiles>, batches: &[&[Part]
     Ok(())
 }
 
-/// Tests whether this is what the files of an engine give.
+/// Tests whether a recovery of these files gives `left`.
 fn is_recovered<R: Threads + Sync>(
     rt: &R,
     alloc: Global,
@@ -84,7 +87,8 @@ fn is_recovered<R: Threads + Sync>(
     Ok(text_of(alloc, found.get(REGION))?.as_str() == left)
 }
 
-/// Tests whether a purge deletes so many files, the second one none, and what is left stays.
+/// Tests whether a purge deletes as many files as the row says, a second purge deletes none, and the engine and its files
+/// still have what is left.
 fn is_purged<R: Threads + Sync>(rt: &R, alloc: Global, row: &Purge) -> Result<bool> {
     let mut engine = written(alloc, row)?;
     is_purged_in(rt, alloc, &mut engine, row)

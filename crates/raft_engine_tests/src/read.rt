@@ -1,4 +1,5 @@
-//! Entries that an engine reads: the bytes that were added, in whichever file they are, by as few reads as there are blocks.
+//! Tests of entries that an engine reads: it returns the bytes that were added, in whichever file they are, and reads each
+//! block once.
 
 use crate::batches::{Part, REGION};
 use crate::calls::{
@@ -13,7 +14,7 @@ use raft_records::{Command, Error, LogBatch, Result};
 use std::alloc::Global;
 use std::thread::Threads;
 
-/// Tests whether region 7 has an entry of this text.
+/// Tests whether `get_entry` returns this text for the entry `index` of region 7.
 fn comes_back(engine: &mut Engine<MemoryFiles>, index: u64, text: &str) -> Result<bool> {
     match get_entry(engine, 7, index)? {
         Some(bytes) => Ok(bytes.as_slice() == text.as_bytes()),
@@ -25,7 +26,7 @@ fn has_no_entry(engine: &mut Engine<MemoryFiles>, region: u64, index: u64) -> Re
     Ok(get_entry(engine, region, index)?.is_none())
 }
 
-/// Tests whether each text comes back, alone, and nothing where there is no entry.
+/// Tests whether each of [`TEXTS`] is returned when it is read alone, and `None` where there is no entry.
 fn come_back_alone(engine: &mut Engine<MemoryFiles>) -> Result<bool> {
     for (index, text) in (1u64..).zip(&TEXTS) {
         if !comes_back(engine, index, text)? {
@@ -35,14 +36,14 @@ fn come_back_alone(engine: &mut Engine<MemoryFiles>) -> Result<bool> {
     Ok(has_no_entry(engine, 7, 0)? && has_no_entry(engine, 7, 6)? && has_no_entry(engine, 8, 1)?)
 }
 
-/// Tests whether all texts come back at once, behind what there was.
+/// Tests whether one fetch appends all of [`TEXTS`] to what was there before.
 fn come_back_together(alloc: Global, engine: &mut Engine<MemoryFiles>) -> Result<bool> {
     let mut entries = vec![in alloc; Vec::from_slice(alloc, b"zero")?]?;
     let count = fetch(engine, 7, (1, 6), None, &mut entries)?;
     Ok(count == 5 && are_texts(&entries))
 }
 
-/// Tests whether these are `zero` and the texts.
+/// Tests whether these are `zero` and then [`TEXTS`].
 fn are_texts(entries: &[Vec<u8>]) -> bool {
     let Some((zero, found)) = entries.split_first() else {
         return false;
@@ -62,7 +63,8 @@ fn come_back(alloc: Global, engine: &mut Engine<MemoryFiles>) -> Result<bool> {
     Ok(come_back_alone(engine)? && come_back_together(alloc, engine)?)
 }
 
-/// Tests whether an engine gives back entries that were written, then moved, and then found again.
+/// Tests whether all texts come back once they were written, once they have moved to the rewrite queue, and once the files
+/// were opened again.
 fn all_come_back<R: Threads + Sync>(rt: &R, alloc: Global) -> Result<bool> {
     let mut engine = written_texts(alloc)?;
     come_back_moved(rt, alloc, &mut engine)
@@ -97,7 +99,7 @@ fn entries_come_back(rt: HostRuntime) {
     assert!(rt; holds!(all_come_back(&rt, rt.alloc())));
 }
 
-/// Returns how many of these entries of region 7 a fetch gives.
+/// Returns how many entries of region 7 a fetch of this range and size returns.
 fn fetched(
     alloc: Global,
     engine: &mut Engine<MemoryFiles>,
@@ -113,7 +115,7 @@ fn fetched(
     Ok(count)
 }
 
-/// Tests how many entries of 3, 3, 5, 0 and 4 bytes come back by a limit.
+/// Tests how many of the entries, which have 3, 3, 5, 0 and 4 bytes, a fetch returns with several maximal sizes.
 fn are_limited_in(alloc: Global, engine: &mut Engine<MemoryFiles>) -> Result<bool> {
     Ok(
         fetched(alloc, engine, 1, 6, Some(0))? == 1
@@ -148,7 +150,8 @@ fn is_not_found(answer: Result<usize>) -> bool {
     matches!(answer, Err(Error::EntryNotFound))
 }
 
-/// Tests what is refused of a region whose entries are [3,6), of which nothing is pushed, and what an empty range gives.
+/// Tests which fetches are refused if region 7 has the entries [3,6): nothing is appended then, and the engine stays intact.
+/// An empty range gives no entries, nor does a region without a table.
 fn are_refused_in(engine: &mut Engine<MemoryFiles>, entries: &mut Vec<Vec<u8>>) -> Result<bool> {
     let compacted = is_compacted(fetch(engine, 7, (2, 4), None, entries));
     let missing = is_not_found(fetch(engine, 7, (3, 7), None, entries));
@@ -181,8 +184,8 @@ fn ranges_without_entries_are_refused(rt: HostRuntime) {
     assert!(rt; holds!(are_refused(rt.alloc())));
 }
 
-/// Opens an engine over the files of these entries, where the first byte of the first entry is another one: it stands behind
-/// the 16 bytes of the header of its batch.
+/// Opens an engine over the files of [`written_texts`], with the first byte of the first entry changed: it stands after the 16
+/// bytes of the batch's header.
 fn damaged<R: Threads + Sync>(rt: &R, alloc: Global) -> Result<Engine<MemoryFiles>> {
     let engine = written_texts(alloc)?;
     opened_damaged(rt, alloc, &engine)
@@ -197,7 +200,7 @@ fn opened_damaged<R: Threads + Sync>(
     open(rt, alloc, append, copies(engine, LogQueue::Rewrite)?)
 }
 
-/// Tests whether a fetch of all entries is refused as damage, and pushes none.
+/// Tests whether a fetch of all entries is refused as damage, and appends none.
 fn are_damaged(alloc: Global, engine: &mut Engine<MemoryFiles>) -> Result<bool> {
     let mut entries = Vec::new(alloc);
     let refused = finds_damage(fetch(engine, 7, (1, 6), None, &mut entries))?;
@@ -214,7 +217,7 @@ fn is_damage_found_in(alloc: Global, engine: &mut Engine<MemoryFiles>) -> Result
     )
 }
 
-/// Tests whether a damaged entry isn't read, and the engine stays intact and gives the others.
+/// Tests whether a damaged entry isn't returned, and the engine stays intact and returns the others.
 fn is_damage_found<R: Threads + Sync>(rt: &R, alloc: Global) -> Result<bool> {
     let mut engine = damaged(rt, alloc)?;
     is_damage_found_in(alloc, &mut engine)
@@ -225,8 +228,8 @@ fn damaged_entries_are_not_read(rt: HostRuntime) {
     assert!(rt; holds!(is_damage_found(&rt, rt.alloc())));
 }
 
-/// Tests whether an engine goes on once a damaged entry was read: it writes, syncs and begins a file, and what isn't damaged
-/// is found again.
+/// Tests whether an engine goes on after the read of a damaged entry was refused: it writes, syncs and begins a file, and a
+/// restart finds what isn't damaged.
 fn is_written_after_damage<R: Threads + Sync>(rt: &R, alloc: Global) -> Result<bool> {
     let mut engine = damaged(rt, alloc)?;
     goes_on_damaged(rt, alloc, &mut engine)
@@ -245,7 +248,7 @@ fn goes_on_damaged<R: Threads + Sync>(
     Ok(fetched_reopened(rt, alloc, engine)? == 5)
 }
 
-/// Returns how many of the entries from the second on are found by an opening.
+/// Returns how many of the entries from index 2 on an engine returns that is opened over copies of the files.
 fn fetched_reopened<R: Threads + Sync>(
     rt: &R,
     alloc: Global,
@@ -263,7 +266,9 @@ fn an_engine_goes_on_after_a_damaged_read(rt: HostRuntime) {
 /// Files in memory that count their reads.
 #[derive(Drop)]
 pub struct CountedFiles {
+    /// The files.
     pub files: MemoryFiles,
+    /// How many reads succeeded so far.
     pub reads: usize,
 }
 
@@ -297,7 +302,7 @@ impl EngineFiles for CountedFiles {
     }
 }
 
-/// Makes an engine over counted files.
+/// Makes a new engine over files that count their reads.
 pub fn new_counted(alloc: Global) -> Result<Engine<CountedFiles>> {
     let files = CountedFiles {
         files: MemoryFiles::new(alloc),
@@ -306,7 +311,7 @@ pub fn new_counted(alloc: Global) -> Result<Engine<CountedFiles>> {
     Engine::new(alloc, Version::V2, files)
 }
 
-/// Tests how many reads there are, of entries of both batches, of one entry, and where there is none.
+/// Tests how many reads are made for entries of both batches, for one entry, and for one that isn't there.
 fn are_counted(engine: &mut Engine<CountedFiles>, entries: &mut Vec<Vec<u8>>) -> Result<bool> {
     let count = fetch(engine, REGION, (2, 7), None, entries)?;
     let together = engine.files().reads;
@@ -317,7 +322,7 @@ fn are_counted(engine: &mut Engine<CountedFiles>, entries: &mut Vec<Vec<u8>>) ->
     Ok(count == 5 && together == 2 && found && alone == 3 && none && all == 3)
 }
 
-/// Tests whether an engine reads each block once: four entries are in one batch, and two in the next.
+/// Writes four entries in one batch and two in the next. Tests whether the engine reads each block once.
 fn are_written_and_counted(alloc: Global, engine: &mut Engine<CountedFiles>) -> Result<bool> {
     write(alloc, engine, &[Part::Entries(1, 5)], false)?;
     write(alloc, engine, &[Part::Entries(5, 7)], false)?;
@@ -342,7 +347,7 @@ fn put_key(alloc: Global, batch: &mut LogBatch, key: &[u8]) -> Result<()> {
     batch.put(REGION, Vec::from_slice(alloc, key)?, Vec::new(alloc))
 }
 
-/// Returns a batch of the keys 1, 2 and 3.
+/// Returns a batch that puts the keys `3`, `1` and `2`.
 fn keys(alloc: Global) -> Result<LogBatch> {
     let mut batch = LogBatch::default(alloc);
     put_keys(alloc, &mut batch)?;
@@ -355,7 +360,7 @@ fn put_keys(alloc: Global, batch: &mut LogBatch) -> Result<()> {
     put_key(alloc, batch, b"2")
 }
 
-/// Returns an engine with these keys.
+/// Returns an engine with the keys `1`, `2` and `3`.
 fn keyed(alloc: Global) -> Result<Engine<MemoryFiles>> {
     let mut engine = new_engine(alloc)?;
     write_keys(alloc, &mut engine)?;
@@ -366,7 +371,7 @@ fn write_keys(alloc: Global, engine: &mut Engine<MemoryFiles>) -> Result<()> {
     write_batch(engine, keys(alloc)?, false)
 }
 
-/// Returns the number of the keys of a region that a scan meets, one digit after the other.
+/// Returns the keys of a region that a scan visits, in order, as the digits of a number.
 fn scanned(
     engine: &Engine<MemoryFiles>,
     region: u64,

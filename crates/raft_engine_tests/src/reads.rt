@@ -1,4 +1,4 @@
-//! How often a rewriting reads: once for each block of entries that stands behind another one.
+//! Tests how often a rewriting reads: once for each block of entries.
 
 use crate::batches::Part;
 use crate::batches::Part::Entries;
@@ -8,7 +8,7 @@ use raft_base::Result;
 use raft_engine::Engine;
 use std::alloc::Global;
 
-/// Returns how many reads a rewriting of these batches makes, which stand in one file.
+/// Writes these batches to one append file, and moves them to the rewrite queue. Returns how many reads that makes.
 fn reads_of(alloc: Global, batches: &[&[Part]]) -> Result<usize> {
     let mut engine = new_counted(alloc)?;
     reads_in(alloc, &mut engine, batches)

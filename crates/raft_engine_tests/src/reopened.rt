@@ -1,4 +1,5 @@
-//! An engine that is opened over what a crash left: what it cuts, tells, moves and deletes, with ample memory.
+//! Tests of an engine that is opened over what a crash left: what it cuts off, what it tells the rewrite queue, moves and
+//! deletes.
 
 use crate::batches::Part::{Clean, Compact, Delete, Entries, Put, Truncate};
 use crate::batches::{Part, REGION};
@@ -15,16 +16,18 @@ use raft_records::Result;
 use std::alloc::Global;
 use std::thread::Threads;
 
-/// Tests whether this is what an engine holds.
+/// Tests whether the tables of the engine hold `text`.
 pub fn holds(alloc: Global, engine: &Engine<MemoryFiles>, text: &str) -> Result<bool> {
     Ok(text_of(alloc, engine.accessor().get(REGION))?.as_str() == text)
 }
 
-/// Batches that change [1,10) and `k=v`, and what they leave.
+/// Batches that are written after [1,10) and `k=v` have moved to a rewrite file.
 struct Change {
+    /// The batches.
     batches: &'static [&'static [Part]],
+    /// What they leave.
     left: &'static str,
-    /// How many append files a purge leaves.
+    /// How many of two append files a purge leaves.
     files: usize,
 }
 
@@ -81,7 +84,8 @@ static CHANGES: [Change; 10] = [
     },
 ];
 
-/// Opens an engine over files of both queues, where [1,10) and `k=v` were rewritten and their append file deleted.
+/// Opens an engine over files of both queues, in which [1,10) and `k=v` have moved to a rewrite file and their append file is
+/// deleted.
 fn found<R: Threads + Sync>(rt: &R, alloc: Global) -> Result<Engine<MemoryFiles>> {
     let mut store = Histories::new(alloc)?;
     found_in(rt, alloc, &mut store)
@@ -104,7 +108,7 @@ pub fn moved(alloc: Global) -> Result<Engine<MemoryFiles>> {
     moved_parts(alloc, &[Entries(1, 10), Put("v")])
 }
 
-/// Makes an engine that wrote a batch, moved its records to the rewrite queue, and deleted their append file.
+/// Makes an engine that wrote a batch of `parts`, moved its records to the rewrite queue, and deleted their append file.
 pub fn moved_parts(alloc: Global, parts: &[Part]) -> Result<Engine<MemoryFiles>> {
     let mut engine = new_engine(alloc)?;
     write_and_move(alloc, &mut engine, parts)?;
@@ -119,7 +123,7 @@ fn write_and_move(alloc: Global, engine: &mut Engine<MemoryFiles>, parts: &[Part
     Ok(())
 }
 
-/// Writes the batches of a change, each to the append queue's last file, and begins the next one.
+/// Writes the batches of a change to the last append file, and begins the next one.
 fn make(alloc: Global, engine: &mut Engine<MemoryFiles>, change: &Change) -> Result<()> {
     for parts in change.batches {
         write(alloc, engine, parts, false)?;
@@ -131,7 +135,7 @@ fn has_append_files(engine: &Engine<MemoryFiles>, count: usize) -> bool {
     count_files(engine, LogQueue::Append) == count
 }
 
-/// Tests whether this is what an engine holds that is opened over copies of the files of another one.
+/// Tests whether an engine that is opened over copies of the files holds `text`.
 pub fn is_found<R: Threads + Sync>(
     rt: &R,
     alloc: Global,
@@ -142,13 +146,14 @@ pub fn is_found<R: Threads + Sync>(
     holds(alloc, &found, text)
 }
 
-/// Tests whether a purge leaves so many of two append files.
+/// Tests whether a purge leaves `files` of two append files.
 fn leaves(engine: &mut Engine<MemoryFiles>, files: usize) -> Result<bool> {
     let deleted = purge(engine)?;
     Ok(deleted.saturating_add(files) == 2 && has_append_files(engine, files))
 }
 
-/// Tests whether what is taken away stays away, and what is left stays, by a purge and by openings before and after it.
+/// Makes a change. Tests whether what it takes away stays away, and what it leaves stays: in restarts before and after a
+/// purge, and in the engine.
 fn stays<R: Threads + Sync>(
     rt: &R,
     alloc: Global,
@@ -175,7 +180,7 @@ fn moved_stays<R: Threads + Sync>(rt: &R, alloc: Global, change: &Change) -> Res
     stays(rt, alloc, &mut engine, change)
 }
 
-/// Tests whether an engine keeps what a change leaves of found records, and of such that moved.
+/// Tests whether what a change leaves stays, in an engine that found its records in files, and in one that moved them.
 fn all_stay<R: Threads + Sync>(rt: &R, alloc: Global, change: &Change) -> Result<bool> {
     Ok(found_stays(rt, alloc, change)? && moved_stays(rt, alloc, change)?)
 }
@@ -187,7 +192,7 @@ fn changes_stay(rt: HostRuntime) {
     }
 }
 
-/// Batches, one after the other.
+/// Batches that are written one after another.
 static WRITES: [&[Part]; 4] = [
     &[Entries(1, 3)],
     &[Entries(3, 4), Put("v")],
@@ -195,10 +200,12 @@ static WRITES: [&[Part]; 4] = [
     &[Delete],
 ];
 
-/// An engine that wrote these batches to its first append file, and how many bytes this had after each.
+/// An engine that wrote the batches of [`WRITES`] to its first append file.
 #[derive(Drop)]
 struct Prefixes {
+    /// The engine.
     engine: Engine<MemoryFiles>,
+    /// The length of the file in bytes after each batch.
     ends: Vec<usize>,
 }
 
@@ -208,7 +215,7 @@ fn made(alloc: Global) -> Result<Prefixes> {
     Ok(Prefixes { engine, ends })
 }
 
-/// Writes these batches, and returns how many bytes the file has after each.
+/// Writes the batches of [`WRITES`]. Returns the length of the file in bytes after each.
 fn write_all(alloc: Global, engine: &mut Engine<MemoryFiles>) -> Result<Vec<usize>> {
     let mut ends = Vec::new(alloc);
     for parts in &WRITES {
@@ -225,7 +232,7 @@ fn last_len(files: &LogFiles) -> usize {
     }
 }
 
-/// Returns how many batches are whole in so many bytes.
+/// Returns how many batches are whole in the first `len` bytes of the file.
 fn whole_in(fronts: &Prefixes, len: usize) -> usize {
     let mut count = 0usize;
     for end in &fronts.ends {
@@ -236,7 +243,7 @@ fn whole_in(fronts: &Prefixes, len: usize) -> usize {
     count
 }
 
-/// Returns what so many batches leave.
+/// Returns what the first `count` batches leave.
 fn left_by(count: usize) -> &'static str {
     match count {
         0 => "",
@@ -247,7 +254,7 @@ fn left_by(count: usize) -> &'static str {
     }
 }
 
-/// Opens an engine where the append file has so many bytes.
+/// Opens an engine over copies of the files, of which the append file is cut to `len` bytes.
 fn opened_at<R: Threads + Sync>(
     rt: &R,
     alloc: Global,
@@ -263,7 +270,7 @@ fn opened_at<R: Threads + Sync>(
     )
 }
 
-/// Returns the append files, of which the last one has so many bytes.
+/// Returns copies of the append files, of which the last one is cut to `len` bytes.
 fn front_of(engine: &Engine<MemoryFiles>, len: usize) -> Result<LogFiles> {
     let mut append = copies(engine, LogQueue::Append)?;
     if let Some(last) = append.last_mut() {
@@ -272,7 +279,8 @@ fn front_of(engine: &Engine<MemoryFiles>, len: usize) -> Result<LogFiles> {
     Ok(append)
 }
 
-/// Replaces all that an engine holds, moves it, and deletes the file that it was in.
+/// Replaces all that an engine holds by `k=x`, moves that to the rewrite queue, and purges the append files. Returns how many
+/// files were deleted.
 fn replace(alloc: Global, engine: &mut Engine<MemoryFiles>) -> Result<usize> {
     write(alloc, engine, &[Clean, Put("x")], true)?;
     rotate(engine)?;
@@ -280,7 +288,8 @@ fn replace(alloc: Global, engine: &mut Engine<MemoryFiles>) -> Result<usize> {
     purge(engine)
 }
 
-/// Tests whether an engine finds the batches that are whole where the append file has so many bytes, and goes on.
+/// Tests whether an engine that is opened over the first `len` bytes of the file holds what the whole batches leave, and goes
+/// on.
 fn finds_prefix<R: Threads + Sync>(
     rt: &R,
     alloc: Global,
@@ -303,7 +312,7 @@ fn goes_on<R: Threads + Sync>(
     is_found(rt, alloc, engine, "k=x")
 }
 
-/// Tests whether an engine finds the batches that are whole at each number of bytes.
+/// Tests at each length of the file whether an engine over it holds what the whole batches leave.
 fn finds_all<R: Threads + Sync>(rt: &R, alloc: Global, fronts: &Prefixes) -> Result<bool> {
     for len in 0..last_len(fronts.engine.files().files(LogQueue::Append)).saturating_add(1) {
         if !finds_prefix(rt, alloc, fronts, len)? {
@@ -323,13 +332,13 @@ fn prefixes_are_found(rt: HostRuntime) {
     assert!(rt; holds!(finds_prefixes(&rt, rt.alloc())));
 }
 
-/// Tests whether a file is refused whose first batch is damaged.
+/// Tests whether an opening refuses a file whose first batch is damaged.
 fn refuses_damage<R: Threads + Sync>(rt: &R, alloc: Global, fronts: &Prefixes) -> Result<bool> {
     let append = with_flipped(copies(&fronts.engine, LogQueue::Append)?, 24);
     finds_damage(open(rt, alloc, append, Vec::new(alloc)))
 }
 
-/// Tests whether files are refused whose numbers don't rise.
+/// Tests whether an opening refuses files with the same number twice.
 fn refuses_numbers<R: Threads + Sync>(rt: &R, alloc: Global, fronts: &Prefixes) -> Result<bool> {
     let mut append = copies(&fronts.engine, LogQueue::Append)?;
     append.push((1, Vec::new(alloc)))?;

@@ -1,5 +1,5 @@
-//! Restarts of an engine: what was written is found again, each time, and what was taken away is not. The law that says of an
-//! engine what a restart finds is called too, in a function of its own, so that it makes no other proof dear.
+//! Tests of restarts of an engine: what was written is found again, each time, and what was taken away isn't. The law that
+//! says what a restart finds is cited too, in a function of its own, so that it makes no other proof dear.
 
 use crate::again::empty_append_files;
 use crate::batches::Part;
@@ -16,7 +16,7 @@ fn state_that_what_is_left_is_opened(engine: &Engine<MemoryFiles>) {
     engine.what_is_left_is_opened();
 }
 
-/// Opens an engine over copies of the files of another one.
+/// Opens an engine over copies of the files of another one, and cites the law that says what is found then.
 fn restarted<R: Threads + Sync>(
     rt: &R,
     alloc: Global,
@@ -26,7 +26,7 @@ fn restarted<R: Threads + Sync>(
     reopened(rt, alloc, engine)
 }
 
-/// Tests whether each restart has what was written before it, and the last one what was written after the first.
+/// Tests whether each of two restarts has what was written before it, also what was written after the first restart.
 fn restarts_find_all<R: Threads + Sync>(rt: &R, alloc: Global) -> Result<bool> {
     let mut engine = new_engine(alloc)?;
     write(alloc, &mut engine, &[Entries(1, 6), Put("v")], true)?;
@@ -66,12 +66,15 @@ fn each_restart_finds_all(rt: HostRuntime) {
     assert!(rt; holds!(restarts_find_all(&rt, rt.alloc())));
 }
 
-/// Records in a rewrite file, batches of the last append file that take something of them away, and what is left.
+/// Batches that take something away of records that have moved to a rewrite file.
 struct Removal {
+    /// The records in the rewrite file.
     moved: &'static [Part],
+    /// The batches, in the last append file.
     batches: &'static [&'static [Part]],
+    /// What is left of the records, and of what the batches add.
     left: &'static str,
-    /// How many append files a purge deletes: the one that has the batches, where it has nothing that is left.
+    /// How many append files a purge deletes: the one with the batches, if it has nothing that is left.
     deleted: usize,
 }
 
@@ -128,7 +131,7 @@ static REMOVALS: [Removal; 8] = [
     },
 ];
 
-/// Makes an engine with a removal's records in its rewrite file, and its batches in the last append file.
+/// Makes an engine with the records of a removal in its rewrite file, and the batches in the last append file.
 fn removed(alloc: Global, removal: &Removal) -> Result<Engine<MemoryFiles>> {
     let mut engine = moved_parts(alloc, removal.moved)?;
     write_all(alloc, &mut engine, removal.batches)?;
@@ -142,7 +145,7 @@ fn write_all(alloc: Global, engine: &mut Engine<MemoryFiles>, batches: &[&[Part]
     Ok(())
 }
 
-/// Opens an engine over the files of such an engine.
+/// Opens an engine over copies of the files of [`removed`].
 fn removed_and_restarted<R: Threads + Sync>(
     rt: &R,
     alloc: Global,
@@ -152,7 +155,8 @@ fn removed_and_restarted<R: Threads + Sync>(
     restarted(rt, alloc, &engine)
 }
 
-/// Tests whether what was taken away stays away by a restart, a purge of the file that says so, and one more restart.
+/// Tests whether what was taken away stays away: in a restart, in a purge of the file with the batches, and in one more
+/// restart.
 fn stays_away<R: Threads + Sync>(rt: &R, alloc: Global, removal: &Removal) -> Result<bool> {
     let mut engine = removed_and_restarted(rt, alloc, removal)?;
     stays_away_in(rt, alloc, &mut engine, removal)
@@ -170,8 +174,8 @@ fn stays_away_in<R: Threads + Sync>(
     Ok(found && deleted == removal.deleted && is_found(rt, alloc, engine, removal.left)?)
 }
 
-/// Tests whether an engine finds what is left, and no more, where that moves before the purge, which deletes the file in any
-/// case then.
+/// Tests whether what was taken away stays away if what is left moves before the purge, which then deletes the file with the
+/// batches in any case.
 fn stays_away_moved<R: Threads + Sync>(rt: &R, alloc: Global, removal: &Removal) -> Result<bool> {
     let mut engine = removed_and_restarted(rt, alloc, removal)?;
     stays_away_moved_in(rt, alloc, &mut engine, removal)

@@ -1,4 +1,4 @@
-//! An engine that is written, goes on, is opened, and is recovered of its append files: each call once, with ample memory.
+//! Tests of the round trip: an engine is written, goes on, is opened, and is recovered from its append files.
 
 use crate::batches::batch_with;
 use crate::calls::{
@@ -53,7 +53,7 @@ pub(crate) fn cleaning(alloc: Global) -> Result<LogBatch> {
     Ok(batch)
 }
 
-/// Gives a batch its places in file 4 of the rewrite queue.
+/// Gives the items of a batch their places in file 4 of the rewrite queue.
 fn placed(mut batch: LogBatch) -> Result<LogBatch> {
     if !batch.is_open() {
         return Err(Error::Failed);
@@ -73,7 +73,7 @@ pub(crate) fn has_lines(alloc: Global, accessor: &MemTableAccessor, lines: &str)
     Ok(recovered_text(alloc, accessor)?.as_str() == lines)
 }
 
-/// Returns an engine with two append files.
+/// Returns an engine with two append files: the first has [`records`], the second [`cleaning`].
 pub(crate) fn written(alloc: Global) -> Result<Engine<MemoryFiles>> {
     let mut engine = new_engine(alloc)?;
     write_two(alloc, &mut engine)?;
@@ -94,7 +94,7 @@ fn segments(engine: &Engine<MemoryFiles>, queue: LogQueue) -> Result<Vec<Segment
     engine.segments(queue)
 }
 
-/// Returns the tables that the append files of an engine give by so many workers.
+/// Returns the tables that a recovery of the append files by `workers` threads gives.
 fn tables_by<R: Threads + Sync>(
     rt: &R,
     alloc: Global,
@@ -105,7 +105,7 @@ fn tables_by<R: Threads + Sync>(
     recover(rt, alloc, append.as_slice(), LogQueue::Append, workers)
 }
 
-/// Tests whether they have the lines of what was written.
+/// Tests whether a recovery of the append files by `workers` threads gives the tables that were written.
 fn recovers<R: Threads + Sync>(
     rt: &R,
     alloc: Global,
@@ -116,7 +116,7 @@ fn recovers<R: Threads + Sync>(
     has_lines(alloc, &tables, WRITTEN)
 }
 
-/// Returns the tables that the files of both queues give.
+/// Returns the tables that a recovery of both queues gives.
 fn tables_of_both<R: Threads + Sync>(
     rt: &R,
     alloc: Global,
@@ -136,7 +136,7 @@ fn recovers_both<R: Threads + Sync>(
     has_lines(alloc, &tables, WRITTEN)
 }
 
-/// Tests whether the engine, and what is recovered of its append files, and of both queues, has the lines.
+/// Tests whether an engine has the tables that were written, and so have recoveries of its append files and of both queues.
 fn is_recovered<R: Threads + Sync>(rt: &R, alloc: Global) -> Result<bool> {
     let engine = written(alloc)?;
     is_recovered_of(rt, alloc, &engine)
@@ -174,13 +174,13 @@ fn push_files(alloc: Global, files: &mut LogFiles, segment: &[FilePart]) -> Resu
     Ok(())
 }
 
-/// Returns the append files of an engine that wrote.
+/// Returns the append files of the engine of [`written`].
 fn written_files(alloc: Global) -> Result<LogFiles> {
     let engine = written(alloc)?;
     files_of(alloc, &engine)
 }
 
-/// Returns the number of the last append file.
+/// Returns the number of the last append file; `None` if there is none.
 fn last_seq(engine: &Engine<MemoryFiles>) -> Option<FileSeq> {
     match engine.files().files(LogQueue::Append).last() {
         Some(file) => Some(file.0),
@@ -188,7 +188,8 @@ fn last_seq(engine: &Engine<MemoryFiles>) -> Option<FileSeq> {
     }
 }
 
-/// Tests whether an engine that is opened over append files alone, and what is recovered of them then, has the lines.
+/// Tests whether an engine that is opened over the append files alone has the tables that were written, and so has a recovery
+/// of its append files.
 fn is_opened<R: Threads + Sync>(rt: &R, alloc: Global) -> Result<bool> {
     let engine = open(rt, alloc, written_files(alloc)?, Vec::new(alloc))?;
     is_opened_as(rt, alloc, &engine)
@@ -208,7 +209,7 @@ fn is_opened_as<R: Threads + Sync>(
     )
 }
 
-/// Returns the tables that the append files of an engine give that wrote.
+/// Returns the tables that a recovery of the append files of [`written`] gives.
 fn written_tables<R: Threads + Sync>(rt: &R, alloc: Global) -> Result<MemTableAccessor> {
     let engine = written(alloc)?;
     tables_by(rt, alloc, &engine, 1)
@@ -229,20 +230,20 @@ fn are_rewritten(alloc: Global, tables: &mut MemTableAccessor) -> Result<bool> {
     Ok(hand_out_logs(tables)? && has_lines(alloc, tables, REWRITTEN)?)
 }
 
-/// Tests whether a rewriting moves the records of recovered tables, which hand out the cleaned regions.
+/// Tests whether recovered tables take a rewriting that moves their records, and hand out the cleaned regions.
 fn is_rewritten<R: Threads + Sync>(rt: &R, alloc: Global) -> Result<bool> {
     let mut tables = written_tables(rt, alloc)?;
     are_rewritten(alloc, &mut tables)
 }
 
-/// Tests whether an engine moves its records to file 4 of the rewrite queue, and its append files still give those places
-/// that they had.
+/// Tests whether an engine moves its records to file 4 of the rewrite queue, and a recovery of its append files still gives
+/// the places that they had there.
 fn is_moved<R: Threads + Sync>(rt: &R, alloc: Global) -> Result<bool> {
     let mut engine = opened_with_fourth(rt, alloc)?;
     moves(rt, alloc, &mut engine)
 }
 
-/// Opens an engine over append files, with a rewrite file 4.
+/// Opens an engine over the append files of [`written`], and an empty rewrite file 4.
 fn opened_with_fourth<R: Threads + Sync>(rt: &R, alloc: Global) -> Result<Engine<MemoryFiles>> {
     let files = written_files(alloc)?;
     open(rt, alloc, files, vec![in alloc; (4, Vec::new(alloc))]?)
@@ -278,7 +279,8 @@ fn an_engine_moves_records(rt: HostRuntime) {
     assert!(rt; holds!(is_moved(&rt, rt.alloc())));
 }
 
-/// Tests whether a number that isn't above that of the last file is refused, and the files are as they were then.
+/// Tests whether files refuse to begin an append file with the number `seq`, which isn't above that of the last one, and stay
+/// as they are.
 fn is_refused(alloc: Global, seq: FileSeq) -> Result<bool> {
     let engine = written(alloc)?;
     let mut files = MemoryFiles::found(copies(&engine, LogQueue::Append)?, Vec::new(alloc));
@@ -304,7 +306,7 @@ fn a_number_that_is_not_above_the_last_one_is_refused(rt: HostRuntime) {
     }
 }
 
-/// Numbers of append files without bytes, and whether an engine is opened over them.
+/// Numbers of empty append files, and whether an engine can be opened over them.
 static NUMBERS: [(&[FileSeq], bool); 8] = [
     (&[0], true),
     (&[3, 4, 5], true),
@@ -316,7 +318,8 @@ static NUMBERS: [(&[FileSeq], bool); 8] = [
     (&[3, 4, 1], false),
 ];
 
-/// Tests whether an engine is opened over append files of these numbers, or they are refused as damage.
+/// Tests whether an engine can be opened over empty append files with these numbers, or they are refused as damage, as
+/// `is_opened` says.
 fn opens_as<R: Threads + Sync>(
     rt: &R,
     alloc: Global,
@@ -341,7 +344,7 @@ fn files_are_opened_whose_numbers_are_consecutive(rt: HostRuntime) {
     }
 }
 
-/// Tests whether an engine goes on in 300 append files.
+/// Tests whether an engine goes on to 300 append files.
 fn goes_on(alloc: Global) -> Result<bool> {
     let mut engine = new_engine(alloc)?;
     goes_on_in(&mut engine)
@@ -359,15 +362,15 @@ fn an_engine_has_many_files(rt: HostRuntime) {
     assert!(rt; holds!(goes_on(rt.alloc())));
 }
 
-/// Returns a batch of an entry of region 7.
+/// Returns a batch with one entry of region 7, which has this text.
 pub(crate) fn entry_of(alloc: Global, index: u64, text: &str) -> Result<LogBatch> {
     batch_with(alloc, 7, index, Vec::from_slice(alloc, text.as_bytes())?)
 }
 
-/// The bytes of entries from index 1 on, two in each file.
+/// The texts of the entries from index 1 on, two in each file.
 pub(crate) static TEXTS: [&str; 5] = ["one", "two", "three", "", "five"];
 
-/// Returns an engine of these entries, each of which is a batch.
+/// Returns an engine that wrote [`TEXTS`] as entries of region 7, a batch each.
 pub(crate) fn written_texts(alloc: Global) -> Result<Engine<MemoryFiles>> {
     let mut engine = new_engine(alloc)?;
     write_texts(alloc, &mut engine)?;
@@ -384,7 +387,7 @@ fn write_texts(alloc: Global, engine: &mut Engine<MemoryFiles>) -> Result<()> {
     Ok(())
 }
 
-/// Tests whether these bytes stand at the place that the engine's table has of an entry.
+/// Tests whether the append files have this text at the place that the engine's table has for the entry `index`.
 fn stands(alloc: Global, engine: &Engine<MemoryFiles>, index: u64, text: &str) -> Result<bool> {
     let Some(entry) = engine
         .accessor()
@@ -407,7 +410,7 @@ fn stands(alloc: Global, engine: &Engine<MemoryFiles>, index: u64, text: &str) -
     Ok(false)
 }
 
-/// Tests whether a file of an engine has these bytes at the place of an entry.
+/// Tests whether a file has this text at the place of an entry.
 fn stands_in(
     alloc: Global,
     part: &FilePart,
@@ -428,7 +431,7 @@ fn all_stand_of(alloc: Global, engine: &Engine<MemoryFiles>) -> Result<bool> {
     Ok(true)
 }
 
-/// Tests whether the bytes of each entry stand at its place.
+/// Tests whether the append files have each of [`TEXTS`] at the place of its entry.
 fn all_stand(alloc: Global) -> Result<bool> {
     let engine = written_texts(alloc)?;
     all_stand_of(alloc, &engine)

@@ -1,4 +1,4 @@
-//! Whether the histories end as they say.
+//! Tests whether the histories end as they say, and how the model of an engine tells damage from torn tails.
 
 use crate::batches::Part::Entries;
 use crate::calls::{finds_damage, holds};
@@ -12,7 +12,7 @@ use raft_records::{Error, Result};
 use std::alloc::Global;
 use std::process::Abort;
 
-/// Tests whether a history ends as it says.
+/// Tests whether a history ends as its case says.
 fn ends(alloc: Global, case: &Case) -> Result<bool> {
     let mut engine = Engine::new(alloc)?;
     ends_in(&mut engine, case)
@@ -30,17 +30,17 @@ fn take_all(engine: &mut Engine, steps: &[Step]) -> Result<()> {
     Ok(())
 }
 
-/// Tests whether this is what the tables hold.
+/// Tests whether the tables of the engine hold `text`.
 fn keeps(engine: &Engine, text: &str) -> Result<bool> {
     Ok(engine.kept()?.as_str() == text)
 }
 
-/// Tests whether this is what the files give.
+/// Tests whether the files of the engine give tables that hold `text`.
 fn recovers(engine: &Engine, text: &str) -> Result<bool> {
     Ok(engine.recovered()?.as_str() == text)
 }
 
-/// Takes the steps of a history but for the last, and returns what the engine answers to that.
+/// Takes all steps of a history but the last, which must succeed. Returns what the engine answers to the last one.
 fn last_answer(alloc: Global, steps: &[Step]) -> Result<Result<()>> {
     let Some((last, steps)) = steps.split_last() else {
         return Err(Error::Failed);
@@ -50,17 +50,17 @@ fn last_answer(alloc: Global, steps: &[Step]) -> Result<Result<()>> {
     Ok(engine.take(last))
 }
 
-/// Tests whether the last step of a history is refused, and no other.
+/// Tests whether the last step of a history, and no other, is refused as damage.
 fn refuses_last(alloc: Global, steps: &[Step]) -> Result<bool> {
     finds_damage(last_answer(alloc, steps)?)
 }
 
-/// Tests whether the last step of a history finds no file for its entry, and no other.
+/// Tests whether the last step of a history, and no other, finds no file for its entry.
 fn misses_last(alloc: Global, steps: &[Step]) -> Result<bool> {
     finds_no_entry(last_answer(alloc, steps)?)
 }
 
-/// Tests whether a step finds no file for its entry. Another refusal is handed on.
+/// Tests whether a step finds no file for its entry. Any other error is passed on.
 fn finds_no_entry(answer: Result<()>) -> Result<bool> {
     match answer {
         Ok(()) => Ok(false),
@@ -69,7 +69,7 @@ fn finds_no_entry(answer: Result<()>) -> Result<bool> {
     }
 }
 
-/// Runs each history of a table.
+/// Asserts that each history of the table named `table` ends as its case says.
 fn all_end(rt: &impl Abort, alloc: Global, table: &str, cases: &[Case]) {
     for (row, case) in cases.iter().enumerate() {
         assert!(rt; holds!(ends(alloc, case)), "{table}: row {row}");
@@ -98,14 +98,14 @@ fn entries_of_deleted_files_are_missed(rt: HostRuntime) {
     }
 }
 
-/// Returns a table with entries 1 and 2, and what a restart finds where the file isn't as it was written.
+/// Returns an engine that wrote the entries 1 and 2 to append file 1.
 fn written(alloc: Global) -> Result<Engine> {
     let mut engine = Engine::new(alloc)?;
     engine.take(&Append(1, &[Entries(1, 3)]))?;
     Ok(engine)
 }
 
-/// Tests whether a batch that the table refuses makes the restart refuse too, once it is written without a test.
+/// Tests whether a batch that the table refuses makes a restart refuse the files, if it is written without a test before.
 fn refuses_again(alloc: Global) -> Result<bool> {
     let mut engine = written(alloc)?;
     refuses_again_in(&mut engine)
@@ -118,7 +118,7 @@ fn refuses_again_in(engine: &mut Engine) -> Result<bool> {
     Ok(tested && found && written && finds_damage(engine.recovered())?)
 }
 
-/// Tests whether a torn tail is refused, and what is before it is found once it is cut off.
+/// Tests whether a torn tail is refused, and what stands before it is found once the tail is cut off.
 fn finds_prefix(alloc: Global) -> Result<bool> {
     let mut engine = written(alloc)?;
     finds_prefix_in(&mut engine)
@@ -132,7 +132,7 @@ fn finds_prefix_in(engine: &mut Engine) -> Result<bool> {
     Ok(torn && recovers(engine, "[1,3)")?)
 }
 
-/// Tests whether a changed entry byte is found when the entry is read, and not before.
+/// Tests whether a changed byte of an entry is found when the entry is read, and not before.
 fn finds_byte(alloc: Global) -> Result<bool> {
     let mut engine = written(alloc)?;
     finds_byte_in(&mut engine)
@@ -145,7 +145,7 @@ fn finds_byte_in(engine: &mut Engine) -> Result<bool> {
     Ok(read && found && finds_damage(engine.entry(1))?)
 }
 
-/// Tests whether a tail is cut that is torn behind an entry whose bytes are a readable batch.
+/// Tests whether a torn batch is cut off, though the bytes of its entry are a batch that can be read.
 fn cuts_behind_entry(alloc: Global) -> Result<bool> {
     let mut engine = written(alloc)?;
     cuts_behind_entry_in(&mut engine)
@@ -160,7 +160,7 @@ fn cuts_behind_entry_in(engine: &mut Engine) -> Result<bool> {
     Ok(whole && later && recovers(engine, "[1,3)")?)
 }
 
-/// Tests whether nothing is cut where the first of two batches can't be read: a byte of its items is changed.
+/// Tests whether nothing is cut off if the first of two batches can't be read, since a byte of its items is changed.
 fn keeps_damaged(alloc: Global) -> Result<bool> {
     let mut engine = written(alloc)?;
     keeps_damaged_in(&mut engine)
@@ -176,10 +176,11 @@ fn keeps_damaged_in(engine: &mut Engine) -> Result<bool> {
     Ok(whole && cut && refused && recovers(engine, "[1,4)")?)
 }
 
-/// How many bytes stand before the entries of a batch.
+/// The number of bytes before the entries of a batch.
 const HEADER: usize = 16;
 
-/// Returns the entries 1 and 2, which are synced, and 3 and 4, each in a batch that isn't; and where these begin.
+/// Returns an engine that wrote the entries 1 and 2, which are synced, and then 3 and 4, each in a batch that isn't; and the
+/// offsets of these two batches.
 fn unsynced(alloc: Global) -> Result<(Engine, usize, usize)> {
     let mut engine = written(alloc)?;
     let (first, second) = write_unsynced(&mut engine)?;
@@ -195,8 +196,8 @@ fn write_unsynced(engine: &mut Engine) -> Result<(usize, usize)> {
     Ok((first, second))
 }
 
-/// Tests whether nothing is cut where a failure of power takes a page of the first of two unsynced batches, and leaves the
-/// second: that is no prefix.
+/// Tests whether nothing is cut off if a power failure loses a page of the first of two unsynced batches and leaves the
+/// second: what is left is no prefix.
 fn keeps_hole(alloc: Global) -> Result<bool> {
     let (mut engine, first, second) = unsynced(alloc)?;
     engine.lose_page(first.saturating_add(HEADER), second);
@@ -209,27 +210,28 @@ fn refuses_to_cut(engine: &mut Engine) -> Result<bool> {
     Ok(cut && engine.len() == len && finds_damage(engine.recovered())?)
 }
 
-/// Tests whether what was synced is found where that page has the header of the first batch too: nothing says where the
-/// second one stands then.
+/// Tests whether what was synced is found if the lost page has the header of the first unsynced batch too: nothing says then
+/// where the second one begins.
 fn cuts_lost_header(alloc: Global) -> Result<bool> {
     let (mut engine, first, second) = unsynced(alloc)?;
     engine.lose_page(first, second);
     cuts_to(&mut engine, first, "[1,3)")
 }
 
-/// Tests whether a tail is cut where so many bytes are left, and this is found then.
+/// Cuts the tail off the last file. Tests whether `len` bytes are left, and the files then give `text`.
 fn cuts_to(engine: &mut Engine, len: usize, text: &str) -> Result<bool> {
     engine.cut_tail()?;
     Ok(engine.len() == len && recovers(engine, text)?)
 }
 
-/// Tests whether a tail is cut, and this is found then.
+/// Cuts the tail off the last file. Tests whether the files then give `text`.
 fn cuts_and_finds(engine: &mut Engine, text: &str) -> Result<bool> {
     engine.cut_tail()?;
     recovers(engine, text)
 }
 
-/// Tests whether each front of two unsynced batches is opened, and gives the batches that are whole in it.
+/// Tests whether each prefix of the file, from the first unsynced batch on, can be opened, and gives the batches that are
+/// whole in it.
 fn opens_prefixes(alloc: Global) -> Result<bool> {
     let (first, second, len) = unsynced_places(alloc)?;
     for end in first..=len {
@@ -247,7 +249,7 @@ fn opens_prefixes(alloc: Global) -> Result<bool> {
     Ok(true)
 }
 
-/// Returns where the two batches that aren't synced begin, and where the second one ends.
+/// Returns the offsets of the two unsynced batches, and the length of the file.
 fn unsynced_places(alloc: Global) -> Result<(usize, usize, usize)> {
     let (engine, first, second) = unsynced(alloc)?;
     Ok((first, second, engine.len()))
@@ -259,7 +261,7 @@ fn opens_prefix(alloc: Global, end: usize, found: &str) -> Result<bool> {
     cuts_and_finds(&mut engine, found)
 }
 
-/// Tests whether a batch that was synced before the next one was written is found where a page of that one is lost.
+/// Tests whether the batches before the last one are found if a page of the last one is lost.
 fn finds_synced(alloc: Global) -> Result<bool> {
     let (mut engine, _, second) = unsynced(alloc)?;
     let len = engine.len();

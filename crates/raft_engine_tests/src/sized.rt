@@ -1,4 +1,4 @@
-//! Files that are read in pieces when they are opened: what is opened of them, a read that fails, and a file that changes.
+//! Tests of files that are read in pieces when they are opened: what is found in them, and what comes of a read that fails.
 
 use crate::batches::Part::Large;
 use crate::batches::{Part, REGION};
@@ -15,9 +15,10 @@ use std::io;
 use std::io::ErrorKind;
 use std::thread::Threads;
 
-/// Files of an engine of which only what is asked is noted.
+/// Files of an engine that only note what is asked of them, and refuse reads.
 #[derive(Drop)]
 struct UnreadFiles {
+    /// What was asked so far.
     asked: Asked,
 }
 
@@ -63,8 +64,11 @@ impl NotesFound for UnreadFiles {
 /// Two append files in memory, of which reads fail from an offset on.
 #[derive(Drop)]
 struct TwoFiles {
+    /// The bytes of file 1.
     first: Vec<u8>,
+    /// The bytes of file 2.
     second: Vec<u8>,
+    /// The offset from which on reads fail, in both files.
     fails_from: u64,
 }
 
@@ -83,7 +87,7 @@ impl ReadFiles for TwoFiles {
     }
 }
 
-/// Returns so many of these bytes, from an offset on; fewer where they end before.
+/// Returns at most `len` of these bytes from `offset` on; fewer if they end before.
 fn part_of(bytes: &[u8], offset: u64, len: usize) -> &[u8] {
     let Some((_, rest)) = bytes.split_at_checked(offset as usize) else {
         return &[];
@@ -92,7 +96,8 @@ fn part_of(bytes: &[u8], offset: u64, len: usize) -> &[u8] {
     part
 }
 
-/// How many bytes the second file lacks at its end, from where on reads fail, and what is opened; nothing where it is refused.
+/// How many bytes the second file lacks at its end; the offset from which on reads fail; and what the opened engine holds,
+/// empty if the opening fails.
 type Row = (usize, u64, &'static str);
 
 static ROWS: [Row; 5] = [
@@ -103,10 +108,10 @@ static ROWS: [Row; 5] = [
     (0, 4 << 20, ""),
 ];
 
-/// What the batches of the second file say: two of more than a MiB each, and between them one that is longer than a piece.
+/// The batches of the second file: two of more than a MiB each, and between them one that is longer than a piece.
 static SECOND: [Part; 3] = [Large(401, 801), Large(801, 2401), Large(2401, 2801)];
 
-/// Makes the bytes of two files, of which the first has one batch, and the second three.
+/// Returns the bytes of two append files: the first has one batch, the second those of [`SECOND`].
 fn two_files(alloc: Global) -> Result<(Vec<u8>, Vec<u8>)> {
     let mut engine = new_engine(alloc)?;
     write(alloc, &mut engine, &[Large(1, 401)], false)?;
@@ -124,7 +129,7 @@ fn two_files(alloc: Global) -> Result<(Vec<u8>, Vec<u8>)> {
     Ok((first, second))
 }
 
-/// Returns two files, of which the second one lacks bytes and reads fail as a row says.
+/// Returns the two files as a row says: the second one lacks bytes, and reads fail.
 fn held_by(alloc: Global, first: &[u8], second: &[u8], row: &Row) -> Result<TwoFiles> {
     let (left, _) = second.split_at(second.len().saturating_sub(row.0));
     Ok(TwoFiles {
@@ -134,7 +139,7 @@ fn held_by(alloc: Global, first: &[u8], second: &[u8], row: &Row) -> Result<TwoF
     })
 }
 
-/// Opens two files, which four workers read.
+/// Opens an engine over the two files in pieces, with four workers.
 fn open<R: Threads + Sync>(
     rt: &R,
     alloc: Global,
@@ -155,7 +160,7 @@ fn size(seq: FileSeq, len: usize) -> FileSize {
     }
 }
 
-/// Tests whether two files are opened as a row says. A refusal other than that of a read that fails is handed on.
+/// Tests whether the two files are opened as a row says, or a read fails. Any other error is passed on.
 fn is_opened<R: Threads + Sync>(rt: &R, alloc: Global, held: &TwoFiles, row: &Row) -> Result<bool> {
     match open(rt, alloc, held) {
         Ok(opened) => Ok(text_of(alloc, opened.engine.accessor().get(REGION))?.as_str() == row.2),

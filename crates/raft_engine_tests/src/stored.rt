@@ -1,4 +1,4 @@
-//! An engine over files in memory: each call once, with ample memory, and what a restart finds of its files.
+//! Tests of an engine over files in memory: which bytes its files have, what it returns, and what a recovery finds.
 
 use crate::batches::bytes_for;
 use crate::calls::{LogFiles, finds_damage, holds, new_engine, recovered, rotate, write_batch};
@@ -23,14 +23,14 @@ fn store(alloc: Global, engine: &mut Engine<MemoryFiles>) -> Result<()> {
     engine.sync()
 }
 
-/// Returns the append files that an engine has with these batches: each in a file of its own, and nothing else.
+/// Returns the append files that this engine must have: each batch in a file of its own, and nothing else.
 fn files_with_batches(alloc: Global) -> Result<LogFiles> {
     let first = bytes_for(alloc, records(alloc)?, FileId::new(LogQueue::Append, 1))?;
     let second = bytes_for(alloc, cleaning(alloc)?, FileId::new(LogQueue::Append, 2))?;
     Ok(vec![in alloc; (1, first), (2, second)]?)
 }
 
-/// Returns the files of a queue, with their bytes.
+/// Returns copies of the files of `queue`.
 fn copies(alloc: Global, engine: &Engine<MemoryFiles>, queue: LogQueue) -> Result<LogFiles> {
     let mut files = Vec::new(alloc);
     for (seq, bytes) in engine.files().files(queue) {
@@ -39,7 +39,7 @@ fn copies(alloc: Global, engine: &Engine<MemoryFiles>, queue: LogQueue) -> Resul
     Ok(files)
 }
 
-/// Tests whether an engine has the bytes of its batches, and what is recovered of them its tables.
+/// Tests whether the append files have just the bytes of the batches, and a recovery gives the tables of the engine.
 fn is_found<R: Threads + Sync>(rt: &R, alloc: Global) -> Result<bool> {
     let engine = stored(alloc)?;
     has_files_and_tables(rt, alloc, &engine)
@@ -78,7 +78,7 @@ fn what_an_engine_wrote_is_found(rt: HostRuntime) {
     assert!(rt; holds!(is_found(&rt, rt.alloc())));
 }
 
-/// Tests what an engine returns of region 7, and of one that isn't there.
+/// Tests what an engine returns of region 7, and of a region that isn't there.
 fn is_read(alloc: Global) -> Result<bool> {
     let engine = stored(alloc)?;
     Ok(has_value(&engine) && has_indexes(&engine))
@@ -101,7 +101,7 @@ fn an_engine_is_read(rt: HostRuntime) {
     assert!(rt; holds!(is_read(rt.alloc())));
 }
 
-/// Tests whether an engine refuses an entry behind a hole, asks nothing for it, and serves on.
+/// Tests whether an engine refuses an entry that would leave a hole, asks nothing of its files then, and serves on.
 fn refuses_a_hole(alloc: Global) -> Result<bool> {
     let mut engine = stored(alloc)?;
     refuses_a_hole_in(alloc, &mut engine)

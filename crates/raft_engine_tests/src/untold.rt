@@ -1,5 +1,6 @@
-//! What an opening leaves untold: of files that engines wrote it asks nothing, and the rewrite queue is told before an append file
-//! is deleted. Where appended entries don't join rewritten ones, that is told at once.
+//! Tests of what the rewrite queue is told, by a batch of commands and deletions, of what append files take away of rewritten
+//! records. An opening of files that engines wrote tells nothing; it is told before an append file is deleted. Where appended
+//! entries don't join rewritten ones, the opening tells it at once.
 
 use crate::batches::Part;
 use crate::batches::Part::{Clean, Compact, Delete, Entries, Put, Truncate};
@@ -12,11 +13,13 @@ use raft_records::Result;
 use std::alloc::Global;
 use std::thread::Threads;
 
-/// A batch that is written behind [1,10) and `k=v` in a rewrite file, and holds nothing that is left.
+/// A batch that is written after [1,10) and `k=v` have moved to a rewrite file, and that adds no record that is left.
 struct Removal {
+    /// The batch.
     batch: &'static [Part],
+    /// What it leaves.
     left: &'static str,
-    /// Whether it takes something away of the rewrite file, so that this is told before the append file goes.
+    /// Whether it takes something away of the rewrite file, so that the rewrite queue is told before the append file goes.
     is_told: bool,
 }
 
@@ -86,7 +89,7 @@ fn have_same_files(engine: &Engine<MemoryFiles>, other: &Engine<MemoryFiles>) ->
     )
 }
 
-/// Tests whether an engine that is opened over copies of the files of another one has this, and leaves these files as they were.
+/// Tests whether an engine that is opened over copies of the files holds `left`, and has asked for no change of these files.
 fn is_opened_as_it_was<R: Threads + Sync>(
     rt: &R,
     alloc: Global,
@@ -97,7 +100,8 @@ fn is_opened_as_it_was<R: Threads + Sync>(
     Ok(have_same_files(&opened, engine)? && holds(alloc, &opened, left)?)
 }
 
-/// Tests whether a purge of an engine that was opened over the files of another one tells what it has to, and only once.
+/// Opens an engine over copies of the files, and purges its append files. Tests whether that tells the rewrite queue what the
+/// removal says, and a further opening tells nothing more.
 fn is_told_by_a_purge<R: Threads + Sync>(
     rt: &R,
     alloc: Global,
@@ -153,7 +157,7 @@ fn an_opening_leaves_files_as_they_were(rt: HostRuntime) {
     }
 }
 
-/// Tests whether a rewrite queue that holds nothing is told nothing of what the append queue takes away.
+/// Tests whether an empty rewrite queue is told nothing of what the append queue takes away.
 fn none_is_told<R: Threads + Sync>(rt: &R, alloc: Global) -> Result<bool> {
     let mut engine = new_engine(alloc)?;
     none_is_told_in(rt, alloc, &mut engine)
@@ -180,7 +184,8 @@ fn an_empty_rewrite_queue_is_told_nothing(rt: HostRuntime) {
     assert!(rt; holds!(none_is_told(&rt, rt.alloc())));
 }
 
-/// Tests whether it is told at once, and only once, that appended entries leave rewritten ones behind a hole in front of them.
+/// Tests whether an opening tells the rewrite queue at once that its entries are dropped, if the appended ones begin after a
+/// hole; and whether a further opening tells nothing more.
 fn prefix_is_told<R: Threads + Sync>(rt: &R, alloc: Global) -> Result<bool> {
     let rewritten = moved_parts(alloc, &[Entries(1, 5)])?;
     let rewrite = copies(&rewritten, LogQueue::Rewrite)?;

@@ -1,7 +1,8 @@
-//! An engine over a folder: it writes, moves records, deletes a file, and is opened again, once behind a write that was torn.
+//! An engine over a folder: it writes, moves records, deletes a file, and is opened again, once after the end of a write was
+//! lost.
 //!
-//! The folder is the one that the first word names. Its records stay, and a further run goes on behind them. Without a word it is
-//! one of the program's own, which is removed at the end.
+//! The folder is the one that the first word of the command line names. Its records stay, and a further run writes after them.
+//! Without a word it is one of the program's own, which is removed at the end.
 #![tactic(auto)]
 
 use raft_base::{FileId, FileSeq, LogQueue, Result, Version};
@@ -16,32 +17,34 @@ use std::process::ExitCode;
 use std::thread::Threads;
 use std::{env, fs};
 
-/// What the program asks of the machine.
+/// What the program asks of the machine: files, folders, threads and output.
 trait Host: FolderHost + SharedFiles + Threads + Sync + Print {}
 
 impl<R: FolderHost + SharedFiles + Threads + Sync + Print> Host for R {}
 
+/// An engine over the files of a folder.
 type FolderEngine<'a, R> = Engine<FolderFiles<'a, R>>;
 
-/// The folder where no other one is named.
+/// The folder that is used if the command line names none.
 const FOLDER: &str = "raft_example_logs";
 
 /// What `--help` prints.
 const USAGE: &str =
     "usage: raft_example [<folder>]   (an engine over the folder; without one, over a folder of its own, which it removes)";
 
-/// How many threads read the files at most.
+/// The greatest number of threads that read the files.
 const WORKERS: usize = 2;
 
 /// The regions that are written to.
 const REGIONS: [u64; 2] = [7, 8];
 
-/// Prints the usage for `--help`; refuses any other option, with status 2; else runs the example over the folder that the first word names, or
-/// over one of its own.
+/// Prints the usage for `--help`; refuses any other option, with status 2; else runs the example over the folder that the first
+/// word names, or over one of its own, which is removed before and after.
 ///
 /// # Errors
 ///
-/// Those of [`run_example`]; `Io` for the words, the output or the folder.
+/// Those of [`run_example`]; `Io` if the words can't be had, the usage can't be printed, or the program's own folder can't be
+/// removed.
 fn main(rt: HostRuntime) -> Result<ExitCode> {
     match env::args(&rt)?.nth(1) {
         Some(word) if is_help(word.as_str()) => println!(rt; "{USAGE}")?,
@@ -64,11 +67,11 @@ fn is_help(word: &str) -> bool {
     word == "--help" || word == "-h"
 }
 
-/// Removes the program's own folder, if it is there.
+/// Removes the program's own folder with all that is in it, if it is there.
 ///
 /// # Errors
 ///
-/// `Io` for the folder.
+/// `Io` alone, if the system refuses it.
 fn remove_folder<R: Host>(rt: &R) -> Result<()> {
     if fs::exists(rt, FOLDER)? {
         fs::remove_dir_all(rt, FOLDER)?;
@@ -76,8 +79,8 @@ fn remove_folder<R: Host>(rt: &R) -> Result<()> {
     Ok(())
 }
 
-/// Goes through what an engine does, in `folder`. Each engine is dropped before the next one opens the
-/// folder.
+/// Goes through what an engine does, in `folder`, and prints the tables after each step. Each engine is dropped before the
+/// next one opens the folder.
 ///
 /// # Errors
 ///
@@ -89,11 +92,11 @@ fn run_example<R: Host>(rt: &R, folder: &str) -> Result<()> {
     print_tables(rt, &open_engine(rt, folder)?, "opened")
 }
 
-/// Opens the engine of `folder`, and prints what that cut off the files.
+/// Opens the engine of `folder`, and prints what the opening cut off the files.
 ///
 /// # Errors
 ///
-/// Those of opening the folder; `Io` for the output.
+/// Those of [`open_folder`]; `Io` for the output.
 fn open_engine<'a, R: Host>(rt: &'a R, folder: &'a str) -> Result<FolderEngine<'a, R>> {
     let engine = engine_of_folder(rt, folder)?;
     print_cut_bytes(rt, &engine)?;
@@ -110,7 +113,7 @@ fn engine_of_folder<'a, R: Host>(rt: &'a R, folder: &'a str) -> Result<FolderEng
     Ok(open_folder(rt, folder, mode, Version::V2, WORKERS)?.engine)
 }
 
-/// Prints what the opening of `engine` cut off the files, and which files keep it.
+/// Prints how many bytes the opening of `engine` cut off each file, and which file keeps them; nothing if it cut nothing off.
 ///
 /// # Errors
 ///
@@ -139,7 +142,7 @@ fn write_and_move<'a, R: Host>(rt: &'a R, folder: &'a str) -> Result<()> {
     print_tables(rt, &engine, "moved")
 }
 
-/// Tries to open `folder`, which an engine has open, and prints that it is refused.
+/// Tries to open `folder`, which an engine has open, and prints a line if that is refused.
 ///
 /// # Errors
 ///
@@ -165,8 +168,8 @@ fn write_both_regions<R: Host>(rt: &R, engine: &mut FolderEngine<'_, R>) -> Resu
     keep_last_two(rt, engine, 7)
 }
 
-/// Moves what the closed append files of `engine` have to its rewrite queue, deletes the files that aren't
-/// needed any more, and returns how many they were.
+/// Moves what the closed append files of `engine` have to its rewrite queue, and deletes the append files that aren't needed
+/// any more. Returns how many files were deleted.
 ///
 /// # Errors
 ///
@@ -177,8 +180,8 @@ fn move_closed_files<R: Host>(engine: &mut FolderEngine<'_, R>) -> Result<usize>
     engine.purge_expired_files()
 }
 
-/// Returns the number of the last closed append file of `engine`, the one below that which is written to, or
-/// 0 without one.
+/// Returns the number of the last closed append file of `engine`, the one before the file that is written to, or 0 if there is
+/// none.
 ///
 /// # Errors
 ///
@@ -215,7 +218,7 @@ fn write_torn_batch<R: Host>(rt: &R, folder: &str) -> Result<()> {
     Ok(println!(rt; "torn, 5 bytes are lost")?)
 }
 
-/// Opens `folder` once more, and writes what was lost.
+/// Opens `folder` once more, and writes the batch that was lost, this time synced.
 ///
 /// # Errors
 ///
@@ -227,8 +230,8 @@ fn write_again<R: Host>(rt: &R, folder: &str) -> Result<()> {
     print_tables(rt, &engine, "written")
 }
 
-/// Writes a batch with proposals behind the last one of `region`, and with the `leader` of the region under
-/// the key `leader`.
+/// Writes a batch to `region` with the proposals `texts`, whose indexes follow the last one there, and with `leader` as the
+/// value of the key `leader`. With `sync` it is synced.
 ///
 /// # Errors
 ///
@@ -267,8 +270,8 @@ fn keep_last_two<R: Host>(rt: &R, engine: &mut FolderEngine<'_, R>, region: u64)
     engine.write(&mut batch, true)
 }
 
-/// Prints what an engine has after a `step`: the number of files in each queue and, for each region, the
-/// first index, the last one, and its leader.
+/// Prints what an engine has after the step named `step`: the number of files in each queue and, for each region, the first
+/// and the last index, 0 without entries, and its leader.
 ///
 /// # Errors
 ///

@@ -1,4 +1,4 @@
-//! Calls of batches that are written: items are added to one, its bytes are made, and signed for a file.
+//! Exported calls of batches that are written: items are added to a batch, its bytes are made, and signed for a file.
 
 ghost use Rattle.std.specs.Prelude.{◌≡◌, ◌≢◌, ℕ, ◌+◌, ◌-◌, ◌^◌, ◌<◌, ◌≤◌, [], IsTrue, IfErr, OnOk, OnErr, Option, Some, None, is_some, length, map, IfOk};
 ghost use Rattle.raft_ffi.specs.Words.{AllByRecursion, AllHold, BothHold, HasStrings, HasText, HaveSmallNumbers, Holds, IsChangedIfMemory, IsChangedOrRefused, IsCopied, IsKeyRefusal, IsLogBatch, IsMadeIfMemory, IsRead, IsSealedStage, approximate_length};
@@ -37,7 +37,8 @@ pub extern "C" fn raft_ffi_batch_stage(alloc: Global, batch: &mut Batch) -> u32
     }
 }
 
-/// Returns about how many bytes a batch has or will have.
+/// Returns about how many bytes a batch has or will have: at least as many as it will, if all region ids and indexes are below
+/// 2^56, unless it is too long to be encoded.
 #[unsafe(no_mangle)]
 pub extern "C" fn raft_ffi_batch_size(alloc: Global, batch: &mut Batch) -> usize
     requires held { IsTrue (is_some batch.old.value) }
@@ -49,12 +50,12 @@ pub extern "C" fn raft_ffi_batch_size(alloc: Global, batch: &mut Batch) -> usize
     with!(held in batch, alloc; held.approximate_size())
 }
 
-/// Adds entries of a region to an open batch. Their indexes rise by one from `first` on, all below 2^64. The bytes of the entries
-/// stand in `bytes`, one after another, and `lens` says how many each has; what stands behind them isn't looked at. Without
-/// entries nothing is added.
+/// Adds entries of a region to an open batch. Their indexes rise by one from `first` on, all below 2^64. The bytes of the
+/// entries stand in `bytes`, one after another, and `lens` says how many each has; what stands after them isn't looked at.
+/// Without entries nothing is added.
 ///
-/// The code is 0; 9 (`Full`), if the batch would have 2^31 entry bytes or more; or 11 (`Memory`). The batch is unchanged after an
-/// error.
+/// The code is 0; 9 (`Full`), if the batch would have 2^31 entry bytes or more; or 11 (`Memory`). The batch is unchanged after
+/// an error.
 #[unsafe(no_mangle)]
 pub extern "C" fn raft_ffi_batch_add_entries(
     alloc: Global,
@@ -82,13 +83,12 @@ pub extern "C" fn raft_ffi_batch_add_entries(
     told!(held in batch, alloc, text; add_entries(alloc, &mut *held, region, first, lens, bytes))
 }
 
-/// Adds entries to an open batch, whose indexes rise by one from `first` on. No entries add
-/// nothing.
+/// Adds entries of a region to an open batch. Their indexes rise by one from `first` on. Their bytes stand in `bytes`, one
+/// after another, and `lens` says how many each has. Without entries nothing is added.
 ///
 /// # Errors
 ///
-/// `Full` where the entry bytes of the batch would pass 2^31 - 1, `Memory`. The batch is then as it
-/// was.
+/// `Full` if the batch would have 2^31 entry bytes or more; `Memory`. The batch is unchanged then.
 fn add_entries(
     alloc: Global,
     batch: &mut LogBatch,
@@ -186,11 +186,11 @@ pub extern "C" fn raft_ffi_batch_put(
     told!(held in batch, alloc, text; put(alloc, &mut *held, region, key, value))
 }
 
-/// Adds copies of a key and its value to an open batch.
+/// Adds to an open batch that a key of a region gets a value, of both of which it takes copies.
 ///
 /// # Errors
 ///
-/// `InvalidArgument` for the key of the group markers, `Memory`. The batch is then as it was.
+/// `InvalidArgument` if the key is that of the group markers; `Memory`. The batch is unchanged then.
 fn put(alloc: Global, batch: &mut LogBatch, region: u64, key: &[u8], value: &[u8]) -> Result<()>
     requires { batch.old.stage ≡ is_open }
     ensures ok { OnOk result (batch.new ≡ with_item batch.old (pair_item region Put key.now (Some value.now))) }
@@ -248,8 +248,9 @@ pub extern "C" fn raft_ffi_batch_merge(
     told!(held in batch, alloc, text; with!(rest in more, alloc; held.merge(&mut *rest)))
 }
 
-/// Makes the bytes of an open batch, to which nothing can be added from then on, and sets `len` to how many they are: 0 without
-/// items. The code is 0; 9 (`Full`), if they would be 2^56 or more; or 11 (`Memory`). The batch is unchanged after an error.
+/// Makes the bytes of an open batch, to which nothing can be added from then on, and sets `len` to how many they are: 0
+/// without items. The code is 0; 9 (`Full`), if they would be 2^56 or more; or 11 (`Memory`). The batch is unchanged after an
+/// error.
 #[unsafe(no_mangle)]
 pub extern "C" fn raft_ffi_batch_finish(
     alloc: Global,
@@ -296,8 +297,8 @@ pub extern "C" fn raft_ffi_batch_bytes(alloc: Global, batch: &mut Batch, bytes: 
     with!(held in batch, alloc; copy_front(held.encoded_bytes(), bytes))
 }
 
-/// Gives each entry and each key value of a signed batch its place: the batch was written to file `seq` of a queue, from `offset`
-/// on, which is at most 2^64 - 17, and has `len` bytes there.
+/// Gives each entry and each key value of a signed batch its place: the batch was written to file `seq` of a queue, from
+/// `offset` on, which is at most 2^64 - 17, and has `len` bytes there.
 #[unsafe(no_mangle)]
 pub extern "C" fn raft_ffi_batch_written(
     alloc: Global,
@@ -319,8 +320,8 @@ pub extern "C" fn raft_ffi_batch_written(
     with!(held in batch, alloc; held.finish_write(FileBlockHandle { id, offset, len }));
 }
 
-/// Takes the items out of a batch, at whatever stage, into `items`, which is empty before. The batch is gone then, after an error
-/// too. Returns 0, or 11 (`Memory`): `items` stays empty then.
+/// Takes the items out of a batch, at whatever stage, into `items`, which is empty before. The batch is gone then, after an
+/// error too. Returns 0, or 11 (`Memory`): `items` stays empty then.
 #[unsafe(no_mangle)]
 pub extern "C" fn raft_ffi_batch_into_items(alloc: Global, batch: Batch, items: &mut Items) -> u32
     requires held { IsTrue (is_some batch.value) }
@@ -341,7 +342,7 @@ pub extern "C" fn raft_ffi_batch_drop(batch: Batch)
     drop(batch.into_box());
 }
 
-/// Returns the bytes of all strings of these lengths, which are the first ones.
+/// Returns the bytes of `bytes` that belong to strings of the lengths `lens`, which stand at its start, one after another.
 fn joined<'a>(lens: &[usize], bytes: &'a [u8]) -> &'a [u8]
     requires { HasStrings lens.now bytes.now }
     ensures { result.now ≡ concat (strings_of lens.now bytes.now) }
@@ -354,11 +355,11 @@ fn joined<'a>(lens: &[usize], bytes: &'a [u8]) -> &'a [u8]
     &bytes[..bytes.len() - rest.len()]
 }
 
-/// Returns entries of these lengths, whose indexes rise by one from `first` on.
+/// Returns entries of the lengths `lens` without places, whose indexes rise by one from `first` on.
 ///
 /// # Errors
 ///
-/// `Memory`.
+/// `Memory` alone.
 fn sized(alloc: Global, first: u64, lens: &[usize]) -> Result<Vec<EntryIndex>>
     requires indexes { first + length lens.now < 2 ^ 64 }
     requires lengths { AllByRecursion (λ len. len < 2 ^ 32) lens.now }

@@ -1,4 +1,4 @@
-//! Calls that read bytes alone.
+//! Exported calls that read bytes alone, without a handle.
 
 ghost use Rattle.std.specs.Prelude.{◌≡◌, ◌≢◌, ◌+◌, ◌^◌, ◌<◌, ℕ, List, length, drop, take, IfOk, OnOk, OnErr, IfErr};
 ghost use Rattle.raft_ffi.specs.Words.{AreBatchesUpTo, HasLength, HasNoFront, HasText, IsAnyCorruption, IsCodeOf, IsEntryBlockOf, IsHeader, IsNextFault, crc32_of, file_of, part_of, signature_of};
@@ -8,8 +8,8 @@ use raft_base::{LogFileContext, Result, crc32};
 use raft_records::{LogBatch, lent_entry_block, next_in};
 use std::alloc::Global;
 
-/// Returns how many bytes the log batch at the start of `bytes` has by its header, or 0 if no header stands there. So files can
-/// be cut between batches. Whether the batch can be read isn't tested.
+/// Returns the length in bytes of the log batch whose header stands at the start of `bytes`, or 0 if no header stands there.
+/// So files can be cut between batches. Whether the batch can be read, or is all there, isn't tested.
 #[unsafe(no_mangle)]
 pub extern "C" fn raft_ffi_batch_len(alloc: Global, bytes: &[u8]) -> usize
     ensures none { result ≡ 0 → HasNoFront IsHeader bytes.now }
@@ -22,9 +22,9 @@ pub extern "C" fn raft_ffi_batch_len(alloc: Global, bytes: &[u8]) -> usize
     }
 }
 
-/// Sets `len` to how many of `bytes`, from the first one on, are readable batches, one behind the other; `bytes` stand in `file`
-/// from `offset` on. The code says why the batch behind them can't be read, with its text in `text`; it is 0 if they are all of
-/// `bytes`.
+/// Sets `len` to how many of `bytes`, from the first one on, are readable batches, one after another; `bytes` stand in `file`
+/// from `offset` on. The code is 0 if they are all of `bytes`. Else it is that of the error for which the batch after them
+/// can't be read, with its text in `text`.
 #[unsafe(no_mangle)]
 pub extern "C" fn raft_ffi_readable_front(
     alloc: Global,
@@ -46,8 +46,8 @@ pub extern "C" fn raft_ffi_readable_front(
     answered(alloc, &answer, text)
 }
 
-/// Returns how many of the bytes, from the first on, are readable batches, and why there is none
-/// behind them; `Ok` where they end there.
+/// Returns how many of `bytes`, from the first one on, are readable batches, one after another, and the error for which no
+/// batch can be read after them: `Ok` if they are all of `bytes`. These stand in `file` from `offset` on.
 fn walk(alloc: Global, file: &LogFileContext, offset: u64, bytes: &[u8]) -> (usize, Result<()>)
     requires ends { offset + length bytes.now < 2 ^ 64 }
     ensures readable { AreBatchesUpTo (part_of file.now offset bytes.now) result.0 }
@@ -73,8 +73,9 @@ pub extern "C" fn raft_ffi_crc32(bytes: &[u8]) -> u32
     crc32(bytes)
 }
 
-/// Checks `bytes`, a whole entry block, against its checksum, and sets `len` to how many of them, from the first one on, are its
-/// entry bytes: 0 for a block without bytes. The code is 0; 2 (`Corruption`), if they aren't such a block; or 11 (`Memory`).
+/// Checks `bytes`, a whole entry block, against its checksum, and sets `len` to how many of them, from the first one on, are
+/// its entry bytes: 0 for a block without bytes. The code is 0; 2 (`Corruption`), if they aren't such a block; or 11
+/// (`Memory`). `len` isn't set after an error.
 #[unsafe(no_mangle)]
 pub extern "C" fn raft_ffi_block_entries(
     alloc: Global,
@@ -90,12 +91,11 @@ pub extern "C" fn raft_ffi_block_entries(
     answered_with(alloc, entries_len(alloc, bytes), len, text)
 }
 
-/// Returns how many bytes of a whole entry block, from the first on, are its entry bytes; none of
-/// one without bytes.
+/// Returns how many bytes of a whole entry block, from the first one on, are its entry bytes: 0 for a block without bytes.
 ///
 /// # Errors
 ///
-/// `Corruption` where it has one to four bytes, or the checksum is another; `Memory` for its text.
+/// `Corruption` if the block has one to four bytes, or its checksum doesn't hold; `Memory` if there is none for the text.
 fn entries_len(alloc: Global, bytes: &[u8]) -> Result<usize>
     ensures ok { IfOk result (λ n. IsEntryBlockOf (length bytes.now) bytes.now (take n bytes.now)) }
     ensures refused { OnErr result ((entries : List ℕ) → IsEntryBlockOf (length bytes.now) bytes.now entries → ⊥) }

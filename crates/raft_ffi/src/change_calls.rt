@@ -1,4 +1,4 @@
-//! Calls that change the table of a region.
+//! Exported calls that change the table of one region.
 
 ghost use Rattle.std.specs.Prelude.{◌≡◌, IsTrue, is_some, map, OnOk, OnErr, IfOk, IfErr};
 ghost use Rattle.raft_ffi.specs.Words.{Append, Rewrite, AreAppended, AreDropped, AreRewritten, AreUnappended, AreUnrewritten, BothHold, HasText, IsAllowed, IsAnswer, IsChangeFault, IsChangedIfMemory, IsChangedOrRefused, IsChangedTo};
@@ -12,9 +12,9 @@ use raft_base::{Error, FileId, Result};
 use raft_table::TableChange;
 use std::alloc::Global;
 
-/// Puts `entries`, new ones of the append queue, behind the entries of a region that are below their first index. The others of
-/// the region are dropped; without new entries all stay. The code is 0, or that of the error, as 1 (`InvalidArgument`) if the
-/// indexes of `entries` don't rise by one. The tables are unchanged after an error.
+/// Appends `entries`, new ones of the append queue, to the table of a region. The region's entries from their first index on
+/// are dropped before; without new entries nothing is changed. The code is 0, or that of the error, as 1 (`InvalidArgument`)
+/// if the indexes of `entries` don't rise by one. The tables are unchanged after an error.
 #[unsafe(no_mangle)]
 pub extern "C" fn raft_ffi_tables_append(
     alloc: Global,
@@ -33,8 +33,8 @@ pub extern "C" fn raft_ffi_tables_append(
     told!(held in tables, alloc, text; change_table(&mut *held, region, TableChange::Append(run)))
 }
 
-/// Drops the entries of a region below `index`, and sets `dropped` to how many those were. The code is 0, or 11 (`Memory`). The
-/// tables are unchanged after an error.
+/// Drops the entries of a region below `index`, and sets `dropped` to how many those were. The code is 0, or 11 (`Memory`).
+/// The tables are unchanged after an error.
 #[unsafe(no_mangle)]
 pub extern "C" fn raft_ffi_tables_compact(
     alloc: Global,
@@ -52,8 +52,8 @@ pub extern "C" fn raft_ffi_tables_compact(
     told!(held in tables, alloc, dropped, text; change_table(&mut *held, region, TableChange::Compact { index }))
 }
 
-/// Drops the entries of a region from `index` on, and sets `dropped` to how many those were. The code is 0, or 11 (`Memory`). The
-/// tables are unchanged after an error.
+/// Drops the entries of a region from `index` on, and sets `dropped` to how many those were. The code is 0, or 11 (`Memory`).
+/// The tables are unchanged after an error.
 #[unsafe(no_mangle)]
 pub extern "C" fn raft_ffi_tables_truncate(
     alloc: Global,
@@ -71,8 +71,8 @@ pub extern "C" fn raft_ffi_tables_truncate(
     told!(held in tables, alloc, dropped, text; change_table(&mut *held, region, TableChange::Truncate { index }))
 }
 
-/// Gives `key` of a region `value`, which was written to file `seq` of a queue. The code is 0; 9 (`Full`), if more than 2^64 - 1
-/// records would be live in that queue; or 11 (`Memory`). The tables are unchanged after an error.
+/// Sets the value of `key` of a region to `value`, which was written to file `seq` of a queue. The code is 0; 9 (`Full`), if
+/// more than 2^64 - 1 records would be live in that queue; or 11 (`Memory`). The tables are unchanged after an error.
 #[unsafe(no_mangle)]
 pub extern "C" fn raft_ffi_tables_put(
     alloc: Global,
@@ -110,10 +110,10 @@ pub extern "C" fn raft_ffi_tables_delete(
     told!(held in tables, alloc, text; change_table(&mut *held, region, TableChange::Delete { key }))
 }
 
-/// Gives the entries of a region that `entries` names the places there, which are in the rewrite queue, as far as they may move:
-/// with a gate those in append files numbered at or below it, without one those that are rewritten already. The code is 0, or
-/// that of the error, as 1 (`InvalidArgument`) if the indexes of `entries` don't rise by one. The tables are unchanged after an
-/// error.
+/// Moves entries of a region to new places. `entries` name the entries, with their places in the rewrite queue. Only those
+/// move that may: with a gate those in append files numbered at or below it, without one those that are rewritten already. The
+/// code is 0, or that of the error, as 1 (`InvalidArgument`) if the indexes of `entries` don't rise by one. The tables are
+/// unchanged after an error.
 #[unsafe(no_mangle)]
 pub extern "C" fn raft_ffi_tables_rewrite(
     alloc: Global,
@@ -134,9 +134,9 @@ pub extern "C" fn raft_ffi_tables_rewrite(
     told!(held in tables, alloc, text; change_table(&mut *held, region, TableChange::Rewrite { entries, gate }))
 }
 
-/// Moves the pair of a region's `key` to file `seq` of the rewrite queue: one in the append queue if there is a gate and its file
-/// is numbered at or below it, one in the rewrite queue always. The code is 0, or that of the error, as 2 (`Corruption`) if the
-/// pair is in a later rewrite file. The tables are unchanged after an error.
+/// Moves `key` of a region, with its value, to file `seq` of the rewrite queue. One in the append queue moves only if there is
+/// a gate and its file is numbered at or below it; one in the rewrite queue always does. The code is 0, or that of the error,
+/// as 2 (`Corruption`) if the pair is in a later rewrite file. The tables are unchanged after an error.
 #[unsafe(no_mangle)]
 pub extern "C" fn raft_ffi_tables_rewrite_key(
     alloc: Global,
@@ -155,12 +155,12 @@ pub extern "C" fn raft_ffi_tables_rewrite_key(
     told!(held in tables, alloc, text; rewrite_key(alloc, &mut *held, region, key, gate.number(), seq))
 }
 
-/// Does what a change says to a region's table, and returns how many entries a compaction or a
-/// truncation drops, else 0.
+/// Applies `change` to the table of a region. Returns how many entries a compaction or a truncation drops, and 0 for any other
+/// change.
 ///
 /// # Errors
 ///
-/// Those of [`MemTableAccessor::change`]. The tables are then as they were.
+/// Those of [`MemTableAccessor::change`]. The tables are unchanged then.
 fn change_table(tables: &mut MemTableAccessor, region: u64, change: TableChange) -> Result<u64>
     ensures ok { OnOk result (IsChangedTo (after_change (table_in tables.old.tables region) change)
         region tables.old tables.new) }
@@ -174,11 +174,11 @@ fn change_table(tables: &mut MemTableAccessor, region: u64, change: TableChange)
     answer
 }
 
-/// Puts copies of a key and its value into a region's table, as from this file.
+/// Puts copies of a key and its value into the table of a region, as written to the file `file_id`. Returns 0.
 ///
 /// # Errors
 ///
-/// Those of [`MemTableAccessor::change`]. The tables are then as they were.
+/// Those of [`MemTableAccessor::change`]. The tables are unchanged then.
 fn put(
     alloc: Global,
     tables: &mut MemTableAccessor,
@@ -203,11 +203,11 @@ fn put(
     )
 }
 
-/// Moves a region's key to the file of number `seq` of the rewrite queue, if the gate lets it.
+/// Moves a key of a region to file `seq` of the rewrite queue, if the gate allows it. Returns 0.
 ///
 /// # Errors
 ///
-/// Those of [`MemTableAccessor::change`]. The tables are then as they were.
+/// Those of [`MemTableAccessor::change`]. The tables are unchanged then.
 fn rewrite_key(
     alloc: Global,
     tables: &mut MemTableAccessor,

@@ -1,4 +1,4 @@
-//! Calls of contexts, which rebuild the tables from log files.
+//! Exported calls of contexts, which rebuild the tables of regions from the batches of log files.
 
 ghost use Rattle.std.specs.Prelude.{◌≡◌, ◌≢◌, ◌⊎◌, ◌+◌, ◌^◌, ◌<◌, [], IsTrue, IfOk, IfErr, OnOk, None, is_some, length};
 ghost use Rattle.raft_ffi.specs.Words.{AllHold, AreKept, AreOfTwoQueues, AreTablesOf, AreUnsound, BothHold, CannotFollow, HasBothRead, HasRead, HasReadExactly, HasReplayed, HasTablesRead, HasText, Holds, HoldsFrom, IsCodeFor};
@@ -13,20 +13,26 @@ use raft_contexts::MemTableRecoverContext;
 use raft_replay::replay_bytes;
 use std::alloc::Global;
 
-/// What a context holds, in numbers; 2^64 - 1 in place of a greater one.
+/// What a context holds, in numbers. One that is above 2^64 - 1 stands as that.
 #[repr(C)]
 #[derive(Clone, Copy)]
 pub struct KeptNumbers {
+    /// The number of entries.
     pub entries: u64,
+    /// The number of keys.
     pub keys: u64,
-    /// How many regions have a region mark, and how many groups have a group marker, together.
+    /// The number of regions with a region mark and of groups with a group marker, together.
     pub marks: u64,
+    /// The number of deleted keys in region marks.
     pub deleted_keys: u64,
+    /// The number of cleaned regions that are listed.
     pub cleaned: u64,
+    /// The number of items of atomic groups that wait for their End.
     pub waiting_items: u64,
 }
 
-/// Makes a context that has read nothing in `context`, which is empty before. Returns 0, or 11 (`Memory`): it stays empty then.
+/// Makes a context that has read nothing in `context`, which is empty before. Returns 0, or 11 (`Memory`): it stays empty
+/// then.
 #[unsafe(no_mangle)]
 pub extern "C" fn raft_ffi_context_new(alloc: Global, context: &mut Context) -> u32
     requires empty { context.old.value ≡ None }
@@ -37,9 +43,9 @@ pub extern "C" fn raft_ffi_context_new(alloc: Global, context: &mut Context) -> 
     memory_code(&context.put_new(alloc, held))
 }
 
-/// Replays `bytes`, batches that stand in `file` from `offset` on. The code is 0; that of the error if a batch can't be read or
-/// can't follow those before it; 12 (`Failed`), if the context doesn't read on; or 11 (`Memory`). After an error the context is
-/// gone: it may have taken in some of the batches.
+/// Replays `bytes`, batches that stand in `file` from `offset` on. The code is 0; that of the error if a batch can't be read
+/// or can't follow those before it; 12 (`Failed`), if the context doesn't read on; or 11 (`Memory`). After an error `context`
+/// is empty: what it held may have taken in some of the batches, and is dropped.
 #[unsafe(no_mangle)]
 pub extern "C" fn raft_ffi_context_replay(
     alloc: Global,
@@ -65,12 +71,12 @@ pub extern "C" fn raft_ffi_context_replay(
     told_or_gone!(held in context, alloc, text; replay(&mut *held, alloc, &file.context(), offset, bytes))
 }
 
-/// Replays the batches of bytes that stand in the file from `offset` on.
+/// Replays `bytes`, batches that stand in `file` from `offset` on.
 ///
 /// # Errors
 ///
-/// `Failed` where the context doesn't read on; those of [`replay_bytes`]. The context may then have
-/// taken in some of the batches.
+/// `Failed` if the context doesn't read on: it is unchanged then. Those of [`replay_bytes`]: the context may have taken in
+/// some of the batches then.
 fn replay(
     context: &mut MemTableRecoverContext,
     alloc: Global,
@@ -94,8 +100,8 @@ fn replay(
     replay_bytes(context, alloc, file, offset, bytes)
 }
 
-/// Takes in `newer`, the context of the batches that follow in the same queue, and which is gone then. The code is 0, or that of
-/// the error: 12 (`Failed`), if one of both doesn't read on. After an error the context is gone too.
+/// Takes in `newer`, the context of the batches that follow in the same queue. `newer` is gone then. The code is 0, or that of
+/// the error: 12 (`Failed`), if one of both doesn't read on. After an error `context` is empty.
 #[unsafe(no_mangle)]
 pub extern "C" fn raft_ffi_context_merge(
     alloc: Global,
@@ -121,12 +127,11 @@ pub extern "C" fn raft_ffi_context_merge(
     told_or_gone!(held in context, alloc, text; merge(&mut *held, newer.into_held(), queue(is_rewrite)))
 }
 
-/// Takes in the context of the batches that follow.
+/// Takes in `newer`, the context of the batches that follow in the same `queue`.
 ///
 /// # Errors
 ///
-/// Those of [`MemTableRecoverContext::merge`]. A context that read on has failed then; one that
-/// didn't stays as it is.
+/// Those of [`MemTableRecoverContext::merge`]. A context that read on has failed then; one that didn't is unchanged.
 fn merge(
     context: &mut MemTableRecoverContext,
     newer: MemTableRecoverContext,
@@ -142,9 +147,9 @@ fn merge(
     context.merge(newer, queue)
 }
 
-/// Takes in `append`, the context of the append queue, which is gone then; `context` is that of the rewrite queue. The code is 0,
-/// or that of the error: 12 (`Failed`), if one of both doesn't read on, or 11 (`Memory`), the only one if they are contexts of
-/// the two queues. After an error the context is gone too.
+/// Takes in `append`, the context of the append queue; `context` is that of the rewrite queue. `append` is gone then. The code
+/// is 0, or that of the error: 12 (`Failed`), if one of both doesn't read on, or 11 (`Memory`), the only one if they are
+/// contexts of the two queues. After an error `context` is empty.
 #[unsafe(no_mangle)]
 pub extern "C" fn raft_ffi_context_overlay(
     alloc: Global,
@@ -167,12 +172,12 @@ pub extern "C" fn raft_ffi_context_overlay(
     told_or_gone!(held in context, alloc, text; overlay(&mut *held, append.into_held()))
 }
 
-/// Takes in the context of the append queue over this one, that of the rewrite queue.
+/// Takes in `append`, the context of the append queue, over this one, that of the rewrite queue.
 ///
 /// # Errors
 ///
-/// Those of [`MemTableRecoverContext::merge_append_context`]. A context that read on has failed
-/// then; one that didn't stays as it is.
+/// Those of [`MemTableRecoverContext::merge_append_context`]. A context that read on has failed then; one that didn't is
+/// unchanged.
 fn overlay(context: &mut MemTableRecoverContext, append: MemTableRecoverContext) -> Result<()>
     ensures ok { OnOk result (IsOverlaidWith append context.old context.new) }
     ensures exact { OnOk result (IsOverlaidExactly append context.old context.new) }
@@ -183,7 +188,8 @@ fn overlay(context: &mut MemTableRecoverContext, append: MemTableRecoverContext)
     context.merge_append_context(append)
 }
 
-/// Sets `kept` to how much a context holds. The code is 0, or 12 (`Failed`) for a context that failed. The context is unchanged.
+/// Sets `kept` to how much a context holds. The code is 0, or 12 (`Failed`) for a context that failed: `kept` isn't set then.
+/// The context is unchanged.
 #[unsafe(no_mangle)]
 pub extern "C" fn raft_ffi_context_kept(
     alloc: Global,
@@ -199,11 +205,11 @@ pub extern "C" fn raft_ffi_context_kept(
     told!(held in context, alloc, text; count_kept(&*held, kept))
 }
 
-/// Counts what a context holds.
+/// Sets `kept` to how much a context holds.
 ///
 /// # Errors
 ///
-/// `Failed` after a refusal, and nothing is counted then.
+/// `Failed` alone, if the context failed. `kept` isn't set then.
 fn count_kept(context: &MemTableRecoverContext, kept: &mut KeptNumbers) -> Result<()>
     ensures ok { OnOk result (AreKept (kept_of context.now.context) kept.new) }
     ensures accepted { OnOk result (context.now.stage ≢ Failed) }
@@ -221,15 +227,15 @@ fn count_kept(context: &MemTableRecoverContext, kept: &mut KeptNumbers) -> Resul
     Ok(())
 }
 
-/// Returns a number, or 2^64 - 1 where it is above.
+/// Returns a number, or 2^64 - 1 if it is above that.
 fn capped(number: u128) -> u64
     ensures { result ≡ capped number }
 {
     number.min(u128::from(u64::MAX)) as u64
 }
 
-/// Makes the tables of a context in `tables`, which is empty before. The context is gone then. The code is 0; 12 (`Failed`), for
-/// a context that failed; or 11 (`Memory`). `tables` stays empty after an error.
+/// Makes the tables of a context in `tables`, which is empty before. The context is gone then. The code is 0; 12 (`Failed`),
+/// for a context that failed; or 11 (`Memory`). `tables` stays empty after an error.
 #[unsafe(no_mangle)]
 pub extern "C" fn raft_ffi_context_finish(
     alloc: Global,
@@ -257,11 +263,11 @@ pub extern "C" fn raft_ffi_context_finish(
     answered(alloc, &answer, text)
 }
 
-/// Puts the tables of a context in a box.
+/// Makes the tables of a context, and returns them in a box.
 ///
 /// # Errors
 ///
-/// `Failed` after a refusal, `Memory`. The context is then gone.
+/// `Failed` if the context failed; `Memory`. The context is gone then.
 fn finished(alloc: Global, context: MemTableRecoverContext) -> Result<Box<MemTableAccessor>>
     ensures ok { IfOk result (λ a. AreTablesOf context a.value) }
     ensures reading { IfOk result (λ a. HasTablesRead context a.value) }

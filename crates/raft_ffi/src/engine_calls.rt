@@ -1,4 +1,5 @@
-//! Calls of an engine whose files the caller keeps: what changes it leaves orders behind, which the caller carries out in turn.
+//! Exported calls of an engine whose files the caller keeps. What changes it leaves orders behind, which the caller carries
+//! out in turn.
 
 ghost use Rattle.std.specs.Prelude.{◌≡◌, ◌≢◌, true, false, Some, None, IsTrue, is_some, IfOk};
 ghost use Rattle.raft_ffi.specs.Words.{AllHold, AreAcceptedOncePlaced, ArePurged, AreRewritesPurged, AreRewritesUnpurged, AreSomeReadAs, BothHold, HandedFails, HasText, Holds, IsCodeForBoth, IsCodeOf, IsOpenedAs, IsRead, IsRotated};
@@ -14,13 +15,13 @@ use raft_engine::Recovered;
 use std::alloc::Global;
 
 /// Makes an engine in `engine`, which is empty before, over files that two readers have read. `append` and `rewrite` are the
-/// numbers and lengths of each queue's files, oldest first. `appended` and `rewritten` have read their batches, in order, up to
-/// where the last file can't be read, and `append_rest` and `rewrite_rest` are the bytes from there on. Both readers are gone
-/// then.
+/// numbers and lengths of each queue's files, oldest first. `appended` and `rewritten` have read their batches, in order, up
+/// to where the last file can't be read, and `append_rest` and `rewrite_rest` are the bytes from there on. Both readers are
+/// gone then.
 ///
-/// `mode` says what may be cut off: nothing for 0; all from there on for 2; what a crash can leave for any other. `append_tail`
-/// and `rewrite_tail` are set to what was cut off from each queue, with the reason in `append_reason` and `rewrite_reason`. The
-/// code is 0, or that of the error: `engine` stays empty then.
+/// `mode` says what may be cut off: nothing for 0; all from there on for 2; what a crash can leave for any other.
+/// `append_tail` and `rewrite_tail` are set to what was cut off from each queue, with the reason in `append_reason` and
+/// `rewrite_reason`. The code is 0, or that of the error: `engine` stays empty then.
 #[unsafe(no_mangle)]
 pub extern "C" fn raft_ffi_engine_open(
     alloc: Global,
@@ -75,8 +76,8 @@ pub extern "C" fn raft_ffi_engine_open(
     answered(alloc, &answer, text)
 }
 
-/// Writes down what an opening cut off, if it succeeded, with the texts of the reasons as far as
-/// there is room.
+/// Sets the tails and the texts of their reasons to what an opening cut off, as far as there is room for the texts. Nothing is
+/// set if the opening failed.
 fn tell(
     alloc: Global,
     answer: &Result<Recovered>,
@@ -94,7 +95,7 @@ fn tell(
     }
 }
 
-/// Tests whether the engine takes further calls.
+/// Tests whether the engine takes further calls that change it.
 #[unsafe(no_mangle)]
 pub extern "C" fn raft_ffi_engine_is_intact(alloc: Global, engine: &mut Engine) -> bool
     requires held { IsTrue (is_some engine.old.value) }
@@ -103,9 +104,9 @@ pub extern "C" fn raft_ffi_engine_is_intact(alloc: Global, engine: &mut Engine) 
     with!(held in engine, alloc; held.engine.is_intact())
 }
 
-/// Writes `batch`, an open one, to the tables, and orders that it is put behind the last append file; `batch` is without items
-/// then. With `sync` a sync is ordered behind it. The code is 0, or that of the error: 12 (`Failed`), if the engine wasn't
-/// intact. If the engine is intact after an error, it and the batch are as they were.
+/// Writes `batch`, an open one, to the tables, and orders that it is put after the bytes of the last append file. `batch` is
+/// without items then. With `sync` a sync is ordered after it. The code is 0, or that of the error: 12 (`Failed`), if the
+/// engine wasn't intact. If the engine is intact after an error, it and the batch are as they were.
 #[unsafe(no_mangle)]
 pub extern "C" fn raft_ffi_engine_write(
     alloc: Global,
@@ -129,8 +130,9 @@ pub extern "C" fn raft_ffi_engine_write(
     told!(held in engine, alloc, text; with!(written in batch, alloc; held.engine.write(&mut *written, sync)))
 }
 
-/// Orders a sync of the append queue, so that all that was written outlasts a crash. The code is 0; 12 (`Failed`), if the engine
-/// isn't intact; or that of the error with which no order can be noted: the engine isn't intact any more then.
+/// Orders a sync of the append queue, so that all that was written outlasts a crash once the sync is carried out. The code is
+/// 0; 12 (`Failed`), if the engine isn't intact; or that of the error with which no order can be noted: the engine isn't
+/// intact any more then.
 #[unsafe(no_mangle)]
 pub extern "C" fn raft_ffi_engine_sync(
     alloc: Global,
@@ -146,7 +148,7 @@ pub extern "C" fn raft_ffi_engine_sync(
     told!(held in engine, alloc, text; held.engine.sync())
 }
 
-/// Orders that the last append file is synced and a new one begun, in which the next batch is put. The code is 0; 12 (`Failed`),
+/// Orders that the last append file is synced and a new one begun, to which the next batch goes. The code is 0; 12 (`Failed`),
 /// if the engine isn't intact; 9 (`Full`), if no number of a file or of an order is left; or 11 (`Memory`).
 #[unsafe(no_mangle)]
 pub extern "C" fn raft_ffi_engine_rotate(
@@ -164,8 +166,8 @@ pub extern "C" fn raft_ffi_engine_rotate(
 }
 
 /// Orders that the append files which no table needs are deleted, the oldest first but never the last one, and sets `count` to
-/// how many. The rewrite queue is told before what they took away. The code is 0, or that of the error: 12 (`Failed`), if the
-/// engine isn't intact.
+/// how many. Before that it has the rewrite queue told what these files took away. The code is 0, or that of the error: 12
+/// (`Failed`), if the engine isn't intact.
 #[unsafe(no_mangle)]
 pub extern "C" fn raft_ffi_engine_purge_expired_files(
     alloc: Global,
@@ -182,8 +184,9 @@ pub extern "C" fn raft_ffi_engine_purge_expired_files(
     told!(held in engine, alloc, count, text; held.engine.purge_expired_files())
 }
 
-/// Orders that the rewrite files which no table needs are deleted, the oldest first but never the last one, and sets `count` to
-/// how many. Both queues are synced before. The code is 0, or that of the error: 12 (`Failed`), if the engine isn't intact.
+/// Orders that the rewrite files which no table needs are deleted, the oldest first but never the last one, and sets `count`
+/// to how many. Before that it orders a sync of both queues. The code is 0, or that of the error: 12 (`Failed`), if the engine
+/// isn't intact.
 #[unsafe(no_mangle)]
 pub extern "C" fn raft_ffi_engine_purge_rewrite_files(
     alloc: Global,
@@ -200,7 +203,7 @@ pub extern "C" fn raft_ffi_engine_purge_rewrite_files(
     told!(held in engine, alloc, count, text; held.engine.purge_rewrite_files())
 }
 
-/// Frees the engine.
+/// Frees the engine. Orders that still wait are lost.
 #[unsafe(no_mangle)]
 pub extern "C" fn raft_ffi_engine_drop(engine: Engine)
     requires held { IsTrue (is_some engine.value) }

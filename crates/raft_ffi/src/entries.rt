@@ -1,4 +1,4 @@
-//! Entries as plain data.
+//! Entries as plain data that crosses to C.
 
 ghost use Rattle.std.specs.Prelude.{◌≡◌, map, IfOk, IfErr};
 ghost use Rattle.raft_ffi.specs.Words.{AreEntriesIn, entry_of};
@@ -7,18 +7,21 @@ use crate::status::{is_rewrite, queue};
 use raft_base::{CompressionType, EntryIndex, Error, FileBlockHandle, FileId, Result};
 use std::alloc::Global;
 
-/// An entry with its place. No batch compresses its entry bytes.
+/// An entry with its place. Its entry bytes aren't compressed.
 #[repr(C)]
 #[derive(Clone, Copy)]
 pub struct Entry {
+    /// Its index.
     pub index: u64,
-    /// The file of its entry block.
+    /// The number of the file with its entry block.
     pub seq: u64,
-    /// Where its entry block lies in the file, and how long that is.
+    /// The offset of the entry block in the file.
     pub offset: u64,
+    /// The length of the entry block in bytes.
     pub len: usize,
-    /// Where its bytes begin in the block, and how many they are.
+    /// Where the bytes of the entry begin in the entry bytes of the block.
     pub entry_offset: u32,
+    /// How many bytes the entry has.
     pub entry_len: u32,
     /// Whether the file is of the rewrite queue.
     pub is_rewrite: bool,
@@ -48,7 +51,7 @@ pub(crate) fn entry_index(entry: &Entry) -> EntryIndex
 ///
 /// # Errors
 ///
-/// `Memory`.
+/// `Memory` alone.
 pub(crate) fn entry_indexes(alloc: Global, entries: &[Entry]) -> Result<Vec<EntryIndex>>
     ensures ok { IfOk result (λ v. v.items ≡ map entry_of entries.now) }
     ensures memory { IfErr result (λ e. e ≡ Error.Memory) }
@@ -60,7 +63,7 @@ pub(crate) fn entry_indexes(alloc: Global, entries: &[Entry]) -> Result<Vec<Entr
     Ok(found)
 }
 
-/// Returns an entry as plain data.
+/// Returns an entry as plain data. Without a place the numbers of its block are 0.
 pub(crate) fn plain(entry: &EntryIndex) -> Entry
     ensures { entry_of result ≡ entry.now }
 {
@@ -88,7 +91,8 @@ pub(crate) fn plain(entry: &EntryIndex) -> Entry
     }
 }
 
-/// Copies entries as far as there is room, and returns how many they are.
+/// Copies entries into `room` as plain data, as many as there is room for. Returns how many entries there are, which may be
+/// more.
 pub(crate) fn copy_entries(found: &[EntryIndex], room: &mut [Entry]) -> usize
     ensures { AreEntriesIn found.now room.old room.new result }
 {

@@ -21,9 +21,11 @@ use std::alloc::{Allocator, Global};
 use std::marker::Model;
 use std::{mem, ptr};
 
-/// A box as its pointer and its allocator.
+/// A box that was taken apart: its pointer and its allocator.
 pub struct Parts<T, A: Allocator> {
+    /// The pointer to the value.
     pub(crate) ptr: *mut T,
+    /// The allocator of the box.
     pub(crate) alloc: A,
     pub ghost value: { T },
 }
@@ -33,7 +35,8 @@ impl<T, A: Allocator> Model for Parts<T, A> {
 }
 
 impl<T, A: Allocator> Parts<T, A> {
-    /// Takes a box apart.
+    /// Takes a box apart, into its pointer and its allocator. Nothing frees the value until [`Parts::into_box`] has made the
+    /// box again.
     pub fn of(b: Box<T, A>) -> Parts<T, A>
     where
         T: Drop,
@@ -43,7 +46,7 @@ impl<T, A: Allocator> Parts<T, A> {
         Parts { ptr, alloc }
     }
 
-    /// Makes the box again.
+    /// Makes the box again that was taken apart.
     pub fn into_box(self) -> Box<T, A>
         ensures { result.value ≡ self.value }
     {
@@ -52,7 +55,8 @@ impl<T, A: Allocator> Parts<T, A> {
     }
 }
 
-/// Does something with what a handle holds, which is taken out and put back.
+/// Evaluates `body` on the value that a handle holds, as the box `held`, and returns the result. The handle is empty
+/// meanwhile, and holds the value again afterwards.
 macro_rules! with {
     ($held:ident in $handle:ident, $alloc:ident; $body:expr) => {{
         let mut $held = $handle.take($alloc);
@@ -62,7 +66,9 @@ macro_rules! with {
     }};
 }
 
-/// Does what `with!` does, and says how it ended: by a number, with a text, or with what was found.
+/// Does what `with!` does with a body that returns a `Result`, and returns how that ended. With the allocator alone this is a
+/// number, 0 or that of `Memory`; with a text it is a `Status`; with `found` and a text it is a `Status`, and `found` is set
+/// to what an `Ok` has.
 macro_rules! told {
     ($held:ident in $handle:ident, $alloc:ident; $body:expr) => {{
         let answer = with!($held in $handle, $alloc; $body);
@@ -78,7 +84,8 @@ macro_rules! told {
     }};
 }
 
-/// Does what `told!` with a text does, but where that is refused, what the handle held is let go.
+/// Does what `told!` with a text does. But after an error the value that the handle held is dropped, and the handle stays
+/// empty.
 macro_rules! told_or_gone {
     ($held:ident in $handle:ident, $alloc:ident, $text:ident; $body:expr) => {{
         let mut $held = $handle.take($alloc);
@@ -91,7 +98,8 @@ macro_rules! told_or_gone {
     }};
 }
 
-/// Returns what was made; where there was no memory for it the call ends with `Memory`, by its number alone where it writes no text.
+/// Returns the value of an `Ok`. After an error, which is want of memory, it returns from the calling function: with the
+/// number of `Memory`, or with its `Status` if a text is given.
 macro_rules! or_told {
     ($made:expr) => {
         match $made {
@@ -112,28 +120,28 @@ pub(crate) use told;
 pub(crate) use told_or_gone;
 pub(crate) use with;
 
-/// A type of handles: each holds a value on the heap, or nothing. C keeps it as a pointer, null where it holds nothing.
+/// A type of handles: each holds a value on the heap, or nothing. C keeps it as a pointer, which is null if it holds nothing.
 pub(crate) trait Handle: Sized + Drop {
-    /// What one holds.
+    /// The type of the values that are held.
     type Held: Drop;
 
     /// What this one holds.
     ghost value: { Self → Option Self.Held };
 
-    /// Makes a handle that holds nothing.
+    /// Makes a handle that holds nothing. It keeps `alloc`, and allocates nothing.
     fn empty(alloc: Global) -> Self
         ensures { value result ≡ None };
 
-    /// Makes the handle of a box that was taken apart.
+    /// Makes the handle that holds a box which was taken apart.
     fn of_parts(parts: Parts<Self::Held, Global>) -> Self
         ensures { value result ≡ Some parts.value };
 
-    /// Returns the box that a handle holds, taken apart.
+    /// Returns the box that the handle holds, taken apart. The handle must hold one.
     fn into_parts(self) -> Parts<Self::Held, Global>
         requires { IsTrue (is_some (value self)) }
         ensures { value self ≡ Some result.value };
 
-    /// Returns the box that a handle holds.
+    /// Returns the box that the handle holds. The handle must hold one.
     final fn into_box(self) -> Box<Self::Held>
         requires { IsTrue (is_some (value self)) }
         ensures { value self ≡ Some result.value }
@@ -141,7 +149,7 @@ pub(crate) trait Handle: Sized + Drop {
         self.into_parts().into_box()
     }
 
-    /// Returns what a handle holds, out of its box.
+    /// Returns the value that the handle holds, out of its box, which is freed. The handle must hold one.
     final fn into_held(self) -> Self::Held
         requires { IsTrue (is_some (value self)) }
         ensures { value self ≡ Some result }
@@ -149,7 +157,7 @@ pub(crate) trait Handle: Sized + Drop {
         Box::into_inner(self.into_box())
     }
 
-    /// Takes the box out of a handle, which then holds nothing.
+    /// Takes the box out of the handle, which then holds nothing. It must hold one before.
     final fn take(&mut self, alloc: Global) -> Box<Self::Held>
         requires { IsTrue (is_some (value self.old)) }
         ensures value { value self.old ≡ Some result.value }
@@ -158,18 +166,18 @@ pub(crate) trait Handle: Sized + Drop {
         mem::replace(self, Self::empty(alloc)).into_box()
     }
 
-    /// Has a handle hold this box.
+    /// Lets the handle hold this box.
     final fn put(&mut self, held: Box<Self::Held>)
         ensures { value self.new ≡ Some held.value }
     {
         *self = Self::of_parts(Parts::of(held));
     }
 
-    /// Has a handle hold this value, in a box.
+    /// Lets the handle hold this value, in a new box.
     ///
     /// # Errors
     ///
-    /// `Memory`. The handle is then as it was, and the value is lost.
+    /// `Memory` alone. The handle is unchanged then, and the value is dropped.
     final fn put_new(&mut self, alloc: Global, held: Self::Held) -> Result<()>
         ensures ok { OnOk result (value self.new ≡ Some held) }
         ensures err { OnErr result (value self.new ≡ value self.old) }
@@ -180,11 +188,13 @@ pub(crate) trait Handle: Sized + Drop {
     }
 }
 
-/// A batch, or nothing.
+/// A handle of a log batch that is written, or of nothing.
 #[repr(C)]
 #[derive(Drop)]
 pub struct Batch {
+    /// The pointer to the value; null if nothing is held.
     at: *mut u8,
+    /// The allocator of the box.
     alloc: Global,
     pub ghost value: { Option BatchSeen } by { coded_option batch_row.coded },
 }
@@ -198,11 +208,13 @@ impl Handle for Batch {
 
     ghost value = { λ h. h.value };
 
+    /// Makes a handle of no batch. It keeps `alloc`, and allocates nothing.
     fn empty(alloc: Global) -> Batch {
         let at = ptr::null_mut();
         Batch { at, alloc }
     }
 
+    /// Makes the handle of the batch, whose box was taken apart.
     fn of_parts(parts: Parts<LogBatch, Global>) -> Batch
         ensures { result.value ≡ Some parts.value }
     {
@@ -211,6 +223,7 @@ impl Handle for Batch {
         Batch { at, alloc }
     }
 
+    /// Returns the box of the batch, taken apart. The handle must hold one.
     fn into_parts(self) -> Parts<LogBatch, Global> {
         let Batch { at, alloc } = self;
         let ptr = at as *mut LogBatch;
@@ -220,11 +233,13 @@ impl Handle for Batch {
 
 unsafe impl Send for Batch {}
 
-/// A context, or nothing.
+/// A handle of a context, or of nothing.
 #[repr(C)]
 #[derive(Drop)]
 pub struct Context {
+    /// The pointer to the value; null if nothing is held.
     at: *mut u8,
+    /// The allocator of the box.
     alloc: Global,
     pub ghost value: { Option RecoverContext } by { coded_option recover_context_code },
 }
@@ -238,11 +253,13 @@ impl Handle for Context {
 
     ghost value = { λ h. h.value };
 
+    /// Makes a handle of no context. It keeps `alloc`, and allocates nothing.
     fn empty(alloc: Global) -> Context {
         let at = ptr::null_mut();
         Context { at, alloc }
     }
 
+    /// Makes the handle of the context, whose box was taken apart.
     fn of_parts(parts: Parts<MemTableRecoverContext, Global>) -> Context
         ensures { result.value ≡ Some parts.value }
     {
@@ -251,6 +268,7 @@ impl Handle for Context {
         Context { at, alloc }
     }
 
+    /// Returns the box of the context, taken apart. The handle must hold one.
     fn into_parts(self) -> Parts<MemTableRecoverContext, Global> {
         let Context { at, alloc } = self;
         let ptr = at as *mut MemTableRecoverContext;
@@ -260,11 +278,13 @@ impl Handle for Context {
 
 unsafe impl Send for Context {}
 
-/// An engine, or nothing.
+/// A handle of an engine, or of nothing.
 #[repr(C)]
 #[derive(Drop)]
 pub struct Engine {
+    /// The pointer to the value; null if nothing is held.
     at: *mut u8,
+    /// The allocator of the box.
     alloc: Global,
     pub ghost value: { Option KeptEngine } by { coded_option engine_code },
 }
@@ -278,11 +298,13 @@ impl Handle for Engine {
 
     ghost value = { λ h. h.value };
 
+    /// Makes a handle of no engine. It keeps `alloc`, and allocates nothing.
     fn empty(alloc: Global) -> Engine {
         let at = ptr::null_mut();
         Engine { at, alloc }
     }
 
+    /// Makes the handle of the engine, whose box was taken apart.
     fn of_parts(parts: Parts<HeldEngine, Global>) -> Engine
         ensures { result.value ≡ Some parts.value }
     {
@@ -291,6 +313,7 @@ impl Handle for Engine {
         Engine { at, alloc }
     }
 
+    /// Returns the box of the engine, taken apart. The handle must hold one.
     fn into_parts(self) -> Parts<HeldEngine, Global> {
         let Engine { at, alloc } = self;
         let ptr = at as *mut HeldEngine;
@@ -300,11 +323,13 @@ impl Handle for Engine {
 
 unsafe impl Send for Engine {}
 
-/// Items, or nothing.
+/// A handle of a list of items, or of nothing.
 #[repr(C)]
 #[derive(Drop)]
 pub struct Items {
+    /// The pointer to the value; null if nothing is held.
     at: *mut u8,
+    /// The allocator of the box.
     alloc: Global,
     pub ghost value: { Option (List Item) } by { coded_option items_row.coded },
 }
@@ -318,11 +343,13 @@ impl Handle for Items {
 
     ghost value = { λ h. h.value };
 
+    /// Makes a handle of no list of items. It keeps `alloc`, and allocates nothing.
     fn empty(alloc: Global) -> Items {
         let at = ptr::null_mut();
         Items { at, alloc }
     }
 
+    /// Makes the handle of the list of items, whose box was taken apart.
     fn of_parts(parts: Parts<ItemList, Global>) -> Items
         ensures { result.value ≡ Some parts.value }
     {
@@ -331,6 +358,7 @@ impl Handle for Items {
         Items { at, alloc }
     }
 
+    /// Returns the box of the list of items, taken apart. The handle must hold one.
     fn into_parts(self) -> Parts<ItemList, Global> {
         let Items { at, alloc } = self;
         let ptr = at as *mut ItemList;
@@ -340,11 +368,13 @@ impl Handle for Items {
 
 unsafe impl Send for Items {}
 
-/// A reader of a queue's files, or nothing.
+/// A handle of a reader of a queue's files, or of nothing.
 #[repr(C)]
 #[derive(Drop)]
 pub struct Reader {
+    /// The pointer to the value; null if nothing is held.
     at: *mut u8,
+    /// The allocator of the box.
     alloc: Global,
     pub ghost value: { Option ReaderSeen } by { coded_option reader_code },
 }
@@ -358,11 +388,13 @@ impl Handle for Reader {
 
     ghost value = { λ h. h.value };
 
+    /// Makes a handle of no reader. It keeps `alloc`, and allocates nothing.
     fn empty(alloc: Global) -> Reader {
         let at = ptr::null_mut();
         Reader { at, alloc }
     }
 
+    /// Makes the handle of the reader, whose box was taken apart.
     fn of_parts(parts: Parts<QueueReader, Global>) -> Reader
         ensures { result.value ≡ Some parts.value }
     {
@@ -371,6 +403,7 @@ impl Handle for Reader {
         Reader { at, alloc }
     }
 
+    /// Returns the box of the reader, taken apart. The handle must hold one.
     fn into_parts(self) -> Parts<QueueReader, Global> {
         let Reader { at, alloc } = self;
         let ptr = at as *mut QueueReader;
@@ -380,11 +413,13 @@ impl Handle for Reader {
 
 unsafe impl Send for Reader {}
 
-/// Tables, or nothing.
+/// A handle of the tables of all regions, or of nothing.
 #[repr(C)]
 #[derive(Drop)]
 pub struct Tables {
+    /// The pointer to the value; null if nothing is held.
     at: *mut u8,
+    /// The allocator of the box.
     alloc: Global,
     pub ghost value: { Option Accessor } by { coded_option accessor_code },
 }
@@ -398,11 +433,13 @@ impl Handle for Tables {
 
     ghost value = { λ h. h.value };
 
+    /// Makes a handle of no tables. It keeps `alloc`, and allocates nothing.
     fn empty(alloc: Global) -> Tables {
         let at = ptr::null_mut();
         Tables { at, alloc }
     }
 
+    /// Makes the handle of the tables, whose box was taken apart.
     fn of_parts(parts: Parts<MemTableAccessor, Global>) -> Tables
         ensures { result.value ≡ Some parts.value }
     {
@@ -411,6 +448,7 @@ impl Handle for Tables {
         Tables { at, alloc }
     }
 
+    /// Returns the box of the tables, taken apart. The handle must hold some.
     fn into_parts(self) -> Parts<MemTableAccessor, Global> {
         let Tables { at, alloc } = self;
         let ptr = at as *mut MemTableAccessor;

@@ -1,4 +1,4 @@
-//! An engine whose files the caller keeps.
+//! The value behind a handle of an engine.
 
 ghost use Rattle.std.specs.Prelude.{◌≡◌, true, IfErr, OnOk};
 ghost use Rattle.raft_ffi.specs.Words.{HandedFails, IsRewritten, IsUnrewritten, AreMovedAgain, AreUnmovedAgain, IsTaking};
@@ -9,9 +9,10 @@ use raft_engine::Engine;
 use raft_orders::HandedFiles;
 use std::marker::Model;
 
-/// An engine whose files the caller keeps.
+/// An engine whose files the caller keeps: its changes are orders, which wait until the caller takes them.
 #[derive(Drop)]
 pub struct HeldEngine {
+    /// The engine, over files that hand out orders.
     pub(crate) engine: Engine<HandedFiles>,
 }
 
@@ -29,14 +30,14 @@ impl Model for HeldEngine {
 }
 
 impl HeldEngine {
-    /// Holds an engine.
+    /// Makes the value for a handle of an engine.
     pub(crate) fn of(engine: Engine<HandedFiles>) -> HeldEngine
         ensures { result ≡ engine }
     {
         HeldEngine { engine }
     }
 
-    /// Takes the oldest order that waits, where there is room for its bytes.
+    /// Takes the oldest order that waits, if it has at most `room` bytes. The engine itself is unchanged.
     pub(crate) fn take_order(&mut self, room: usize) -> Taking
         ensures taking { IsTaking self.old.asks room result }
         ensures same { self.new ≡ self.old }
@@ -47,11 +48,12 @@ impl HeldEngine {
         self.engine.with_files(take)
     }
 
-    /// Keeps a copy of the bytes that stand at a place, for the next call that moves records.
+    /// Keeps a copy of `bytes`, the block that stands at `offset` of `file`, for the next call that moves records. The engine
+    /// itself is unchanged.
     ///
     /// # Errors
     ///
-    /// `Memory`. Nothing more is lent then.
+    /// `Memory` alone. This block isn't lent then.
     pub(crate) fn lend(&mut self, file: FileId, offset: u64, bytes: &[u8]) -> Result<()>
         ensures same { self.new ≡ self.old }
         ensures memory { IfErr result (λ e. e ≡ Error.Memory) }
@@ -62,12 +64,13 @@ impl HeldEngine {
         self.engine.with_files(lend)
     }
 
-    /// Moves what the tables have in append files up to the gate, and lets go of all bytes that
+    /// Moves what the tables have in append files numbered at or below `gate` to the rewrite queue, and drops all blocks that
     /// were lent.
     ///
     /// # Errors
     ///
-    /// `TryAgain` where a block is to be read that isn't lent, and those of `Engine::rewrite`.
+    /// `TryAgain` if a block has to be read that isn't lent; the others of [`Engine::rewrite`]. Some regions may have moved
+    /// then, and the blocks are dropped too.
     pub(crate) fn rewrite(&mut self, gate: FileSeq) -> Result<()>
         ensures ok { OnOk result (IsRewritten gate self.old self.new) }
         ensures accepted { OnOk result (self.old.intact ≡ true) }
@@ -78,12 +81,12 @@ impl HeldEngine {
         answer
     }
 
-    /// Moves what the tables have in rewrite files, and lets go of all bytes that were lent.
+    /// Moves what the tables have in rewrite files to a new one, and drops all blocks that were lent.
     ///
     /// # Errors
     ///
-    /// `TryAgain` where a block is to be read that isn't lent, and those of
-    /// `Engine::rewrite_again`.
+    /// `TryAgain` if a block has to be read that isn't lent; the others of [`Engine::rewrite_again`]. Some regions may have
+    /// moved then, and the blocks are dropped too.
     pub(crate) fn rewrite_again(&mut self) -> Result<()>
         ensures ok { OnOk result (AreMovedAgain self.old self.new) }
         ensures accepted { OnOk result (self.old.intact ≡ true) }
@@ -94,7 +97,7 @@ impl HeldEngine {
         answer
     }
 
-    /// Lets go of all bytes that were lent.
+    /// Drops all blocks that were lent. The engine itself is unchanged.
     fn clear_lent(&mut self)
         ensures { self.new ≡ self.old }
     {

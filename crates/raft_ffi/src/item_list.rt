@@ -1,4 +1,4 @@
-//! Items in a row: those of a batch that is read, and their calls.
+//! Lists of items, those of a batch that was read or written, and the exported calls that read them.
 
 ghost use Rattle.std.specs.Prelude.{◌≡◌, map, length, IfOk, IfErr, ◌≢◌, ◌+◌, ◌^◌, ◌<◌, ◌≤◌, IsTrue, OnOk, OnErr, None, is_some, drop, slice_get, option_map};
 ghost use Rattle.raft_ffi.specs.Words.{into_iter_items, into_iter_len, item_of, content_of, signature_of, IsNext, IsNextFault, part_of, file_of, IsCodeOf, next_shown, IsFound, IsRead, IsMemoryOr, IsHeadOf, kind_of, number_of, entries_at};
@@ -13,9 +13,10 @@ use std::alloc::Global;
 use std::marker::Model;
 use std::vec;
 
-/// Items in order, those of a batch that was read or written.
+/// The items of a batch that was read or written, in order.
 #[derive(Drop)]
 pub struct ItemList {
+    /// The items.
     items: Vec<LogItem>,
 }
 
@@ -55,11 +56,11 @@ impl ItemList {
     }
 }
 
-/// Takes the items out of a batch.
+/// Takes the items out of a batch, in order.
 ///
 /// # Errors
 ///
-/// `Memory`. They are then lost.
+/// `Memory` alone. They are lost then.
 pub(crate) fn items_of(alloc: Global, mut batch: LogBatch) -> Result<ItemList>
     ensures ok { IfOk result (λ list. list ≡ batch.items) }
     ensures memory { IfErr result (λ e. e ≡ Error.Memory) }
@@ -71,20 +72,22 @@ pub(crate) fn items_of(alloc: Global, mut batch: LogBatch) -> Result<ItemList>
     Ok(ItemList::of(items))
 }
 
-/// What an item says, without its lists.
+/// What an item says, without its entries, its key and its value.
 #[repr(C)]
 #[derive(Clone, Copy)]
 pub struct ItemHead {
+    /// The region that it is about.
     pub region: u64,
-    /// How many entries there are, or the index of a command.
+    /// How many entries there are, or the index of a command; 0 for other kinds, and for a clean.
     pub number: u64,
     /// 0: entries, 1: clean, 2: compact, 3: truncate, 4: put, 5: delete.
     pub kind: u32,
 }
 
-/// Reads the items of the log batch at `at` of `bytes` into `items`, which is empty before, and sets `next` to where the next
-/// batch begins; `bytes` stand in `file` from `offset` on. If `at` is the end of `bytes`, `items` stays empty and `next` isn't
-/// set. The code is 0, or that of the error for a batch that can't be read, or 11 (`Memory`): `items` stays empty then.
+/// Reads the items of the log batch at position `at` of `bytes` into `items`, which is empty before, and sets `next` to the
+/// position where the next batch begins; `bytes` stand in `file` from `offset` on. If `at` is the end of `bytes`, `items`
+/// stays empty and `next` isn't set. The code is 0, or that of the error for a batch that can't be read, or 11 (`Memory`):
+/// `items` stays empty then.
 #[unsafe(no_mangle)]
 pub extern "C" fn raft_ffi_items_next(
     alloc: Global,
@@ -109,12 +112,12 @@ pub extern "C" fn raft_ffi_items_next(
     answered(alloc, &answer, text)
 }
 
-/// Reads the items of the batch that stands at `at` in the bytes into an empty handle, and where
-/// the next batch begins into `next`. At the end of the bytes the handle stays empty.
+/// Reads the items of the log batch at position `at` of `bytes` into `items`, which is empty before, and sets `next` to the
+/// position where the next batch begins. At the end of `bytes` nothing is changed.
 ///
 /// # Errors
 ///
-/// Those of [`next_in`], and `Memory`. The handle is then empty.
+/// Those of [`next_in`]; `Memory`. `items` stays empty then, and `next` isn't set.
 fn put_next(
     alloc: Global,
     items: &mut Items,
@@ -147,7 +150,7 @@ pub extern "C" fn raft_ffi_items_len(alloc: Global, items: &mut Items) -> usize
     with!(held in items, alloc; held.as_slice().len())
 }
 
-/// Returns whether there is an item `i`, from 0 on, and sets `head` to what it says.
+/// Returns whether there is an item `i`, counted from 0. If there is one, `head` is set to what it says.
 #[unsafe(no_mangle)]
 pub extern "C" fn raft_ffi_items_head(
     alloc: Global,
@@ -161,8 +164,8 @@ pub extern "C" fn raft_ffi_items_head(
     with!(held in items, alloc; find_head(&*held, i, head))
 }
 
-/// Returns whether item `i` is one of entries, lists as many of them in `entries` as there is room for, and sets `count` to how
-/// many there are.
+/// Returns whether there is an item `i`, counted from 0, and it is one of entries. If so, as many of them as there is room for
+/// are listed in `entries`, and `count` is set to how many there are, which may be more.
 #[unsafe(no_mangle)]
 pub extern "C" fn raft_ffi_items_entries(
     alloc: Global,
@@ -178,8 +181,8 @@ pub extern "C" fn raft_ffi_items_entries(
     with!(held in items, alloc; find_entries(&*held, i, entries, count))
 }
 
-/// Returns whether item `i` changes a key, copies as many bytes of the key into `key` as there is room for, and sets `len` to how
-/// many it has.
+/// Returns whether there is an item `i`, counted from 0, and it changes a key. If so, as many bytes of the key as there is
+/// room for are copied into `key`, and `len` is set to how many it has, which may be more.
 #[unsafe(no_mangle)]
 pub extern "C" fn raft_ffi_items_key(
     alloc: Global,
@@ -194,8 +197,8 @@ pub extern "C" fn raft_ffi_items_key(
     with!(held in items, alloc; copy_found(key_of(&*held, i), key, len))
 }
 
-/// Returns whether item `i` puts a value, copies as many bytes of the value into `value` as there is room for, and sets `len` to
-/// how many it has.
+/// Returns whether there is an item `i`, counted from 0, and it puts a value. If so, as many bytes of the value as there is
+/// room for are copied into `value`, and `len` is set to how many it has, which may be more.
 #[unsafe(no_mangle)]
 pub extern "C" fn raft_ffi_items_value(
     alloc: Global,
@@ -218,14 +221,14 @@ pub extern "C" fn raft_ffi_items_drop(items: Items)
     drop(items.into_box());
 }
 
-/// Returns the item at a position, if there is one.
+/// Returns item `i`, counted from 0; `None` if there are not so many.
 fn item_at(items: &ItemList, i: usize) -> Option<&LogItem>
     ensures { option_map (λ item. item_of item.now) result ≡ slice_get items.now i }
 {
     items.as_slice().get(i)
 }
 
-/// Finds what the item at a position says, and returns whether there is one.
+/// Sets `head` to what item `i` says. Returns whether there is one; without it nothing is changed.
 fn find_head(items: &ItemList, i: usize, head: &mut ItemHead) -> bool
     ensures { IsFound (λ item. IsHeadOf item head.new) (slice_get items.now i) result }
 {
@@ -241,7 +244,7 @@ fn find_head(items: &ItemList, i: usize, head: &mut ItemHead) -> bool
     true
 }
 
-/// Returns the number of an item's kind, and how many entries it has, or the index of its command.
+/// Returns the number of an item's kind, and how many entries it has, or the index of its command, as [`ItemHead`] has them.
 fn said_by(content: &LogItemContent) -> (u32, u64)
     ensures kind { result.0 ≡ kind_of (content_of content.now) }
     ensures number { result.1 ≡ number_of (content_of content.now) }
@@ -258,8 +261,8 @@ fn said_by(content: &LogItemContent) -> (u32, u64)
     }
 }
 
-/// Copies the entries of the item at a position as far as there is room, and returns whether it has
-/// a list of them.
+/// Copies the entries of item `i` into `room`, as many as there is room for, and sets `count` to how many there are. Returns
+/// whether the item is one of entries; else nothing is changed.
 fn find_entries(items: &ItemList, i: usize, room: &mut [Entry], count: &mut usize) -> bool
     ensures { IsFound (λ es. AreEntriesIn es room.old room.new count.new) (entries_at items.now i) result }
 {
@@ -270,7 +273,7 @@ fn find_entries(items: &ItemList, i: usize, room: &mut [Entry], count: &mut usiz
     true
 }
 
-/// Returns the entries of the item at a position, if it has a list of them.
+/// Returns the entries of item `i`; `None` if there is no such item, or it isn't one of entries.
 fn entries_of(items: &ItemList, i: usize) -> Option<&[EntryIndex]>
     ensures { option_map (λ es. es.now) result ≡ entries_at items.now i }
 {
@@ -280,7 +283,7 @@ fn entries_of(items: &ItemList, i: usize) -> Option<&[EntryIndex]>
     }
 }
 
-/// Returns the key of the item at a position, if it changes one.
+/// Returns the key of item `i`; `None` if there is no such item, or it doesn't change a key.
 fn key_of(items: &ItemList, i: usize) -> Option<&[u8]>
     ensures { option_map (λ key. key.now) result ≡ key_at items.now i }
 {
@@ -290,7 +293,7 @@ fn key_of(items: &ItemList, i: usize) -> Option<&[u8]>
     }
 }
 
-/// Returns the value of the item at a position, if it puts one.
+/// Returns the value of item `i`; `None` if there is no such item, or it doesn't put a value.
 fn value_of(items: &ItemList, i: usize) -> Option<&[u8]>
     ensures { option_map (λ value. value.now) result ≡ value_at items.now i }
 {

@@ -1,7 +1,8 @@
-//! The tables of all regions, the contexts that rebuild them, and items, for programs in C and in Rust: a static library.
+//! A static library for programs in C and in Rust: the tables of all regions, the contexts that rebuild them, batches and
+//! their items, and engines, each behind a handle.
 //!
-//! A handle that a call makes must be empty before, and each other one must hold a value. A call that returns a `Status` puts the text
-//! of its error into `text`, as many bytes as there is room for; `text_len` says how many bytes the text has.
+//! A handle that a call makes must be empty before, and each other one must hold a value. A call that returns a `Status` puts
+//! the text of its error into `text`, as many bytes as there is room for; `text_len` says how many bytes the text has.
 #![tactic(auto)]
 
 mod batch_calls;

@@ -1,4 +1,4 @@
-//! Calls that move records of an engine to the rewrite queue, and that lend it the blocks which it reads for that.
+//! Exported calls that move records of an engine to the rewrite queue, and that lend it the blocks which it reads for that.
 
 ghost use Rattle.std.specs.Prelude.{◌≡◌, ◌≢◌, true, IsTrue, is_some, List, IfErr};
 ghost use Rattle.raft_ffi.specs.Words.{HandedFails, AreMovedAgain, AreUnmovedAgain, BothHold, HasText, Holds, IsCodeForBoth, IsCopied, IsRewritten, IsUnrewritten};
@@ -15,17 +15,19 @@ use std::collections::BTreeSet;
 #[repr(C)]
 #[derive(Clone, Copy)]
 pub struct Place {
-    /// The file.
+    /// The number of its file.
     pub seq: u64,
+    /// Its offset in the file.
     pub offset: u64,
+    /// Its length in bytes.
     pub len: usize,
     /// Whether the file is of the rewrite queue.
     pub is_rewrite: bool,
 }
 
-/// Moves what the tables have in append files numbered at or below `gate` to the rewrite queue. The code is 0, or that of the
-/// error: 12 (`Failed`), if the engine isn't intact; 6 (`TryAgain`), if a block is to be read that isn't lent: the engine is
-/// intact then, and some regions may have moved. Lent blocks are dropped.
+/// Moves what the tables have in append files numbered at or below `gate` to the rewrite queue. The blocks that were lent are
+/// dropped, after an error too. The code is 0, or that of the error: 12 (`Failed`), if the engine isn't intact; 6
+/// (`TryAgain`), if a block has to be read that isn't lent: the engine is intact then, and some regions may have moved.
 #[unsafe(no_mangle)]
 pub extern "C" fn raft_ffi_engine_rewrite(
     alloc: Global,
@@ -42,9 +44,9 @@ pub extern "C" fn raft_ffi_engine_rewrite(
     told!(held in engine, alloc, text; held.rewrite(gate))
 }
 
-/// Moves what the tables have in rewrite files to a new one of them. The code is 0, or that of the error: 12 (`Failed`), if the
-/// engine isn't intact; 6 (`TryAgain`), if a block is to be read that isn't lent: the engine is intact then, and some regions may
-/// have moved. Lent blocks are dropped.
+/// Moves what the tables have in rewrite files to a new one of them. The blocks that were lent are dropped, after an error
+/// too. The code is 0, or that of the error: 12 (`Failed`), if the engine isn't intact; 6 (`TryAgain`), if a block has to be
+/// read that isn't lent: the engine is intact then, and some regions may have moved.
 #[unsafe(no_mangle)]
 pub extern "C" fn raft_ffi_engine_rewrite_again(
     alloc: Global,
@@ -60,10 +62,10 @@ pub extern "C" fn raft_ffi_engine_rewrite_again(
     told!(held in engine, alloc, text; held.rewrite_again())
 }
 
-/// Lists in `places` the blocks, each once, that are read if what the tables have in append files up to the gate moves, or
-/// without a gate what they have in rewrite files, as many as there is room for: those of one region after another, until they
-/// have `max_size` bytes. Sets `count` to how many there are. Returns 0, or 11 (`Memory`). The list is a hint: no promise rests
-/// on it.
+/// Lists in `places` the blocks, each once, that have to be read if records move: with a gate those of the append files
+/// numbered at or below it, without one those of the rewrite files. They are listed region by region, until the listed ones
+/// have `max_size` bytes, as many as there is room for. Sets `count` to how many there are, which may be more. Returns 0, or
+/// 11 (`Memory`): nothing is set then. The list is a hint: no promise rests on it.
 #[unsafe(no_mangle)]
 pub extern "C" fn raft_ffi_engine_moving_blocks(
     alloc: Global,
@@ -85,8 +87,8 @@ pub extern "C" fn raft_ffi_engine_moving_blocks(
     0
 }
 
-/// Lends the engine a copy of `bytes`, the block that stands at `offset` of file `seq`, until the next call that moves records.
-/// Returns 0, or 11 (`Memory`).
+/// Lends the engine a copy of `bytes`, the block that stands at `offset` of file `seq`, until the next call that moves
+/// records. Returns 0, or 11 (`Memory`): the block isn't lent then.
 #[unsafe(no_mangle)]
 pub extern "C" fn raft_ffi_engine_lend(
     alloc: Global,
@@ -103,12 +105,13 @@ pub extern "C" fn raft_ffi_engine_lend(
     told!(held in engine, alloc; held.lend(FileId::new(queue(is_rewrite), seq), offset, bytes))
 }
 
-/// Returns the blocks that are read where records of tables move past a gate, those of one table
-/// after another, until they have `max_size` bytes.
+/// Returns the places of the blocks, each once, that have to be read if records move: with a gate those of the append files
+/// numbered at or below it, without one those of the rewrite files. They are listed table by table, until they have `max_size`
+/// bytes.
 ///
 /// # Errors
 ///
-/// `Memory`.
+/// `Memory` alone.
 fn blocks_to_move(
     alloc: Global,
     accessor: &MemTableAccessor,

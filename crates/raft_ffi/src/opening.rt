@@ -1,4 +1,4 @@
-//! The opening of an engine over files that readers have read.
+//! Opening an engine over files that readers have read.
 
 ghost use Rattle.std.specs.Prelude.{◌≡◌, ◌⊎◌, List, None, IfErr, IfOk, OnErr, OnOk};
 ghost use Rattle.raft_files.specs.Asks.{NumberedBytes};
@@ -19,18 +19,25 @@ use raft_orders::HandedFiles;
 use raft_recover::files_hold_few_records;
 use std::alloc::Global;
 
-/// What is read of a queue.
+/// What is read of a queue: its context, and whether its atomic groups stand in rows.
 type Read = Both<MemTableRecoverContext, GroupRows>;
 
-/// What readers say of found files.
+/// What is said of found files once readers have read them.
 #[derive(Drop)]
 struct FoundByReaders<'a> {
+    /// The version of all files.
     version: Version,
+    /// The numbers and lengths of the append files, oldest first.
     append: &'a [Size],
+    /// The bytes of the last append file from where it couldn't be read on.
     append_rest: &'a [u8],
+    /// The numbers and lengths of the rewrite files, oldest first.
     rewrite: &'a [Size],
+    /// The bytes of the last rewrite file from where it couldn't be read on.
     rewrite_rest: &'a [u8],
+    /// What was read of the append files.
     appended: &'a Read,
+    /// What was read of the rewrite files.
     rewritten: &'a Read,
 }
 
@@ -39,12 +46,12 @@ impl Found for FoundByReaders<'_> {
         found.rewrite_rest.now found.appended.now found.rewritten.now };
 }
 
-/// Opens files that readers have read, and puts the engine into an empty handle. Returns what was cut off. The entries of the last
-/// append file aren't checked.
+/// Opens files that readers have read, and puts the engine into `engine`, which is empty before. Returns what was cut off from
+/// each queue. The entries of the last append file aren't checked.
 ///
 /// # Errors
 ///
-/// Those of [`read_over`], and those of an order: `Memory`, `Full`. The handle is then empty.
+/// Those of [`read_over`], and those of an order: `Memory`, `Full`. `engine` stays empty then.
 pub(crate) fn open_into(
     engine: &mut Engine,
     alloc: Global,
@@ -92,12 +99,13 @@ pub(crate) fn open_into(
     Ok(opened.recovered)
 }
 
-/// Returns what the reading of files gives that readers have read.
+/// Returns what an opening has read once its files are read: the tables, and what is still to be asked of the files. The
+/// parameters are those of [`open_into`].
 ///
 /// # Errors
 ///
-/// Those of [`sized_queue`]; `InvalidArgument` where an atomic group of the rewrite files doesn't stand in a row, in one file;
-/// `Full` where the files of a queue have 2^63 bytes or more, or what is to be told at once 2^56; `Memory`.
+/// Those of [`sized_queue`]; `InvalidArgument` if an atomic group of the rewrite files doesn't stand in a row, in one file;
+/// `Full` if the files of a queue have 2^63 bytes or more, or 2^56 or more would have to be written at once; `Memory`.
 fn read_over(
     alloc: Global,
     mode: RecoveryMode,

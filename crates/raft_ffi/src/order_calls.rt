@@ -1,4 +1,4 @@
-//! Calls that hand out what is to be done to an engine's files.
+//! Exported calls that hand out orders: what is to be done to an engine's files.
 
 ghost use Rattle.std.specs.Prelude.{◌≡◌, ◌<◌, ◌≤◌, true, false, Some, None, IsTrue, is_some, length, take};
 ghost use Rattle.raft_ffi.specs.Words.{Holds, IsTaking, IsWaiting, Lasts, act_of, act_of_kind, ask_in, ask_of, length_put, next_to_do};
@@ -8,19 +8,19 @@ use crate::status::{copy_front, is_rewrite};
 use raft_orders::{HandedFiles, NumberedOrder, Task};
 use std::alloc::Global;
 
-/// What is to be done to files, without its bytes.
+/// What is to be done to files, without the bytes that are put.
 #[repr(C)]
 #[derive(Clone, Copy)]
 pub struct OrderHead {
-    /// How many orders there were before it.
+    /// The number of the order: how many there were before it.
     pub at: u64,
-    /// The number of the file that is begun, or how many bytes the last file keeps.
+    /// The number of the file that is begun, or how many bytes the last file keeps; 0 for other kinds.
     pub number: u64,
-    /// How many bytes are put.
+    /// How many bytes are put; 0 for other kinds.
     pub len: usize,
     /// 0: put, 1: begin, 2: sync, 3: delete, 4: cut.
     pub kind: u32,
-    /// Whether it is of the rewrite queue.
+    /// Whether it is about the rewrite queue.
     pub is_rewrite: bool,
 }
 
@@ -71,7 +71,7 @@ pub extern "C" fn raft_ffi_engine_take_order(
     }
 }
 
-/// Returns what an order says without its bytes, which are copied: there is room for them.
+/// Returns what an order says without its bytes, and copies its bytes to the start of `bytes`, which has room for them.
 fn head(taken: &NumberedOrder, bytes: &mut [u8]) -> OrderHead
     requires { length_put taken.now.order.task ≤ length bytes.old }
     ensures number { result.at ≡ taken.now.number }
@@ -87,8 +87,8 @@ fn head(taken: &NumberedOrder, bytes: &mut [u8]) -> OrderHead
     }
 }
 
-/// Returns kind, number and length of what is to be done, and copies its bytes, for which there is
-/// room.
+/// Returns the kind, the number and the length of a task, as [`OrderHead`] has them, and copies its bytes to the start of
+/// `bytes`, which has room for them.
 #[tactic(auto, using(crate::proofs::OrderLemmas::put_says))]
 fn act(task: &Task, bytes: &mut [u8]) -> (u32, u64, usize)
     requires { length_put task.now ≤ length bytes.old }
@@ -103,18 +103,18 @@ fn act(task: &Task, bytes: &mut [u8]) -> (u32, u64, usize)
     }
 }
 
-/// What becomes of the oldest order that waits.
+/// What became of the oldest order that waits.
 #[derive(Drop)]
 pub(crate) enum Taking {
-    /// It is taken.
+    /// It was taken.
     Taken(NumberedOrder),
-    /// It has this number, and more bytes than there is room for, so many.
+    /// It still waits: it has this number and this many bytes, more than there is room for.
     TooLong(u64, usize),
-    /// No order waits; so many were taken.
+    /// No order waits; this many were taken before.
     NoneWaits(u64),
 }
 
-/// Takes the oldest order that waits, where there is room for its bytes.
+/// Takes the oldest order that waits, if it has at most `room` bytes.
 pub(crate) fn take_within(files: &mut HandedFiles, room: usize) -> Taking
     ensures taking { IsTaking files.old.asks room result }
     ensures same { files.new.asks ≡ files.old.asks }

@@ -1,4 +1,4 @@
-//! Calls that list the keys of a region with their values.
+//! Exported calls that list the keys of a region with their values. A key with its value is a pair.
 
 ghost use Rattle.std.specs.Prelude.{◌≡◌, IsTrue, Some, None, is_some, ℕ, List, filter, OnOk, IfOk, IfErr, IsPermutation, option_copied};
 ghost use Rattle.raft_ffi.specs.Words.{Append, Rewrite, AreInKeyOrder, ArePairsIn, AreScanned, AreScannedIn, IsReadIfMemory, bound_in, is_below, is_between, moving_pairs, pairs_of_both, pairs_shown, pairs_up_to, table_in};
@@ -13,10 +13,10 @@ use std::alloc::Global;
 /// Keys with their values.
 type Pairs = Vec<(Vec<u8>, Vec<u8>)>;
 
-/// Lists the pairs of a region whose file in the append queue is numbered at or below `gate`, in the order of the keys: the
-/// length of each key and of its value in turn in `lens`, and their bytes, one behind the other, in `bytes`, each as far as there
-/// is room. `count` is set to how many lengths there are, and `len` to how many bytes. With a gate of 2^64 - 1 it lists all
-/// appended ones. Returns 0, or 11 (`Memory`).
+/// Lists the pairs of a region that are in append files numbered at or below `gate`, in the order of the keys. `lens` gets the
+/// length of each key and of its value in turn, and `bytes` their bytes, one after another, each as far as there is room.
+/// `count` is set to how many lengths there are, and `len` to how many bytes, which may be more. With a gate of 2^64 - 1 it
+/// lists all appended pairs. Returns 0, or 11 (`Memory`): nothing is set then.
 #[unsafe(no_mangle)]
 pub extern "C" fn raft_ffi_tables_pairs_before(
     alloc: Global,
@@ -36,7 +36,8 @@ pub extern "C" fn raft_ffi_tables_pairs_before(
     memory_code(&copy_pairs(alloc, &found, lens, count, bytes, len))
 }
 
-/// Lists the rewritten pairs of a region, in the order of the keys, as [`raft_ffi_tables_pairs_before`] lists the appended ones.
+/// Lists the rewritten pairs of a region, in the order of the keys, in `lens` and `bytes` as [`raft_ffi_tables_pairs_before`]
+/// does. Returns 0, or 11 (`Memory`): nothing is set then.
 #[unsafe(no_mangle)]
 pub extern "C" fn raft_ffi_tables_rewritten_pairs(
     alloc: Global,
@@ -55,8 +56,9 @@ pub extern "C" fn raft_ffi_tables_rewritten_pairs(
     memory_code(&copy_pairs(alloc, &found, lens, count, bytes, len))
 }
 
-/// Lists the pairs of a region whose key is at or above `start` and, with `is_bounded`, below `end`, in the order of the keys, as
-/// [`raft_ffi_tables_pairs_before`] does.
+/// Lists the pairs of a region whose key is at or above `start` and, with `is_bounded`, below `end`, in the order of the keys.
+/// They are listed in `lens` and `bytes` as [`raft_ffi_tables_pairs_before`] does. Returns 0, or 11 (`Memory`): nothing is set
+/// then.
 #[unsafe(no_mangle)]
 pub extern "C" fn raft_ffi_tables_scan(
     alloc: Global,
@@ -78,8 +80,9 @@ pub extern "C" fn raft_ffi_tables_scan(
     told!(held in tables, alloc; scan_in(alloc, &*held, region, start, end, lens, count, bytes, len))
 }
 
-/// Lists the pairs of a region whose key is at or above `start` and, with `is_bounded`, below `end`, in the order of the keys, as
-/// [`raft_ffi_tables_pairs_before`] does.
+/// Lists the pairs of a region whose key is at or above `start` and, with `is_bounded`, below `end`, in the order of the keys.
+/// They are listed in `lens` and `bytes` as [`raft_ffi_tables_pairs_before`] does. Returns 0, or 11 (`Memory`): nothing is set
+/// then.
 #[unsafe(no_mangle)]
 pub extern "C" fn raft_ffi_engine_scan(
     alloc: Global,
@@ -101,18 +104,19 @@ pub extern "C" fn raft_ffi_engine_scan(
     told!(held in engine, alloc; scan_in(alloc, held.engine.accessor(), region, start, end, lens, count, bytes, len))
 }
 
-/// Returns the key as a bound, if there is to be one.
+/// Returns `key` as the bound of a scan, or `None` if `is_bounded` isn't set.
 fn bound(is_bounded: bool, key: &[u8]) -> Option<&[u8]>
     ensures { option_copied result ≡ bound_in is_bounded key.now }
 {
     if is_bounded { Some(key) } else { None }
 }
 
-/// Lists the pairs of a region whose key is at or above `start` and, with an `end`, below it.
+/// Lists in `lens` and `bytes` the pairs of a region whose key is at or above `start` and, with an `end`, below it, in the
+/// order of the keys. Sets `count` and `len` to how many lengths and bytes there are.
 ///
 /// # Errors
 ///
-/// `Memory`. Nothing is then listed.
+/// `Memory` alone. Nothing is listed then.
 fn scan_in(
     alloc: Global,
     accessor: &MemTableAccessor,
@@ -132,12 +136,12 @@ fn scan_in(
     copy_pairs(alloc, &found, lens, count, bytes, len)
 }
 
-/// Returns the pairs of a region whose key is at or above `start` and, with an `end`, below it, in
-/// the order of the keys.
+/// Returns copies of the pairs of a region whose key is at or above `start` and, with an `end`, below it, in the order of the
+/// keys.
 ///
 /// # Errors
 ///
-/// `Memory`.
+/// `Memory` alone.
 fn scanned(
     alloc: Global,
     accessor: &MemTableAccessor,
@@ -155,11 +159,11 @@ fn scanned(
     Ok(found)
 }
 
-/// Returns the pairs of a region, the appended ones first.
+/// Returns copies of all pairs of a region: the appended ones, then the rewritten ones.
 ///
 /// # Errors
 ///
-/// `Memory`.
+/// `Memory` alone.
 fn pairs_of_both(alloc: Global, accessor: &MemTableAccessor, region: u64) -> Result<Pairs>
     ensures ok { IfOk result (λ v. pairs_shown v.items ≡ pairs_of_both (table_in accessor.now.tables region).keys) }
     ensures memory { IfErr result (λ e. e ≡ Error.Memory) }
@@ -170,12 +174,12 @@ fn pairs_of_both(alloc: Global, accessor: &MemTableAccessor, region: u64) -> Res
     Ok(found)
 }
 
-/// Returns the pairs of a region that are appended in files at or below the gate, without one those
-/// that are rewritten.
+/// Returns copies of the pairs of a region that a move takes: with a gate those in append files numbered at or below it,
+/// without one those that are rewritten already. A region without a table has none.
 ///
 /// # Errors
 ///
-/// `Memory`.
+/// `Memory` alone.
 fn pairs_in(
     alloc: Global,
     accessor: &MemTableAccessor,
@@ -191,7 +195,7 @@ fn pairs_in(
     }
 }
 
-/// Drops all pairs but those whose key is at or above `start` and, with an `end`, below it.
+/// Drops the pairs whose key is below `start` or, with an `end`, not below it.
 fn keep_between(pairs: &mut Pairs, start: &[u8], end: Option<&[u8]>)
     ensures { pairs_shown pairs.new.items ≡ filter (λ (p : List ℕ × List ℕ). is_between (Some start.now) (option_copied
         end.entry) p.0) (pairs_shown pairs.old.items) }
@@ -199,14 +203,14 @@ fn keep_between(pairs: &mut Pairs, start: &[u8], end: Option<&[u8]>)
     pairs.retain(|pair| is_between(pair.0.as_slice(), start, end));
 }
 
-/// Tests whether a key is at or above `start` and, with an `end`, below it.
+/// Tests whether a key is at or above `start` and, with an `end`, below it. Keys are compared byte by byte.
 fn is_between(key: &[u8], start: &[u8], end: Option<&[u8]>) -> bool
     ensures { result ≡ is_between (Some start.now) (option_copied end.entry) key.now }
 {
     start.cmp(key).is_le() && is_below(key, end)
 }
 
-/// Tests whether a key is below a bound; without one each is.
+/// Tests whether a key is below `end`; each key is, if there is none.
 fn is_below(key: &[u8], end: Option<&[u8]>) -> bool
     ensures { result ≡ is_below (option_copied end.entry) key.now }
 {
@@ -224,12 +228,12 @@ fn sort_by_key(pairs: &mut Pairs)
     pairs.sort_unstable_by(|a, b| a.0.cmp(&b.0));
 }
 
-/// Copies the lengths of keys and values in turn, and their bytes, each as far as there is room,
-/// and says how many there are of each.
+/// Copies the lengths of keys and values in turn into `lens`, and their bytes, one after another, into `bytes`, each as far as
+/// there is room. Sets `count` and `len` to how many lengths and bytes there are.
 ///
 /// # Errors
 ///
-/// `Memory`. Nothing is then copied.
+/// `Memory` alone. Nothing is copied then.
 fn copy_pairs(
     alloc: Global,
     pairs: &[(Vec<u8>, Vec<u8>)],

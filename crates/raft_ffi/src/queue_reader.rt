@@ -1,4 +1,4 @@
-//! What is read of the files of a queue, in pieces.
+//! The value behind a handle of a reader, which reads the files of a queue in pieces.
 
 ghost use Rattle.std.specs.Prelude.{◌≡◌, ◌≢◌, ◌⊎◌, ◌+◌, ◌^◌, ◌<◌, length, take, drop, IfErr, IfOk, OnOk};
 ghost use Rattle.raft_ffi.specs.Words.{ArePassedBy, CannotFollow, HasNoFront, HasReadNothing, HaveBothRead, HoldsFrom, IsNoneFound, IsReadable, IsReplayedBy, part_of, signature_of};
@@ -14,11 +14,13 @@ use raft_replay::replay_bytes;
 use std::alloc::Global;
 use std::marker::Model;
 
-/// What was read of a stretch of a queue's batches: their tables, whether their atomic groups stand in rows, and where in the queue's
-/// last file those begin whose entries are damaged, if it is an append file.
+/// What was read of neighboring batches of a queue: their tables, whether their atomic groups stand in rows, and where in the
+/// queue's last file those batches begin whose entries are damaged, if it is an append file.
 #[derive(Drop)]
 pub struct QueueReader {
+    /// The context of the batches, and whether their atomic groups stand in rows.
     both: Both<MemTableRecoverContext, GroupRows>,
+    /// The offsets in the queue's last file of the batches with damaged entries, in order.
     damaged: Vec<u64>,
 }
 
@@ -35,11 +37,11 @@ impl Model for QueueReader {
 }
 
 impl QueueReader {
-    /// Makes one that has read nothing.
+    /// Makes a reader that has read nothing.
     ///
     /// # Errors
     ///
-    /// `Memory`.
+    /// `Memory` alone.
     pub(crate) fn new(alloc: Global) -> Result<QueueReader>
         ensures ok { IfOk result HasReadNothing }
         ensures memory { IfErr result (λ e. e ≡ Error.Memory) }
@@ -52,7 +54,7 @@ impl QueueReader {
         Ok(QueueReader { both, damaged })
     }
 
-    /// Returns what was read.
+    /// Returns what was read: the context, and whether the atomic groups stand in rows.
     pub(crate) fn into_both(self) -> Both<MemTableRecoverContext, GroupRows>
         ensures { result ≡ self.read }
     {
@@ -66,11 +68,11 @@ impl QueueReader {
         self.damaged.as_slice()
     }
 
-    /// Replays the batches of bytes that stand in the file from `offset` on.
+    /// Replays `bytes`, batches that stand in `file` from `offset` on. Their entries aren't checked.
     ///
     /// # Errors
     ///
-    /// Those of [`replay_bytes`]. Some of the batches may then be taken in.
+    /// Those of [`replay_bytes`]. Some of the batches may have been taken in then.
     pub(crate) fn replay(
         &mut self,
         alloc: Global,
@@ -87,14 +89,14 @@ impl QueueReader {
         replay_bytes(&mut self.both, alloc, file, offset, bytes)
     }
 
-    /// Replays the batches of bytes that stand in the last file of a queue from `offset` on, up to the first one that can't be read,
-    /// and returns how many bytes they have. The entries of each batch are checked: where those of a batch of an append file are damaged
-    /// it is noted where that begins.
+    /// Replays the batches at the start of `bytes`, up to the first one that can't be read, and returns how many bytes they
+    /// have. `bytes` stand in `file`, the last one of a queue, from `offset` on. The entries of each batch are checked: if
+    /// those of a batch of an append file are damaged, its offset is noted.
     ///
     /// # Errors
     ///
-    /// `Corruption`, which names the file and the offset, where the entries of a batch of a rewrite file are damaged; those of the
-    /// machine; `Memory`. Some of the batches may then be taken in.
+    /// `Corruption`, which names the file and the offset, if the entries of a batch of a rewrite file are damaged; those of a
+    /// batch that can't follow those before it; `Memory`. Some of the batches may have been taken in then.
     pub(crate) fn replay_last(
         &mut self,
         alloc: Global,
@@ -121,11 +123,11 @@ impl QueueReader {
         }
     }
 
-    /// Takes in what was read of the batches that follow, and what was found damaged of them.
+    /// Takes in what `newer` has read, the batches that follow in `queue`, with what was found damaged of them.
     ///
     /// # Errors
     ///
-    /// Those of `MemTableRecoverContext::merge`. What was read is then lost.
+    /// Those of `MemTableRecoverContext::merge`. What both have read is lost then.
     pub(crate) fn merge(&mut self, newer: QueueReader, queue: LogQueue) -> Result<()>
         ensures stands { OnOk result (ReadersStand newer self.old self.new) }
         ensures exact { OnOk result (ReadersStandExactly newer self.old self.new) }

@@ -17,23 +17,26 @@ use raft_reading::FileSize;
 use raft_records::{FilePart, next_in};
 use std::alloc::Global;
 
-/// Why files are refused of which the last one can be read on.
+/// The text of the error for files of which the last one can be read on where the reading ended.
 const READ_ON: &str = "a batch can be read where the reading of the last file ended";
 
-/// A file of a queue by its number, and how many bytes it has.
+/// A file of a queue by its number, with its length.
 #[repr(C)]
 #[derive(Clone, Copy)]
 pub struct Size {
+    /// The number of the file.
     pub seq: u64,
+    /// Its length in bytes.
     pub len: u64,
 }
 
-/// Makes the files of a queue ready in a mode, by their sizes, oldest first, and by what stands in the last one behind the batches
-/// that were read.
+/// Checks that the files of a queue may be opened in `mode`, and returns what is missing in them, what is known of them once
+/// that is done, and their lengths then. `sizes` are their numbers and lengths, oldest first, and `rest` the bytes of the last
+/// one after the batches that were read.
 ///
 /// # Errors
 ///
-/// `Corruption` where the number of a file isn't one above that of the file before it; those of [`tail_of`]; `Memory`.
+/// `Corruption` if the number of a file isn't one above that of the file before it; those of [`tail_of`]; `Memory`.
 pub(crate) fn sized_queue(
     alloc: Global,
     mode: RecoveryMode,
@@ -61,7 +64,7 @@ pub(crate) fn sized_queue(
 ///
 /// # Errors
 ///
-/// `Memory`.
+/// `Memory` alone.
 fn file_sizes(alloc: Global, sizes: &[Size]) -> Result<Vec<FileSize>>
     ensures ok { IfOk result (λ found. found.items ≡ map size_in sizes.now) }
     ensures memory { IfErr result (λ e. e ≡ Error.Memory) }
@@ -76,8 +79,8 @@ fn file_sizes(alloc: Global, sizes: &[Size]) -> Result<Vec<FileSize>>
     Ok(found)
 }
 
-/// Returns what is missing of a queue's files, once a mode has accepted what stands in the last one behind the batches that were
-/// read.
+/// Returns what is missing in the files of a queue: a first file, or the cut of the tail of the last one. `rest` are the bytes
+/// of the last one after the batches that were read.
 ///
 /// # Errors
 ///
@@ -105,13 +108,13 @@ fn missing_of(
     }
 }
 
-/// Returns the tail of a file of `len` bytes, if it has one, by what stands in it behind the batches that were read, and a mode
-/// doesn't refuse it.
+/// Returns the tail of a file of `len` bytes that is to be cut off: `rest`, its bytes after the batches that were read. `None`
+/// if there are none.
 ///
 /// # Errors
 ///
-/// `Corruption` where the mode refuses the tail, the file is of the other version, or a batch can be read there; `InvalidArgument`
-/// where the file is of raft-engine; `Memory`.
+/// `Corruption` if `mode` refuses the tail, the file is of the other version, or a batch can be read at its start;
+/// `InvalidArgument` if the file is one of raft-engine; `Memory`.
 fn tail_of(
     alloc: Global,
     mode: RecoveryMode,
@@ -141,11 +144,11 @@ fn tail_of(
     }))
 }
 
-/// Returns why no batch can be read at the start of `rest`, which stands in `file` from `offset` on.
+/// Returns the error for which no batch can be read at the start of `rest`, which stands in `file` from `offset` on.
 ///
 /// # Errors
 ///
-/// `Corruption` where one can be read; `Memory`.
+/// `Corruption` if a batch can be read there; `Memory`.
 fn stop_of(alloc: Global, file: &LogFileContext, offset: u64, rest: &[u8]) -> Result<Error>
     requires ends { offset + length rest.now < 2 ^ 64 }
     ensures unreadable { IfOk result (λ e. HasNoFront (λ xs. IsReadable xs (signature_of file.now)) rest.now) }

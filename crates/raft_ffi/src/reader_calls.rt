@@ -1,4 +1,4 @@
-//! Calls of readers, which read the files of a queue in pieces.
+//! Exported calls of readers, which read the files of a queue in pieces before an opening.
 
 ghost use Rattle.std.specs.Prelude.{◌≡◌, ◌≢◌, ◌⊎◌, ◌+◌, ◌^◌, ◌<◌, length, take, drop, None, IsTrue, is_some};
 ghost use Rattle.raft_ffi.specs.Words.{AllHold, ArePassedBy, AreReadersUnsound, BothHold, CannotFollow, HasBothFound, HasNoFront, HasReadNothing, HasText, HaveBothRead, Holds, HoldsFrom, IsCopied, IsCorruption, IsNoneFound, IsRead};
@@ -23,9 +23,9 @@ pub extern "C" fn raft_ffi_reader_new(alloc: Global, reader: &mut Reader) -> u32
     memory_code(&reader.put_new(alloc, held))
 }
 
-/// Replays `bytes`, batches that stand in `file` from `offset` on. The code is 0, or that of the error if a batch can't be read
-/// or can't follow those before it, or 11 (`Memory`). After an error the reader is gone: it may have taken in some of the
-/// batches.
+/// Replays `bytes`, batches that stand in `file` from `offset` on. The code is 0, or that of the error if a batch can't be
+/// read or can't follow those before it, or 11 (`Memory`). After an error `reader` is empty: what it held may have taken in
+/// some of the batches, and is dropped.
 #[unsafe(no_mangle)]
 pub extern "C" fn raft_ffi_reader_replay(
     alloc: Global,
@@ -47,11 +47,11 @@ pub extern "C" fn raft_ffi_reader_replay(
     told_or_gone!(held in reader, alloc, text; held.replay(alloc, &file.context(), offset, bytes))
 }
 
-/// Replays the batches at the start of `bytes`, which stand in the last file of a queue from `offset` on, up to the first one
-/// that can't be read, and sets `len` to how many bytes they have. The entries of each batch are checked: the reader notes which
-/// batches of an append file have damaged ones; in a rewrite file the first such batch is an error.
+/// Replays the batches at the start of `bytes`, up to the first one that can't be read, and sets `len` to how many bytes they
+/// have. `bytes` stand in the last file of a queue from `offset` on. The entries of each batch are checked: the reader notes
+/// which batches of an append file have damaged ones; in a rewrite file the first such batch is an error.
 ///
-/// The code is 0, or that of the error. After an error the reader is gone.
+/// The code is 0, or that of the error. After an error `reader` is empty, and `len` isn't set.
 #[unsafe(no_mangle)]
 pub extern "C" fn raft_ffi_reader_replay_last(
     alloc: Global,
@@ -81,8 +81,8 @@ pub extern "C" fn raft_ffi_reader_replay_last(
     answered_with(alloc, answer, len, text)
 }
 
-/// Takes in what `newer` has read, the batches that follow in the same queue. `newer` is gone then. The code is 0, or that of the
-/// error. After an error the reader is gone too.
+/// Takes in what `newer` has read, the batches that follow in the same queue. `newer` is gone then. The code is 0, or that of
+/// the error. After an error `reader` is empty too.
 #[unsafe(no_mangle)]
 pub extern "C" fn raft_ffi_reader_merge(
     alloc: Global,
@@ -104,8 +104,8 @@ pub extern "C" fn raft_ffi_reader_merge(
     told_or_gone!(held in reader, alloc, text; held.merge(newer.into_held(), queue(is_rewrite)))
 }
 
-/// Lists in `offsets` where in the last append file the batches with damaged entries begin that a reader has found, in order, as
-/// many as there is room for, and returns how many there are.
+/// Lists in `offsets` where in the last append file the batches with damaged entries begin that a reader has found, in order,
+/// as many as there is room for. Returns how many there are, which may be more.
 #[unsafe(no_mangle)]
 pub extern "C" fn raft_ffi_reader_damaged(
     alloc: Global,
@@ -118,8 +118,8 @@ pub extern "C" fn raft_ffi_reader_damaged(
     with!(held in reader, alloc; copy_front(held.damaged(), offsets))
 }
 
-/// Says why the entries of the batch that begins at `offset` of `file` are refused, if they are damaged: the code of that error,
-/// with its text in `text`.
+/// Returns the error with which damaged entries of the batch that begins at `offset` of `file` are refused: its code, and its
+/// text in `text`. Whether they are damaged isn't tested.
 #[unsafe(no_mangle)]
 pub extern "C" fn raft_ffi_damaged_entries(
     alloc: Global,

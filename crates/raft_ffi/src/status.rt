@@ -1,4 +1,5 @@
-//! What calls take and return, in numbers.
+//! The plain data that calls take and return: files, numbers that may be missing, how a call ended, and tails that were cut
+//! off.
 
 ghost use Rattle.std.specs.Prelude.{◌≡◌, OnOk, OnErr, IfOk, IfErr, option_map};
 ghost use Rattle.raft_ffi.specs.Words.{HasText, IsCopied, IsFound, IsTailIn, IsTextIn, IsTextOf, code_of, file_of, mode_of, number_in, queue_of, version_of};
@@ -7,10 +8,11 @@ use raft_base::{Error, FileId, LogFileContext, LogQueue, Result, Version};
 use raft_engine::{CutTail, RecoveryMode};
 use std::alloc::Global;
 
-/// A log file.
+/// A log file, with its version.
 #[repr(C)]
 #[derive(Clone, Copy)]
 pub struct File {
+    /// The number of the file in its queue.
     pub seq: u64,
     /// Whether it is of the rewrite queue.
     pub is_rewrite: bool,
@@ -18,36 +20,46 @@ pub struct File {
     pub is_signed: bool,
 }
 
-/// A number that may be there.
+/// A number that may be missing.
 #[repr(C)]
 #[derive(Clone, Copy)]
 pub struct Maybe {
+    /// Whether there is a number.
     pub is_some: bool,
+    /// The number; it says nothing if there is none.
     pub number: u64,
 }
 
-/// How a call ended: 0, or the number of its error, and how many bytes the error's text has.
+/// How a call ended.
 #[repr(C)]
 #[derive(Clone, Copy)]
 pub struct Status {
+    /// 0, or the number of the error (see `code`): 1 (`InvalidArgument`) to 12 (`Failed`).
     pub code: u32,
+    /// The length of the error's text in bytes, which may be more than were written; 0 without an error, or if there is no
+    /// memory for the text.
     pub text_len: usize,
 }
 
-/// A tail that was cut off from a queue's last file, if one was: the file, where the tail began, and how many bytes it had; and the
-/// number of the error why no batch can be read there, with how many bytes the error's text has.
+/// The tail that was cut off a queue's last file, if one was, and why no batch can be read where it began.
 #[repr(C)]
 #[derive(Clone, Copy)]
 pub struct Tail {
+    /// The number of the file.
     pub seq: u64,
+    /// The offset in the file at which the tail began.
     pub offset: u64,
+    /// How many bytes were cut off.
     pub len: u64,
+    /// The length of the reason's text in bytes, which may be more than were written.
     pub text_len: usize,
+    /// The number of the error that is the reason.
     pub code: u32,
+    /// Whether a tail was cut off. Without one all numbers are 0.
     pub is_some: bool,
 }
 
-/// Returns the queue that a flag stands for.
+/// Returns the rewrite queue if `is_rewrite` is set, else the append queue.
 pub(crate) fn queue(is_rewrite: bool) -> LogQueue
     ensures { result ≡ queue_of is_rewrite }
 {
@@ -58,15 +70,15 @@ pub(crate) fn queue(is_rewrite: bool) -> LogQueue
     }
 }
 
-/// Returns the version that a flag stands for.
+/// Returns version 2 if `is_signed` is set, else version 1.
 pub(crate) fn version(is_signed: bool) -> Version
     ensures { result ≡ version_of is_signed }
 {
     if is_signed { Version::V2 } else { Version::V1 }
 }
 
-/// Returns the mode that a number stands for: any but 0 and 2 for that in which a torn tail is cut
-/// off.
+/// Returns the recovery mode with the number `mode`: 0 allows no cut, 2 allows the cut of damage too. Any other number stands
+/// for the mode in which torn tails alone are cut off.
 pub(crate) fn recovery_mode(mode: u32) -> RecoveryMode
     ensures { result ≡ mode_of mode }
 {
@@ -77,7 +89,7 @@ pub(crate) fn recovery_mode(mode: u32) -> RecoveryMode
     }
 }
 
-/// Tests whether a queue is the rewrite queue.
+/// Tests whether `queue` is the rewrite queue.
 pub(crate) fn is_rewrite(queue: LogQueue) -> bool
     ensures { queue_of result ≡ queue }
 {
@@ -88,21 +100,21 @@ pub(crate) fn is_rewrite(queue: LogQueue) -> bool
 }
 
 impl Maybe {
-    /// Returns the number, if it is there.
+    /// Returns the number, or `None` if it is missing.
     pub(crate) fn number(self) -> Option<u64>
         ensures { result ≡ number_in self }
     {
         self.is_some.then_some(self.number)
     }
 
-    /// Returns the number as a size, if it is there.
+    /// Returns the number as a size, or `None` if it is missing.
     pub(crate) fn size(self) -> Option<usize>
         ensures { result ≡ number_in self }
     {
         self.is_some.then_some(self.number as usize)
     }
 
-    /// Returns a number that may be there as plain data.
+    /// Returns a number that may be missing as plain data, with 0 in place of a missing one.
     pub(crate) fn of(number: Option<u64>) -> Maybe
         ensures { number_in result ≡ number }
     {
@@ -114,7 +126,7 @@ impl Maybe {
 }
 
 impl Tail {
-    /// Says which tail was cut off, if one was, and writes the text of the reason as far as there
+    /// Returns as plain data which tail was cut off, if one was, and writes the text of the reason into `text` as far as there
     /// is room.
     pub(crate) fn of(alloc: Global, cut: &Option<CutTail>, text: &mut [u8]) -> Tail
         ensures { IsTailIn cut.now result text.old text.new }
@@ -141,7 +153,7 @@ impl Tail {
 }
 
 impl File {
-    /// Returns the file as batches take it.
+    /// Returns the file and its version as batches take them.
     pub(crate) fn context(&self) -> LogFileContext
         ensures { result ≡ file_of self.now }
     {
@@ -150,7 +162,7 @@ impl File {
     }
 }
 
-/// Returns the number of an error.
+/// Returns the number of an error, from 1 to 12, as [`Status`] has it.
 pub(crate) fn code(e: &Error) -> u32
     ensures { result ≡ code_of e.now }
 {
@@ -170,7 +182,7 @@ pub(crate) fn code(e: &Error) -> u32
     }
 }
 
-/// Returns how a call ended that may lack memory alone: 0, or the number of `Memory`.
+/// Returns 0 for `Ok`, and 11, the number of `Memory`, for any error: for calls that can fail for want of memory alone.
 pub(crate) fn memory_code(answer: &Result<()>) -> u32
     ensures ok { OnOk answer.now (result ≡ 0) }
     ensures err { OnErr answer.now (result ≡ 11) }
@@ -181,7 +193,7 @@ pub(crate) fn memory_code(answer: &Result<()>) -> u32
     }
 }
 
-/// Returns how a call ended, and writes the text of its error as far as there is room.
+/// Returns how a call ended, and writes the text of its error into `text` as far as there is room.
 pub(crate) fn answered<T>(alloc: Global, answer: &Result<T>, text: &mut [u8]) -> Status
     ensures ok { OnOk answer.now (result.code ≡ 0) }
     ensures err { IfErr answer.now (λ e. result.code ≡ code_of e) }
@@ -200,8 +212,8 @@ pub(crate) fn answered<T>(alloc: Global, answer: &Result<T>, text: &mut [u8]) ->
     }
 }
 
-/// Returns how a call ended, and writes what it found, or the text of its error as far as there is
-/// room.
+/// Returns how a call ended. After an `Ok`, `found` is set to its value; after an `Err`, the text of the error is written into
+/// `text` as far as there is room, and `found` is unchanged.
 pub(crate) fn answered_with<T: Copy>(
     alloc: Global,
     answer: Result<T>,
@@ -219,8 +231,8 @@ pub(crate) fn answered_with<T: Copy>(
     answered(alloc, &answer, text)
 }
 
-/// Writes the text of an error as far as there is room, and returns its length; 0 where there is no
-/// memory for it.
+/// Writes the text of an error into `text` as far as there is room. Returns the length of the text in bytes, or 0 if there is
+/// no memory for it; nothing is written then.
 fn write_text(alloc: Global, e: &Error, text: &mut [u8]) -> usize
     ensures some { IsTextIn text.old text.new result }
     ensures told { IsTextOf e.now text.old text.new result }
@@ -235,7 +247,8 @@ fn write_text(alloc: Global, e: &Error, text: &mut [u8]) -> usize
     }
 }
 
-/// Copies items as far as there is room, and returns how many there are.
+/// Copies the first elements of `found` into `room`, as many as there is room for. Returns how many elements `found` has,
+/// which may be more than were copied.
 pub(crate) fn copy_front<T: Copy>(found: &[T], room: &mut [T]) -> usize
     ensures { IsCopied found.now room.old room.new result }
 {
@@ -246,8 +259,8 @@ pub(crate) fn copy_front<T: Copy>(found: &[T], room: &mut [T]) -> usize
     found.len()
 }
 
-/// Copies bytes that were found as far as there is room, and says how many they are. Returns
-/// whether there are some.
+/// Copies bytes into `room`, as many as there is room for, and sets `len` to how many bytes there are, which may be more.
+/// Returns whether `found` has bytes; for `None` nothing is changed.
 pub(crate) fn copy_found(found: Option<&[u8]>, room: &mut [u8], len: &mut usize) -> bool
     ensures { IsFound (λ bytes. IsCopied bytes room.old room.new len.new) (option_map (λ v. v.now) found.entry) result }
 {

@@ -1,4 +1,4 @@
-//! Calls that read tables: those of all regions, and those of an engine.
+//! Exported calls that read tables: those behind a handle of tables, and those of an engine.
 
 ghost use Rattle.std.specs.Prelude.{◌≡◌, ◌≢◌, IsTrue, is_some, ◌+◌, [], true, false, OnOk, IfOk, IfErr, option_map};
 ghost use Rattle.raft_ffi.specs.Words.{Rewrite, AreEntriesIn, AreRegionsIn, HasText, Holds, IsCopied, IsEntryIn, IsFetchFault, IsFetched, IsFound, IsRead, IsReadIfMemory, IsReadOrRefused, IsSummaryIn, IsValueIn, appended_before, end_of};
@@ -13,17 +13,19 @@ use raft_engine::rewriting::{entries_to_move, regions_of};
 use raft_table::MemTable;
 use std::alloc::Global;
 
-/// What a table has.
+/// What the table of a region has.
 #[repr(C)]
 #[derive(Clone, Copy)]
 pub struct Summary {
+    /// The number of entries.
     pub entries: usize,
+    /// The number of keys.
     pub keys: usize,
-    /// The least index.
+    /// The index of the first entry.
     pub first: Maybe,
-    /// The least file in the append queue.
+    /// The least file of the table in the append queue (`MemTable::min_file_seq`).
     pub append_seq: Maybe,
-    /// The least file in the rewrite queue.
+    /// The least file of the table in the rewrite queue.
     pub rewrite_seq: Maybe,
 }
 
@@ -40,7 +42,7 @@ pub extern "C" fn raft_ffi_tables_live(
     with!(held in tables, alloc; held.stats().live_entries(queue(is_rewrite)))
 }
 
-/// Returns whether a region has a table, and sets `summary` to what it has.
+/// Returns whether a region has a table. If it has one, `summary` is set to what that has.
 #[unsafe(no_mangle)]
 pub extern "C" fn raft_ffi_tables_summary(
     alloc: Global,
@@ -54,8 +56,8 @@ pub extern "C" fn raft_ffi_tables_summary(
     with!(held in tables, alloc; summary_in(&*held, region, summary))
 }
 
-/// Lists in `regions` the regions that have a table, in rising order, as many as there is room for, and sets `count` to how many
-/// there are. Returns 0, or 11 (`Memory`).
+/// Lists in `regions` the regions that have a table, in rising order, as many as there is room for. Sets `count` to how many
+/// there are, which may be more. Returns 0, or 11 (`Memory`): nothing is set then.
 #[unsafe(no_mangle)]
 pub extern "C" fn raft_ffi_tables_regions(
     alloc: Global,
@@ -70,7 +72,8 @@ pub extern "C" fn raft_ffi_tables_regions(
     told!(held in tables, alloc; find_regions(&*held, regions, count))
 }
 
-/// Lists in `regions` the regions that were cleaned, in order, as many as there is room for, and returns how many there are.
+/// Lists in `regions` the regions that were cleaned, in order, as many as there is room for. Returns how many there are, which
+/// may be more.
 #[unsafe(no_mangle)]
 pub extern "C" fn raft_ffi_tables_cleaned(
     alloc: Global,
@@ -83,7 +86,7 @@ pub extern "C" fn raft_ffi_tables_cleaned(
     with!(held in tables, alloc; copy_front(held.cleaned_regions(), regions))
 }
 
-/// Returns whether a region has an entry of that index, and sets `entry` to it.
+/// Returns whether a region has an entry with the index `index`. If it has one, `entry` is set to it.
 #[unsafe(no_mangle)]
 pub extern "C" fn raft_ffi_tables_entry(
     alloc: Global,
@@ -98,12 +101,12 @@ pub extern "C" fn raft_ffi_tables_entry(
     with!(held in tables, alloc; entry_in(&*held, region, index, entry))
 }
 
-/// Lists in `entries` the entries of a region from `begin` on and below `end`, as many as there is room for, and sets `count` to
-/// how many there are. With a maximal size it stops before the first one with which the total of lengths passes that size and
-/// exceeds the entry's own length. A region without a table has no entries.
+/// Lists in `entries` the entries of a region from `begin` on and below `end`, as many as there is room for. Sets `count` to
+/// how many there are, which may be more. With a maximal size it stops before the first entry with which the total of lengths
+/// passes that size and exceeds the entry's own length. A region without a table has no entries.
 ///
-/// The code is 0, or 11 (`Memory`), or, where the range isn't empty, 7 (`EntryCompacted`), if it begins below the first entry, or
-/// 8 (`EntryNotFound`), if there are no entries or it ends above their end.
+/// The code is 0, or 11 (`Memory`), or, where the range isn't empty, 7 (`EntryCompacted`), if it begins below the first entry,
+/// or 8 (`EntryNotFound`), if there are no entries or it ends above their end. Nothing is listed after an error.
 #[unsafe(no_mangle)]
 pub extern "C" fn raft_ffi_tables_entries(
     alloc: Global,
@@ -126,8 +129,9 @@ pub extern "C" fn raft_ffi_tables_entries(
     told!(held in tables, alloc, text; entries_in(alloc, &*held, region, range, max_size.size(), entries, count))
 }
 
-/// Lists in `entries` the appended entries of a region, from the first one on while their file is numbered at or below `gate`, as
-/// many as there is room for, and sets `count` to how many there are. Returns 0, or 11 (`Memory`).
+/// Lists in `entries` the appended entries of a region, from the first one on while their file is numbered at or below `gate`,
+/// as many as there is room for. Sets `count` to how many there are, which may be more. Returns 0, or 11 (`Memory`): nothing
+/// is set then.
 #[unsafe(no_mangle)]
 pub extern "C" fn raft_ffi_tables_entries_before(
     alloc: Global,
@@ -148,8 +152,8 @@ pub extern "C" fn raft_ffi_tables_entries_before(
     0
 }
 
-/// Lists in `entries` the rewritten entries of a region, as many as there is room for, and sets `count` to how many there are.
-/// Returns 0, or 11 (`Memory`).
+/// Lists in `entries` the rewritten entries of a region, as many as there is room for. Sets `count` to how many there are,
+/// which may be more. Returns 0, or 11 (`Memory`): nothing is set then.
 #[unsafe(no_mangle)]
 pub extern "C" fn raft_ffi_tables_rewritten_entries(
     alloc: Global,
@@ -167,8 +171,8 @@ pub extern "C" fn raft_ffi_tables_rewritten_entries(
     0
 }
 
-/// Returns whether `key` of a region has a value, copies as many of its bytes into `value` as there is room for, and sets `len`
-/// to how many it has.
+/// Returns whether `key` of a region has a value. If it has one, as many of its bytes are copied into `value` as there is room
+/// for, and `len` is set to how many it has, which may be more.
 #[unsafe(no_mangle)]
 pub extern "C" fn raft_ffi_tables_value(
     alloc: Global,
@@ -192,7 +196,7 @@ pub extern "C" fn raft_ffi_tables_drop(tables: Tables)
     drop(tables.into_box());
 }
 
-/// Returns how many records are live in a queue.
+/// Returns how many records of the engine's tables are live in a queue.
 #[unsafe(no_mangle)]
 pub extern "C" fn raft_ffi_engine_live(
     alloc: Global,
@@ -205,7 +209,7 @@ pub extern "C" fn raft_ffi_engine_live(
     with!(held in engine, alloc; held.engine.accessor().stats().live_entries(queue(is_rewrite)))
 }
 
-/// Returns whether a region has a table, and sets `summary` to what it has.
+/// Returns whether a region has a table. If it has one, `summary` is set to what that has.
 #[unsafe(no_mangle)]
 pub extern "C" fn raft_ffi_engine_summary(
     alloc: Global,
@@ -219,8 +223,8 @@ pub extern "C" fn raft_ffi_engine_summary(
     with!(held in engine, alloc; summary_in(held.engine.accessor(), region, summary))
 }
 
-/// Lists in `regions` the regions that have a table, in rising order, as many as there is room for, and sets `count` to how many
-/// there are. Returns 0, or 11 (`Memory`).
+/// Lists in `regions` the regions that have a table, in rising order, as many as there is room for. Sets `count` to how many
+/// there are, which may be more. Returns 0, or 11 (`Memory`): nothing is set then.
 #[unsafe(no_mangle)]
 pub extern "C" fn raft_ffi_engine_regions(
     alloc: Global,
@@ -235,7 +239,7 @@ pub extern "C" fn raft_ffi_engine_regions(
     told!(held in engine, alloc; find_regions(held.engine.accessor(), regions, count))
 }
 
-/// Returns whether a region has an entry of that index, and sets `entry` to it.
+/// Returns whether a region has an entry with the index `index`. If it has one, `entry` is set to it.
 #[unsafe(no_mangle)]
 pub extern "C" fn raft_ffi_engine_entry(
     alloc: Global,
@@ -250,7 +254,8 @@ pub extern "C" fn raft_ffi_engine_entry(
     with!(held in engine, alloc; entry_in(held.engine.accessor(), region, index, entry))
 }
 
-/// Lists the entries of a region from `begin` on and below `end`, as [`raft_ffi_tables_entries`] does.
+/// Lists in `entries` the entries of a region from `begin` on and below `end`, and sets `count` to how many there are, as
+/// [`raft_ffi_tables_entries`] does. Its code is as there.
 #[unsafe(no_mangle)]
 pub extern "C" fn raft_ffi_engine_entries(
     alloc: Global,
@@ -273,8 +278,8 @@ pub extern "C" fn raft_ffi_engine_entries(
     told!(held in engine, alloc, text; entries_in(alloc, held.engine.accessor(), region, range, max_size.size(), entries, count))
 }
 
-/// Returns whether `key` of a region has a value, copies as many of its bytes into `value` as there is room for, and sets `len`
-/// to how many it has.
+/// Returns whether `key` of a region has a value. If it has one, as many of its bytes are copied into `value` as there is room
+/// for, and `len` is set to how many it has, which may be more.
 #[unsafe(no_mangle)]
 pub extern "C" fn raft_ffi_engine_value(
     alloc: Global,
@@ -291,7 +296,7 @@ pub extern "C" fn raft_ffi_engine_value(
     with!(held in engine, alloc; copy_found(value_of(held.engine.accessor(), region, key), value, len))
 }
 
-/// Returns whether a region has entries, and sets `index` to their least index.
+/// Returns whether a region has entries. If it has, `index` is set to their least index.
 #[unsafe(no_mangle)]
 pub extern "C" fn raft_ffi_engine_first_index(
     alloc: Global,
@@ -309,7 +314,7 @@ pub extern "C" fn raft_ffi_engine_first_index(
     found_number(found, index)
 }
 
-/// Returns whether a region has entries, and sets `index` to their greatest index.
+/// Returns whether a region has entries. If it has, `index` is set to their greatest index.
 #[unsafe(no_mangle)]
 pub extern "C" fn raft_ffi_engine_last_index(
     alloc: Global,
@@ -326,7 +331,7 @@ pub extern "C" fn raft_ffi_engine_last_index(
     found_number(found, index)
 }
 
-/// Writes a number that was found, and returns whether one was.
+/// Sets `number` to a number that was found. Returns whether one was; for `None` nothing is changed.
 fn found_number(found: Option<u64>, number: &mut u64) -> bool
     ensures { IsFound (λ n. number.new ≡ n) found result }
 {
@@ -337,7 +342,7 @@ fn found_number(found: Option<u64>, number: &mut u64) -> bool
     true
 }
 
-/// Says what a region's table has, and returns whether there is one.
+/// Sets `summary` to what the table of a region has. Returns whether there is one; without it nothing is changed.
 fn summary_in(accessor: &MemTableAccessor, region: u64, summary: &mut Summary) -> bool
     ensures { IsSummaryIn region result summary.new accessor.now }
 {
@@ -354,7 +359,7 @@ fn summary_in(accessor: &MemTableAccessor, region: u64, summary: &mut Summary) -
     true
 }
 
-/// Says where an entry of a region is, and returns whether there is one at this index.
+/// Sets `entry` to the entry of a region with the index `index`. Returns whether there is one; without it nothing is changed.
 fn entry_in(accessor: &MemTableAccessor, region: u64, index: u64, entry: &mut Entry) -> bool
     ensures { IsEntryIn region index result entry.new accessor.now }
 {
@@ -365,26 +370,26 @@ fn entry_in(accessor: &MemTableAccessor, region: u64, index: u64, entry: &mut En
     true
 }
 
-/// Returns the entry of a region at an index, if there is one.
+/// Returns the entry of a region with the index `index`; `None` if there is none.
 fn entry_at(accessor: &MemTableAccessor, region: u64, index: u64) -> Option<EntryIndex>
     ensures { result ≡ entry_at index (table_in accessor.now.tables region).entries }
 {
     accessor.get(region)?.get_entry(index)
 }
 
-/// Returns the value of a region's key, if there is one.
+/// Returns the value of a region's key; `None` if the key has none.
 fn value_of<'a>(accessor: &'a MemTableAccessor, region: u64, key: &[u8]) -> Option<&'a [u8]>
     ensures { option_map (λ v. v.now) result ≡ value_in accessor.now.tables region key.now }
 {
     accessor.get(region)?.get(key)
 }
 
-/// Copies the regions that have a table, in rising order, as far as there is room, and says how
-/// many they are.
+/// Copies the regions that have a table into `room`, in rising order, as many as there is room for. Sets `count` to how many
+/// there are.
 ///
 /// # Errors
 ///
-/// `Memory`. Nothing is then copied.
+/// `Memory` alone. Nothing is copied then.
 fn find_regions(accessor: &MemTableAccessor, room: &mut [u64], count: &mut usize) -> Result<()>
     ensures ok { OnOk result (AreRegionsIn accessor.now.tables room.old room.new count.new) }
     ensures memory { IfErr result (λ e. e ≡ Error.Memory) }
@@ -395,12 +400,12 @@ fn find_regions(accessor: &MemTableAccessor, room: &mut [u64], count: &mut usize
     Ok(())
 }
 
-/// Copies the entries of a range of a region's indexes, up to the one that passes a maximal size,
-/// as far as there is room, and says how many they are. A region without a table has no entries.
+/// Copies the entries of a region whose indexes are in the half-open `range` into `entries`, as many as there is room for, up
+/// to the one with which they pass `max_size`. Sets `count` to how many there are. A region without a table has no entries.
 ///
 /// # Errors
 ///
-/// Those of [`MemTable::fetch_entries_to`]. Nothing is then copied.
+/// Those of [`MemTable::fetch_entries_to`]. Nothing is copied then.
 fn entries_in(
     alloc: Global,
     accessor: &MemTableAccessor,
@@ -426,12 +431,12 @@ fn entries_in(
     Ok(())
 }
 
-/// Returns the entries of a region that are appended in files at or below the gate, from the first
-/// on, or without a gate those that are rewritten.
+/// Returns the entries of a region that a move takes: with a gate the appended ones, from the first one on while their file is
+/// numbered at or below it; without one those that are rewritten already. A region without a table has none.
 ///
 /// # Errors
 ///
-/// `Memory`.
+/// `Memory` alone.
 fn moving_in(
     alloc: Global,
     accessor: &MemTableAccessor,

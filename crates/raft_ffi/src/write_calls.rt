@@ -1,5 +1,5 @@
-//! Calls that make tables, change those of several regions, and test and hand out batches for them; also of tables that are divided into
-//! slots, each of which has the tables of the regions whose slot has its number.
+//! Exported calls that make tables, change those of several regions, and test and hand out batches for them. Some are for
+//! tables that are divided into slots: each slot has the tables of the regions whose slot number is its own.
 
 ghost use Rattle.std.specs.Prelude.{◌≡◌, ◌≢◌, ◌≤◌, IsTrue, IfErr, OnOk, OnErr, Some, None, is_some, ◌<◌, false, map, IfOk};
 ghost use Rattle.raft_ffi.specs.Words.{AcceptsOncePlaced, AcceptsShareOncePlaced, AllHold, Appending, AreAllOrSomeWritten, AreMergedOrLeft, AreRefusedOncePlaced, AreWritten, BothHold, HasText, Holds, IsAppendCheckFault, IsAppendTested};
@@ -15,7 +15,7 @@ use raft_base::{Error, Result};
 use raft_records::{LogBatch, LogItem};
 use std::alloc::Global;
 
-/// Changes tables, whose counts are exact then.
+/// Evaluates an expression that changes tables, and returns its result. Then it cites the law that their counts are exact.
 macro_rules! counted {
     ($tables:ident; $change:expr) => {{
         let answer = $change;
@@ -34,8 +34,8 @@ pub extern "C" fn raft_ffi_tables_new(alloc: Global, tables: &mut Tables) -> u32
     memory_code(&tables.put_new(alloc, held))
 }
 
-/// Sets the first and the last file of a region's atomic group, once the group's End is written. `start` is at most `end`.
-/// Returns 0, or 11 (`Memory`): the tables are unchanged then.
+/// Sets the first and the last file of a region's atomic group, `start` and `end`, once the group's End is written. `start` is
+/// at most `end`. Returns 0, or 11 (`Memory`): the tables are unchanged then.
 #[unsafe(no_mangle)]
 pub extern "C" fn raft_ffi_tables_atomic_group(
     alloc: Global,
@@ -74,9 +74,9 @@ pub extern "C" fn raft_ffi_tables_remove(
     0
 }
 
-/// Merges `newer`, the tables of later batches, into `tables`, each into the table of its region. `newer` is gone then. The
-/// cleaned regions stay. The code is 0, or that of the error. After an error each region has its old table or the merged one;
-/// after 11 (`Memory`) that of one region may be lost.
+/// Merges `newer`, the tables of later batches, into `tables`, region by region. `newer` is gone then. The cleaned regions
+/// stay. The code is 0, or that of the error. After an error each region has its old table or the merged one; after 11
+/// (`Memory`) that of one region may be lost.
 #[unsafe(no_mangle)]
 pub extern "C" fn raft_ffi_tables_merge_newer(
     alloc: Global,
@@ -92,9 +92,9 @@ pub extern "C" fn raft_ffi_tables_merge_newer(
     told!(held in tables, alloc, text; counted!(held; held.merge_newer_neighbor(newer.into_held())))
 }
 
-/// Merges `append`, appended tables, into `tables`, rewritten ones, each into the table of its region. `append` is gone then. The
-/// cleaned regions stay. The code is 0, or that of the error. After an error each region has its old table or the merged one;
-/// after 11 (`Memory`) that of one region may be lost.
+/// Merges `append`, appended tables, into `tables`, rewritten ones, region by region. `append` is gone then. The cleaned
+/// regions stay. The code is 0, or that of the error. After an error each region has its old table or the merged one; after 11
+/// (`Memory`) that of one region may be lost.
 #[unsafe(no_mangle)]
 pub extern "C" fn raft_ffi_tables_merge_append(
     alloc: Global,
@@ -131,8 +131,7 @@ pub extern "C" fn raft_ffi_tables_apply_append(
 ///
 /// # Errors
 ///
-/// Those of [`MemTableAccessor::apply_append_writes`]. The items in front of the refused one are
-/// written.
+/// Those of [`MemTableAccessor::apply_append_writes`]. The items before the refused one are written then.
 pub(crate) fn apply_append(accessor: &mut MemTableAccessor, items: ItemList) -> Result<()>
     ensures ok { OnOk result (AreWritten Appending items accessor.old accessor.new) }
     ensures refused { IfErr result (IsStoppedAt Appending items accessor.old accessor.new) }
@@ -160,12 +159,12 @@ pub extern "C" fn raft_ffi_tables_apply_rewrite(
     told!(held in tables, alloc, text; apply_rewrite(&mut *held, items.into_held(), gate.number(), seq))
 }
 
-/// Writes items that were rewritten to the file of number `seq` to the tables, in order.
+/// Writes items that were rewritten to file `seq` of the rewrite queue to the tables, in order. `gate` limits which places
+/// move.
 ///
 /// # Errors
 ///
-/// Those of [`MemTableAccessor::apply_rewrite_writes`]. The items in front of the refused one are
-/// written.
+/// Those of [`MemTableAccessor::apply_rewrite_writes`]. The items before the refused one are written then.
 pub(crate) fn apply_rewrite(
     accessor: &mut MemTableAccessor,
     items: ItemList,
@@ -179,8 +178,8 @@ pub(crate) fn apply_rewrite(
 }
 
 /// Tests whether the tables would accept the items of `batch` once it is written to the append queue, at whatever place. It
-/// changes nothing. The code is 0 if they would; else that of the error with which the first item that they don't accept would be
-/// refused, or 11 (`Memory`).
+/// changes nothing. The code is 0 if they would. Else it is that of the error with which the first item that isn't accepted
+/// would be refused, or 11 (`Memory`).
 #[unsafe(no_mangle)]
 pub extern "C" fn raft_ffi_tables_check_append(
     alloc: Global,
@@ -210,8 +209,8 @@ fn check_append(accessor: &MemTableAccessor, batch: &LogBatch) -> Result<()>
     accessor.check_append_writes(batch.items())
 }
 
-/// Moves the cleaned regions into `batch`, which is empty before: an open batch with a `Clean` of each, in order. The list of the
-/// tables is empty then. Returns 0, or 11 (`Memory`): the list is as it was then, and `batch` stays empty.
+/// Moves the cleaned regions into `batch`, which is empty before: an open batch with a `Clean` for each, in order. The list of
+/// the tables is empty then. Returns 0, or 11 (`Memory`): the list is unchanged then, and `batch` stays empty.
 #[unsafe(no_mangle)]
 pub extern "C" fn raft_ffi_tables_cleaned_logs(
     alloc: Global,
@@ -227,12 +226,12 @@ pub extern "C" fn raft_ffi_tables_cleaned_logs(
     told!(held in tables, alloc; cleaned_logs(alloc, &mut *held, batch))
 }
 
-/// Hands out the cleaned regions as an open batch with a `Clean` for each, in order. There is
-/// memory for the handle before the list is emptied.
+/// Moves the cleaned regions into `batch`: an open batch with a `Clean` for each, in order. The box for it is allocated before
+/// the list is emptied.
 ///
 /// # Errors
 ///
-/// `Memory`. The list is then as it was.
+/// `Memory` alone. The list is unchanged then, and `batch` stays empty.
 fn cleaned_logs(alloc: Global, accessor: &mut MemTableAccessor, batch: &mut Batch) -> Result<()>
     requires empty { batch.old.value ≡ None }
     ensures ok { OnOk result (accessor.new ≡ without_cleaned accessor.old) }
@@ -256,9 +255,9 @@ pub extern "C" fn raft_ffi_slot_of(region: u64) -> usize
     slot_of(region)
 }
 
-/// Moves the table of a region, if there is one, from `tables` to `to`, in place of the one that the region has there. Both lists
-/// of cleaned regions stay. The code is 0; 9 (`Full`), if more than 2^64 - 1 records would be live in a queue of `to`; or 11
-/// (`Memory`). After an error the region's table is lost, and `to` is unchanged.
+/// Moves the table of a region, if there is one, from `tables` to `to`, in place of the one that the region has there. Both
+/// lists of cleaned regions stay. The code is 0; 9 (`Full`), if more than 2^64 - 1 records would be live in a queue of `to`;
+/// or 11 (`Memory`). After an error the region's table is lost, and `to` is unchanged.
 #[unsafe(no_mangle)]
 pub extern "C" fn raft_ffi_tables_move_table(
     alloc: Global,
@@ -346,12 +345,12 @@ pub extern "C" fn raft_ffi_slot_apply_rewrite(
     told!(held in tables, alloc, text; with!(list in items, alloc; rewrite(alloc, &mut *held, number, &*list, gate.number(), seq)))
 }
 
-/// Moves the table of a region, if there is one, in place of that of the other tables.
+/// Moves the table of a region, if there is one, to the tables `to`, in place of the one that the region has there.
 ///
 /// # Errors
 ///
-/// `Full` where more than 2^64 - 1 records would be live in a queue, `Memory`. The table is then
-/// gone, and `to` is as it was.
+/// `Full` if more than 2^64 - 1 records would be live in a queue of `to`; `Memory`. The region's table is lost then, and `to`
+/// is unchanged.
 fn move_table(from: &mut MemTableAccessor, to: &mut MemTableAccessor, region: u64) -> Result<()>
     ensures removed { IsRemoved region false from.old from.new }
     ensures ok { OnOk result (IsMoved region from.old to.old to.new) }
@@ -372,12 +371,12 @@ fn move_table(from: &mut MemTableAccessor, to: &mut MemTableAccessor, region: u6
     }
 }
 
-/// Tests whether the tables would accept the items of a batch of the append queue whose regions are
-/// of a slot.
+/// Checks that the tables of slot `slot` accept those items of a batch whose regions are of the slot, once the batch is
+/// written to the append queue, at whatever place.
 ///
 /// # Errors
 ///
-/// Those of [`MemTableAccessor::check_append_writes`], and `Memory`.
+/// Those of [`MemTableAccessor::check_append_writes`]; `Memory` for copies of the items.
 fn check_share(alloc: Global, tables: &MemTableAccessor, slot: usize, logs: &LogBatch) -> Result<()>
     ensures ok { OnOk result (AcceptsShareOncePlaced slot tables.now logs.now) }
     ensures refused { IfErr result (λ e. e ≢ Error.Memory
@@ -388,12 +387,12 @@ fn check_share(alloc: Global, tables: &MemTableAccessor, slot: usize, logs: &Log
     tables.check_append_writes(share.as_slice())
 }
 
-/// Writes those of the items whose regions are of a slot to the tables, as new ones of the append
-/// queue.
+/// Writes copies of those items whose regions are of slot `slot` to its tables, in order, as new ones of the append queue.
 ///
 /// # Errors
 ///
-/// Those of `apply_append`, and `Memory` for copies of the items, with none written.
+/// Those of [`apply_append`]: the items before the refused one are written then. `Memory` for the copies: none is written
+/// then.
 fn append(alloc: Global, tables: &mut MemTableAccessor, slot: usize, items: &ItemList) -> Result<()>
     ensures ok { OnOk result (AreWritten Appending (share_of slot items.now) tables.old tables.new) }
     ensures refused { IfErr result (IsShareRefused Appending (share_of slot items.now) tables.old tables.new) }
@@ -402,12 +401,13 @@ fn append(alloc: Global, tables: &mut MemTableAccessor, slot: usize, items: &Ite
     apply_append(tables, ItemList::of(share))
 }
 
-/// Writes those of the items whose regions are of a slot to the tables, as rewritten to the file of
-/// number `seq`.
+/// Writes copies of those items whose regions are of slot `number` to its tables, in order, as rewritten to file `seq` of the
+/// rewrite queue. `gate` limits which places move.
 ///
 /// # Errors
 ///
-/// Those of `apply_rewrite`, and `Memory` for copies of the items, with none written.
+/// Those of [`apply_rewrite`]: the items before the refused one are written then. `Memory` for the copies: none is written
+/// then.
 fn rewrite(
     alloc: Global,
     accessor: &mut MemTableAccessor,
@@ -423,11 +423,11 @@ fn rewrite(
     apply_rewrite(accessor, ItemList::of(share), gate, seq)
 }
 
-/// Returns copies of the items whose regions are of a slot, in order.
+/// Returns copies of those items whose regions are of slot `number`, in order.
 ///
 /// # Errors
 ///
-/// `Memory`.
+/// `Memory` alone.
 fn share_of(alloc: Global, number: usize, items: &[LogItem]) -> Result<Vec<LogItem>>
     ensures ok { IfOk result (λ share. map item_of share.items ≡ share_of number (map item_of items.now)) }
     ensures memory { IfErr result (λ e. e ≡ Error.Memory) }

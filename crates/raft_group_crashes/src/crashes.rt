@@ -1,5 +1,6 @@
-//! Crashes of a store in random histories: after each batch and each deleted file, and in some histories after each
-//! byte, everything but the files is lost, and of these what wasn't synced from any batch or byte on.
+//! Tries crashes of a store in random histories, after each batch and each deleted file, and in some
+//! histories after each byte. A crash loses everything but the files, and of each queue's last file some of
+//! the bytes that weren't synced.
 
 mod crash;
 mod disk;
@@ -15,14 +16,14 @@ use raft_base::Result;
 /// How many steps a history has.
 const STEPS: u64 = 40;
 
-/// Tries `histories` histories, with the seeds from `seed` on, the first `by_bytes` of them with a crash at
-/// each byte that they write. Prints where a store has something else than it must have, and at the end how
-/// many such differences there were. Returns `true` if there were none.
+/// Tries `histories` random histories, with the seeds from `seed` on. In the first `by_bytes` of them a crash
+/// is tried at each byte that they write. Prints where a store has something else than it must have, and at
+/// the end how many such differences there were. Returns whether there were none.
 ///
 /// # Errors
 ///
-/// `Io` for a file or the output; `Memory`; whatever a call of a store returns. The folders of the histories
-/// are left then.
+/// `Io` for a file or the output; `Memory`; those of the store's calls. The folders of the histories are left
+/// then.
 pub(crate) fn try_histories<R: Host + Print + Eprint>(
     rt: &R,
     seed: u64,

@@ -1,4 +1,4 @@
-//! Log files of both queues in a folder.
+//! The log files of both queues in a folder, and the reads and writes of a store on them.
 
 ghost use Rattle.std.specs.Prelude.{◌≡◌, ◌≤◌, ◌<◌, ◌+◌, ◌^◌};
 
@@ -13,7 +13,7 @@ use std::fs::{File, OpenOptions};
 use std::io::{Read, Seek, SeekFrom, Write};
 use std::rt::Files;
 
-/// What a pipe asks of the machine: files, and memory.
+/// What a pipe needs of the machine: files, and memory.
 pub(crate) trait Disk: Files<File = File> + AllocGlobal + Clone + Drop {}
 
 impl<R: Files<File = File> + AllocGlobal + Clone + Drop> Disk for R {}
@@ -24,7 +24,7 @@ const VERSION: Version = Version::V2;
 /// What was done to the files of a folder.
 #[derive(Drop)]
 pub(crate) enum FileChange {
-    /// These bytes were written behind the last file of a queue.
+    /// These bytes were written to the end of this file, the last one of a queue.
     Written(FileId, Vec<u8>),
     /// The last file of a queue was synced.
     Synced(LogQueue),
@@ -34,7 +34,7 @@ pub(crate) enum FileChange {
     DeletedBelow(FileId),
 }
 
-/// The files of a queue at one moment, from the first to the last.
+/// The numbers of the first and the last file of a queue at one moment.
 #[derive(Clone, Copy)]
 struct Span {
     first: FileSeq,
@@ -43,9 +43,9 @@ struct Span {
     ghost countable: { last + 1 < 2 ^ 64 },
 }
 
-/// The log files that lie in a folder at one moment, without file headers. Which ones they are doesn't change with
-/// the pipe's calls: after a rotation or a purge its owner makes a new one by [`FolderPipe::reopen`]. Each call opens
-/// the file that it needs; an engine keeps its files open.
+/// The log files that stand in a folder at one moment, without file headers. The pipe's calls don't change
+/// which ones they are: after a rotation or a purge its owner makes a new pipe by [`FolderPipe::reopen`].
+/// Each call opens the file that it needs, unlike an engine, which keeps its files open.
 #[derive(Drop)]
 pub(crate) struct FolderPipe<'a, R: Disk> {
     rt: &'a R,
@@ -78,7 +78,7 @@ impl<'a, R: Disk> FolderPipe<'a, R> {
         Ok(pipe)
     }
 
-    /// Opens the pipe over the files that are in the same folder now, as after a rotation or a deletion.
+    /// Returns a pipe over the files that stand in the same folder now, as after a rotation or a deletion.
     ///
     /// # Errors
     ///
@@ -115,7 +115,7 @@ impl<'a, R: Disk> FolderPipe<'a, R> {
         Ok(file.sync_all()?)
     }
 
-    /// Returns the path of the file `id`, as [`file_path`] does.
+    /// Returns the path of the file `id` in the folder, in the form of [`file_path`].
     ///
     /// # Errors
     ///
@@ -145,7 +145,7 @@ impl<'a, R: Disk> FolderPipe<'a, R> {
         }
     }
 
-    /// Makes an empty file `id`, unless it is there.
+    /// Makes an empty file `id`. Does nothing if it is there.
     ///
     /// # Errors
     ///
@@ -160,7 +160,7 @@ impl<'a, R: Disk> FolderPipe<'a, R> {
     }
 }
 
-/// Removes `folder` with all its files, if it is there.
+/// Removes `folder` with all its files. Does nothing if it isn't there.
 ///
 /// # Errors
 ///
@@ -182,8 +182,8 @@ pub(crate) fn file_path(alloc: Global, folder: &str, id: FileId) -> Result<Strin
     Ok(format!(in alloc; "{folder}/{:016}{extension}", id.seq)?)
 }
 
-/// Returns how the names of the files of `queue` end: `.raftlog` for the append queue, `.rewrite` for the
-/// rewrite queue.
+/// Returns the ending of the names of the files of `queue`: `.raftlog` for the append queue, `.rewrite` for
+/// the rewrite queue.
 fn extension_of(queue: LogQueue) -> &'static str {
     match queue {
         LogQueue::Append => ".raftlog",
@@ -214,8 +214,8 @@ fn span_in_folder<R: Disk>(rt: &R, folder: &str, queue: LogQueue) -> Result<Span
     Ok(Span { first, last })
 }
 
-/// Returns the number in the name of a file, such as 1 in `0000000000000001.raftlog`, or `None` if it isn't a
-/// file of `queue`.
+/// Returns the number in `name`, the name of a file of `queue`, such as 1 in `0000000000000001.raftlog`.
+/// Returns `None` for any other name.
 fn number_in_name(name: &str, queue: LogQueue) -> Option<FileSeq> {
     name.strip_suffix(extension_of(queue))?.parse::<u64>().ok()
 }
@@ -226,7 +226,7 @@ impl<R: Disk> PipeLog for FolderPipe<'_, R> {
     ghost file_range_of = { λ pipe queue. range_in (pipe.append.first, pipe.append.last)
         (pipe.rewrite.first, pipe.rewrite.last) queue };
 
-    /// Opens the file of `handle`, and reads the bytes there.
+    /// Opens the file of `handle`, and returns the bytes at that place.
     ///
     /// # Errors
     ///
@@ -239,12 +239,12 @@ impl<R: Disk> PipeLog for FolderPipe<'_, R> {
         Ok(bytes)
     }
 
-    /// Appends `bytes` to the last file of `queue`, and returns their place. If that fails the file is cut
-    /// back to what it had.
+    /// Appends `bytes` to the last file of `queue`, and returns their place. If writing them fails, the file
+    /// is cut back to what it had.
     ///
     /// # Errors
     ///
-    /// Those of the system; `Memory`.
+    /// Those of the system; `Memory`. Some of the bytes stay only if the cut fails too.
     fn append<T: ReactiveBytes>(&self, queue: LogQueue, bytes: &mut T) -> Result<FileBlockHandle> {
         let id = FileId::new(queue, self.span(queue).last);
         let bytes = bytes.as_bytes(&LogFileContext::new(id, VERSION));
@@ -262,7 +262,7 @@ impl<R: Disk> PipeLog for FolderPipe<'_, R> {
         })
     }
 
-    /// Syncs the last file of `queue`.
+    /// Syncs the last file of `queue`, so that what was appended to it survives a crash.
     ///
     /// # Errors
     ///
@@ -278,8 +278,8 @@ impl<R: Disk> PipeLog for FolderPipe<'_, R> {
         (span.first, span.last)
     }
 
-    /// Returns how many bytes the files of `queue` have, capped at 2^64 - 1. Those whose length can't be had
-    /// count as empty.
+    /// Returns how many bytes the files of `queue` have together, at most 2^64 - 1. A file whose length can't
+    /// be read counts as empty.
     fn total_size(&self, queue: LogQueue) -> usize {
         let span = self.span(queue);
         let mut total = 0usize;
@@ -291,7 +291,8 @@ impl<R: Disk> PipeLog for FolderPipe<'_, R> {
         total
     }
 
-    /// Syncs the last file of `queue`, begins the next one, and syncs the folder.
+    /// Syncs the last file of `queue`, begins the next one, and syncs the folder. The pipe still names the
+    /// old last file: make a new one by [`FolderPipe::reopen`].
     ///
     /// # Errors
     ///
@@ -302,8 +303,8 @@ impl<R: Disk> PipeLog for FolderPipe<'_, R> {
         Ok(fs::open(self.rt, self.folder)?.sync_all()?)
     }
 
-    /// Deletes the files below `file_id` in its queue, but not the last one, the oldest first, so that those
-    /// that are left have no gap wherever it stops. Returns how many they were.
+    /// Deletes the files below `file_id` in its queue, but not the last one. The oldest goes first, so the
+    /// files that are left have no gap wherever it stops. Returns how many it deleted.
     ///
     /// # Errors
     ///

@@ -1,4 +1,4 @@
-//! The batches that the log files of a folder hold.
+//! Reads the batches that the log files of a folder hold.
 
 ghost use Rattle.std.specs.Prelude.{◌≤◌, length};
 
@@ -12,16 +12,18 @@ use raft_records::{
 use raft_recover::Segment;
 use std::alloc::Global;
 
-/// The files of both queues, a segment each.
+/// The files of both queues, each file as a segment.
 #[derive(Drop)]
 pub(crate) struct Logs {
+    /// Those of the append queue, in order.
     pub(crate) append: Vec<Segment>,
+    /// Those of the rewrite queue, in order.
     pub(crate) rewrite: Vec<Segment>,
 }
 
 impl Logs {
-    /// Reads all files of both queues of `pipe`. A torn tail of the last file of a queue, bytes of a batch
-    /// that wasn't written to its end, is cut off, on the disk too.
+    /// Reads all files of both queues of `pipe`. A torn tail of the last file of a queue, the bytes of a
+    /// batch that wasn't written to its end, is cut off, on the disk too.
     ///
     /// # Errors
     ///
@@ -33,8 +35,8 @@ impl Logs {
         })
     }
 
-    /// Returns what the batches of the append queue take away, in order: their compactions, truncations and
-    /// deletions, and for each run the truncation at its first index.
+    /// Returns what the batches of the append queue take away, in order, as items: their compactions,
+    /// truncations and deletions, and for each run the truncation at its first index.
     ///
     /// # Errors
     ///
@@ -69,10 +71,10 @@ impl Logs {
     }
 }
 
-/// Appends what `items` take away to a list: compactions, truncations and deletions as they are, and for each
-/// run the truncation at its first index. A run that begins at the end of its region's entries in `tables`,
-/// which don't have it yet, or behind it takes nothing away. Cleans are left out: the tables list those
-/// regions.
+/// Appends what `items` take away to `tombstones`: compactions, truncations and deletions as they are, and
+/// for each run the truncation at its first index. With `tables`, which don't have the items yet, a run is
+/// left out that begins at or after the end of its region's entries there, and so takes nothing away. Cleans
+/// are left out, as the tables list those regions.
 ///
 /// # Errors
 ///
@@ -99,8 +101,9 @@ pub(crate) fn push_tombstones(
     Ok(())
 }
 
-/// Returns the first index of `run` if it replaces entries of `region`: if the region's table ends above that
-/// index, or if there are no `tables` to tell. Returns `None` otherwise, and for a run without entries.
+/// Returns the first index of `run` if the run replaces entries of `region`: if the region's entries in
+/// `tables` end after that index, or if there are no `tables` to tell. Returns `None` otherwise, and for a
+/// run without entries.
 fn first_overwritten(
     region: u64,
     run: &EntryIndexes,
@@ -118,7 +121,7 @@ fn first_overwritten(
     }
 }
 
-/// Returns the files of `queue`, a segment each. A torn tail of the last one is cut off, on the disk too.
+/// Returns the files of `queue`, each as a segment. A torn tail of the last one is cut off, on the disk too.
 ///
 /// # Errors
 ///
@@ -139,12 +142,12 @@ fn segments_of<R: Disk>(
     Ok(segments)
 }
 
-/// Cuts `file`, the last one of a queue, where its readable batches end, on the disk too. A file in which a
-/// readable batch follows an unreadable one is damaged, and left as it is: a recovery refuses it.
+/// Cuts `file`, the last one of a queue, where its readable batches end, on the disk too. If a readable batch
+/// follows an unreadable one, the file is damaged, and left as it is: a recovery refuses it.
 ///
 /// # Errors
 ///
-/// `Memory`, also if there was none to read on; those of the system.
+/// `Memory`; those of the system.
 fn cut_torn_tail<R: Disk>(pipe: &FolderPipe<'_, R>, file: &mut FilePart) -> Result<()> {
     match readable_front(file) {
         (_, None) => Ok(()),
@@ -159,8 +162,8 @@ fn cut_torn_tail<R: Disk>(pipe: &FolderPipe<'_, R>, file: &mut FilePart) -> Resu
     }
 }
 
-/// Tests whether a readable batch follows the unreadable one at position `at` of `file`, whose header says
-/// where it ends.
+/// Tests whether a readable batch follows the unreadable one at position `at` of `file`, at the place where
+/// the header of the latter says that it ends.
 ///
 /// # Errors
 ///
@@ -183,7 +186,7 @@ fn is_damaged(file: &FilePart, at: usize) -> Result<bool>
     }
 }
 
-/// Returns the batches of `part`, each with the position at which the next one begins.
+/// Returns the batches of `part`, each with the position in the part at which the next one begins.
 ///
 /// # Errors
 ///

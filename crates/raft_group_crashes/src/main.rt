@@ -1,8 +1,8 @@
-//! Crashes of a store with atomic groups in random histories: `raft_group_crashes SEED HISTORIES BY_BYTES` tries `HISTORIES` of them,
-//! with the seeds from `SEED` on, and in the first `BY_BYTES` of them a crash at each byte. Its status is 1 if a store recovered
-//! something else than it had to.
+//! Crashes a store with atomic groups in random histories. `raft_group_crashes SEED HISTORIES BY_BYTES` tries
+//! `HISTORIES` of them, with the seeds from `SEED` on, and in the first `BY_BYTES` of them a crash at each
+//! byte. The status is 1 if a store recovered something else than it had to.
 //!
-//! The store is written over the calls below `Engine`, which has no atomic groups.
+//! The store is written over the calls below `Engine`, which has no atomic groups of its own.
 #![tactic(auto)]
 
 mod crashes;
@@ -14,16 +14,17 @@ use raft_base::Result;
 use raft_recover::command_words;
 use std::process::ExitCode;
 
-/// What `--help` prints, and other words that ask for nothing.
+/// What is printed for `--help`, and for other words that ask for nothing.
 const USAGE: &str =
     "usage: raft_group_crashes SEED HISTORIES BY_BYTES   (crashes a store with atomic groups in so many random histories from a seed on)";
 
-/// Does what the words of the command line ask for. The status is 0 if each store had what it must have, 1 if
-/// one had something else, and 2, with a hint at the words, if they ask for nothing.
+/// Does what the words of the command line ask for. Returns the status with which the process ends: 0 if each
+/// store had what it must have, 1 if one had something else, and 2, with a hint at the words, if they ask for
+/// nothing.
 ///
 /// # Errors
 ///
-/// Those of [`crashes::try_histories`], and `Io` for the words or the output.
+/// Those of [`crashes::try_histories`]; `Io` for the words or the output.
 fn main(rt: HostRuntime) -> Result<ExitCode> {
     let words = command_words(&rt)?;
     if words.first().is_some_and(|word: &String| word.as_str() == "--help"
@@ -43,8 +44,8 @@ fn main(rt: HostRuntime) -> Result<ExitCode> {
     }
 }
 
-/// Returns the seed, the number of histories, and how many of these are tried at each byte, or `None` if
-/// `words` aren't three numbers.
+/// Returns the three numbers that `words` name: the seed, how many histories there are, and in how many of
+/// these a crash is tried at each byte. Returns `None` if `words` aren't three numbers.
 fn parse_numbers(words: &[String]) -> Option<(u64, u64, u64)> {
     let [seed, histories, by_bytes] = words else {
         return None;

@@ -1,4 +1,4 @@
-//! The logs of many regions in a folder.
+//! A store of the logs of many regions in a folder.
 
 ghost use Rattle.std.specs.Prelude.{◌≡◌};
 ghost use Rattle.raft_records.specs.LogBatch.{IsSealedStage, is_open};
@@ -18,10 +18,10 @@ use std::alloc::Global;
 use std::collections::BTreeMap;
 use std::thread::Threads;
 
-/// The last offset at which a batch may begin.
+/// The last offset in a file at which a batch may begin.
 const LAST_OFFSET: u64 = u64::MAX - 16;
 
-/// What a store asks of the machine: files, memory, and threads that recover.
+/// What a store needs of the machine: files, memory, and threads that recover.
 pub(crate) trait Host: Disk + Threads + Sync {}
 
 impl<R: Disk + Threads + Sync> Host for R {}
@@ -33,28 +33,29 @@ impl<R: Disk + Threads + Sync> Host for R {}
 #[derive(Drop)]
 pub(crate) struct Store<'a, R: Host> {
     rt: &'a R,
-    /// The files, which only the store's calls change.
+    /// The files. Only the store's calls change them.
     pub(crate) pipe: FolderPipe<'a, R>,
-    /// What the files hold. Only the store's calls change it, but for a try of other tables of the same files.
+    /// The tables of what the files hold. Only the store's calls change them, except that a test puts other
+    /// tables of the same files in their place.
     pub(crate) tables: MemTableAccessor,
-    /// What the append queue took away and the rewrite queue wasn't told yet: commands and deletions, and the
-    /// truncation at the first index of each run that replaced entries.
+    /// What the append queue has taken away and the rewrite queue wasn't told yet: commands and deletions,
+    /// and the truncation at the first index of each run that replaced entries.
     tombstones: Vec<LogItem>,
     /// The greatest number of an atomic group so far.
     last_group: u64,
-    /// How many bytes a file has at least before a new one is begun.
+    /// How many bytes a file must have before a new one is begun.
     file_size: u64,
-    /// What was done to the files, where somebody looks at it.
+    /// What was done to the files, oldest first. It is noted only if there is such a list.
     pub(crate) changes: Option<Vec<FileChange>>,
 }
 
 impl<'a, R: Host> Store<'a, R> {
     /// Opens the store in `folder`, which is made if it isn't there, and recovers its tables with at most
-    /// `workers` threads. A file gets `file_size` bytes before the next one is begun.
+    /// `workers` threads. A file gets at least `file_size` bytes before the next one is begun.
     ///
     /// # Errors
     ///
-    /// Those of [`FolderPipe::open`] and [`Logs::read`], and of the recovery.
+    /// Those of [`FolderPipe::open`]; those of [`Logs::read`]; those of the recovery; `Memory`.
     pub(crate) fn open(
         rt: &'a R,
         folder: &'a str,
@@ -76,7 +77,7 @@ impl<'a, R: Host> Store<'a, R> {
         })
     }
 
-    /// Writes a batch to the append queue, and then to the tables. With `sync` it survives a crash once the
+    /// Writes `batch` to the append queue, and then to the tables. With `sync` it survives a crash once the
     /// call returns `Ok`. An empty batch does nothing.
     ///
     /// # Errors
@@ -98,7 +99,7 @@ impl<'a, R: Host> Store<'a, R> {
         self.tables.apply_append_writes(batch.drain())
     }
 
-    /// Syncs the last file of `queue`, and notes it.
+    /// Syncs the last file of `queue`, and notes that.
     ///
     /// # Errors
     ///
@@ -108,7 +109,7 @@ impl<'a, R: Host> Store<'a, R> {
         self.note_change(FileChange::Synced(queue))
     }
 
-    /// Begins a new file of `queue`. What the queue has by then survives a crash.
+    /// Begins a new file of `queue`. What the queue has had by then survives a crash.
     ///
     /// # Errors
     ///
@@ -120,7 +121,7 @@ impl<'a, R: Host> Store<'a, R> {
         self.note_change(FileChange::Begun(FileId::new(queue, last)))
     }
 
-    /// Notes `change`, what was done to the files, if somebody looks at it.
+    /// Notes `change`, which was made to the files. Does nothing if changes aren't noted.
     ///
     /// # Errors
     ///
@@ -132,8 +133,8 @@ impl<'a, R: Host> Store<'a, R> {
         Ok(())
     }
 
-    /// Notes that `batch`, which is sealed, was written to the file `id`, with its bytes, if somebody looks
-    /// at it.
+    /// Notes that `batch`, which is sealed, was written to the file `id`, with its bytes. Does nothing if
+    /// changes aren't noted.
     ///
     /// # Errors
     ///
@@ -153,8 +154,8 @@ impl<'a, R: Host> Store<'a, R> {
     ///
     /// # Errors
     ///
-    /// `Io` for a file; `Full` for a batch that is too long; `Failed` if its place would be behind the last
-    /// offset; `Memory`. The batch may be in the file then, and not in the tables.
+    /// `Io` for a file; `Full` for a batch that is too long; `Failed` if its place would be after the last
+    /// offset; `Memory`. The batch may be in the file then, and isn't in the tables.
     fn append(&mut self, queue: LogQueue, batch: &mut LogBatch) -> Result<FileSeq>
         requires { batch.old.stage ≡ is_open }
     {
@@ -172,8 +173,8 @@ impl<'a, R: Host> Store<'a, R> {
         Ok(place.id.seq)
     }
 
-    /// Returns the records of all regions: the entries' bytes are read from the files at the places that the
-    /// tables have.
+    /// Returns the records of all regions. The bytes of entries are read from the files, at the places that
+    /// the tables have.
     ///
     /// # Errors
     ///
@@ -186,7 +187,7 @@ impl<'a, R: Host> Store<'a, R> {
         Ok(contents)
     }
 
-    /// Returns the records of `table`, with the bytes of its entries, which are read from the files.
+    /// Returns the records of `table`. The bytes of its entries are read from the files.
     ///
     /// # Errors
     ///
@@ -199,8 +200,8 @@ impl<'a, R: Host> Store<'a, R> {
         Ok(records)
     }
 
-    /// Returns `entries` with their bytes, read from the files. Neighbors in one entry block are read
-    /// together.
+    /// Returns `entries` with their bytes, read from the files. Neighboring entries in one entry block are
+    /// read together.
     ///
     /// # Errors
     ///
@@ -222,8 +223,8 @@ impl<'a, R: Host> Store<'a, R> {
     ///
     /// # Errors
     ///
-    /// `Io` for the file; `Corruption`, whose text begins with the path and the offset, if the checksum is
-    /// another; `Memory`.
+    /// `Io` for the file; `Corruption`, whose text begins with the path and the offset, if the block doesn't
+    /// end in its checksum; `Memory`.
     fn read_block(&self, place: FileBlockHandle, compression: CompressionType) -> Result<Vec<u8>> {
         let alloc = self.rt.alloc();
         let block = self.pipe.read_bytes(alloc, place)?;
@@ -242,11 +243,11 @@ fn are_in_one_block(a: &EntryIndex, b: &EntryIndex) -> bool {
     a.entries == b.entries
 }
 
-/// Appends `entries` to a list, each with its bytes out of `bytes`, those of their block.
+/// Appends `entries` to `proposals`, each with its bytes out of `bytes`, the entry bytes of their block.
 ///
 /// # Errors
 ///
-/// `Corruption` if an entry would end behind these bytes; `Memory`.
+/// `Corruption` if an entry would end after these bytes; `Memory`. Some of them may have been appended then.
 fn push_proposals(
     alloc: Global,
     proposals: &mut Vec<Proposal>,

@@ -1,4 +1,4 @@
-//! A check of the files of both queues, which is printed as it goes on.
+//! A check of the files of both queues, which is printed while it goes on.
 
 ghost use Rattle.std.specs.Prelude.{◌≡◌, ◌↔◌, ◌++◌, ◌<◌, ◌≤◌, codes, string_bytes, true, IfErr, IfOk, OnErr, OnOk};
 ghost use Rattle.std.specs.Io.KnownBytes.{Appends};
@@ -24,14 +24,15 @@ use std::alloc::Global;
 use std::io::Write;
 use std::thread::Threads;
 
-/// Checks the files of both queues, and prints what is found: the lines of each file as soon as it is read, then what an opening
-/// would do, and the verdict. The files are read in pieces, twice: for the scans, and for the opening that is tried. What is said of the
-/// damage of a file is in memory until its lines are printed.
+/// Checks the files of both queues, and prints what it finds to `out`: the lines of each file as soon as it is read, then what an opening
+/// by `workers` threads, 1 to 256, would do, and the verdict. Returns what it found, but for the damage: what is said of that of a file is
+/// in memory until its lines are printed. `sizes` names the files, all of `version`; `source` reads them in pieces, twice: for the scans,
+/// and for the opening that is tried.
 ///
 /// # Errors
 ///
-/// `Output` where the output takes no more; `Files` with `Io` where a read fails, or with `Memory`. A prefix of the lines, but not all of
-/// them, is then printed.
+/// `Output` if the output takes no more; `Files` of `Io` if a read fails, or of `Memory`. A prefix of the lines, but not all of them, is
+/// then printed. Damage and a refusal are no errors.
 pub fn print_check<R: Threads + Sync, S: ReadFiles, W: Write>(
     rt: &R,
     alloc: Global,
@@ -85,11 +86,12 @@ fn print_both_scans<S: ReadFiles, W: Write>(
     Ok(UndamagedQueues { append, rewrite })
 }
 
-/// Scans the files of a queue, oldest first, and prints what is found in each. Returns whether nothing is found that can't be read.
+/// Scans the files of one queue, in the order of `sizes`, and prints what is found in each as soon as it is read. Returns whether nothing
+/// is found that can't be read.
 ///
 /// # Errors
 ///
-/// Those of [`print_check`].
+/// Those of [`print_check`]. Some lines may then be printed.
 fn print_scans<S: ReadFiles, W: Write>(
     form: Form,
     alloc: Global,
@@ -122,11 +124,12 @@ fn stay_undamaged(are_undamaged: bool, scan: &FileScan) -> bool
     are_undamaged && scan.damages.is_empty()
 }
 
-/// Scans a file, and prints what is found in it. `last` is the number of the file before it, `None` where it is the first.
+/// Scans one file, prints what is found in it, and returns the scan. `last` is the number of the file before it, `None` if it is the first:
+/// a line says which files are missing between the two.
 ///
 /// # Errors
 ///
-/// Those of [`print_check`].
+/// Those of [`print_check`]. Some lines may then be printed.
 fn scan_and_print<S: ReadFiles, W: Write>(
     form: Form,
     alloc: Global,
@@ -149,11 +152,11 @@ fn scan_and_print<S: ReadFiles, W: Write>(
     Ok(scan)
 }
 
-/// Prints what a scan of a file finds; `last` is the number of the file before it.
+/// Prints the lines of a scan. `last` is the number of the file before it, `None` if it is the first.
 ///
 /// # Errors
 ///
-/// `Output` where the output takes no more, `Files` with `Memory`. Nothing is printed then, or a prefix, but not all of it.
+/// `Output` if the output takes no more; `Files` of `Memory`. Nothing is printed then, or a prefix, but not all of it.
 fn print_scan<W: Write>(
     form: Form,
     alloc: Global,
@@ -173,11 +176,11 @@ fn print_scan<W: Write>(
     write_text(out, text.as_str())
 }
 
-/// Appends what a scan of a file finds, as text or as JSON; `last` is the number of the file before it.
+/// Appends the lines of a scan, as text or as JSON. `last` is the number of the file before it, `None` if it is the first.
 ///
 /// # Errors
 ///
-/// Want of memory. Some lines may then be appended.
+/// Fails only if there is no memory. Some lines may then be appended.
 fn append_scan_in_form(
     form: Form,
     alloc: Global,
@@ -195,11 +198,11 @@ fn append_scan_in_form(
     }
 }
 
-/// Prints the end of a check: which queue has no files, what an opening would do, and the verdict.
+/// Prints the end of a check: a line for each queue that has no files, what an opening would do, and the verdict.
 ///
 /// # Errors
 ///
-/// `Output` where the output takes no more, `Files` with `Memory`. Nothing is printed then, or a prefix, but not all of it.
+/// `Output` if the output takes no more; `Files` of `Memory`. Nothing is printed then, or a prefix, but not all of it.
 fn print_ending<W: Write>(
     form: Form,
     alloc: Global,
@@ -219,7 +222,7 @@ fn print_ending<W: Write>(
 ///
 /// # Errors
 ///
-/// Want of memory. Some lines may then be appended.
+/// Fails only if there is no memory. Some lines may then be appended.
 fn append_ending_in_form(
     form: Form,
     alloc: Global,
@@ -234,11 +237,11 @@ fn append_ending_in_form(
     }
 }
 
-/// Appends the end of a check: which queue has no files, what an opening would do, and the verdict.
+/// Appends the end of a check as text: a line for each queue that has no files, what an opening would do, and the verdict.
 ///
 /// # Errors
 ///
-/// Want of memory. Some lines may then be appended.
+/// Fails only if there is no memory. Some lines may then be appended.
 fn append_ending(found: &Findings, text: &mut String) -> AllocResult<()>
     ensures { OnOk result (string_bytes text.new ≡ string_bytes text.old ++ ending_text found.now) }
 {
@@ -248,11 +251,11 @@ fn append_ending(found: &Findings, text: &mut String) -> AllocResult<()>
     append_verdict(found, text)
 }
 
-/// Appends the verdict, as a line.
+/// Appends the verdict as a line: `sound`, `damaged`, or `empty`.
 ///
 /// # Errors
 ///
-/// Want of memory. A part may then be appended.
+/// Fails only if there is no memory. Some of the line may then be appended.
 fn append_verdict(found: &Findings, text: &mut String) -> AllocResult<()>
     ensures { OnOk result (string_bytes text.new ≡ string_bytes text.old ++ (verdict_word found.now ++ codes "\n")) }
 {

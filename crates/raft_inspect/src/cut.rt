@@ -1,4 +1,4 @@
-//! The cut of torn tails, as an opening would do it.
+//! Cutting torn tails off files, as an opening would.
 
 ghost use Rattle.std.specs.Prelude.{◌≡◌, ◌++◌, ◌<◌, ◌≤◌, IfErr, IfOk, OnErr, OnOk};
 ghost use Rattle.std.specs.Io.KnownBytes.{Appends};
@@ -19,14 +19,15 @@ use std::alloc::Global;
 use std::io::Write;
 use std::thread::Threads;
 
-/// Finds out what an opening by `workers` threads would do with files, which are read in pieces, prints that, and then cuts off what the
-/// opening would. Of files that an opening refuses nothing is asked. `source` and `files` have to be the same files.
+/// Finds out what an opening by `workers` threads, 1 to 256, would do with the files that `sizes` names, prints that to `out`, and then
+/// cuts off what the opening would. Returns what the opening would do. Of files that an opening refuses nothing is asked. The files are
+/// read through `source`, in pieces, and cut through `files`: both have to stand for the same files.
 ///
 /// # Errors
 ///
-/// `Output` where the output takes no more, and `Files` with `Memory`, or with `Io` where the system refuses a read: nothing is asked of the
-/// files then, and nothing is printed, or a prefix of what the opening would do. `Files` with the error of [`EngineFiles::truncate`]; the
-/// tail of the append queue may be cut off then, and all is printed.
+/// - `Output` if the output takes no more; `Files` of `Io` if the system refuses a read, or of `Memory`. Nothing was asked of `files` then, and
+///   nothing is printed, or a prefix of the lines.
+/// - `Files` of an error of [`EngineFiles::truncate`]. All lines were printed then, and the tail of the append queue may have been cut off.
 pub fn cut_as_opened<R: Threads + Sync, S: ReadFiles, F: EngineFiles, W: Write>(
     rt: &R,
     alloc: Global,
@@ -54,11 +55,11 @@ pub fn cut_as_opened<R: Threads + Sync, S: ReadFiles, F: EngineFiles, W: Write>(
     Ok(opening)
 }
 
-/// Cuts off the tails that an opening would cut off, that of the append queue first.
+/// Cuts off the tails that an opening would cut off, that of the append queue first. Nothing is asked if the opening refuses the files.
 ///
 /// # Errors
 ///
-/// Those of [`EngineFiles::truncate`]. The tail of the append queue may be cut off then.
+/// Those of [`EngineFiles::truncate`]. The tail of the append queue may have been cut off then.
 fn cut_tails<F: EngineFiles>(opening: &Opening, files: &mut F) -> Result<()>
     ensures ok { OnOk result (F.asked files.new ≡ opening_cuts opening.now ++ F.asked files.old) }
     ensures err { IfErr result (FailsAmong F.may_fail (opening_cuts opening.now) (F.asked files.old) (F.asked files.new)) }
@@ -72,7 +73,7 @@ fn cut_tails<F: EngineFiles>(opening: &Opening, files: &mut F) -> Result<()>
     }
 }
 
-/// Cuts off the tail of a queue's last file; asks nothing for `None`.
+/// Cuts `tail` off the last file of `queue`; asks nothing for `None`.
 ///
 /// # Errors
 ///

@@ -1,4 +1,4 @@
-//! What a check of the files of both queues finds.
+//! What a check of the files of both queues has found.
 
 ghost use Rattle.std.specs.Prelude.{◌≡◌, ◌↔◌, length, true};
 ghost use Rattle.raft_inspect.specs.Openings.{CutsNothing};
@@ -7,7 +7,7 @@ ghost use Rattle.raft_inspect.specs.Printed.{verdict_word};
 use crate::opening::Opening;
 use raft_survey::BothSizes;
 
-/// What a check of the files of both queues finds, but for the damage, which is printed file by file.
+/// What a check of the files of both queues has found, but for the damage, which is printed file by file.
 #[derive(Drop)]
 pub struct Findings {
     /// How many files the append queue has.
@@ -16,8 +16,8 @@ pub struct Findings {
     pub rewrite_files: usize,
     /// What an opening would do with the files.
     pub opening: Opening,
-    /// Whether nothing is wrong: an opening accepts the files and cuts nothing off, and each batch of each file can be read, with
-    /// the bytes of all its entries.
+    /// Whether nothing is wrong: an opening accepts the files and cuts nothing off, and each batch of each file can be read, with the bytes
+    /// of all its entries. It is set without files too.
     pub is_sound: bool,
 }
 
@@ -31,7 +31,7 @@ pub(crate) struct UndamagedQueues {
 }
 
 impl Findings {
-    /// Puts what scans of all files find together with what an opening would do.
+    /// Makes the findings of a check from what scans of all files found and what an opening would do.
     pub(crate) fn new(sizes: &BothSizes, undamaged: UndamagedQueues, opening: Opening) -> Findings
         ensures append { result.append_files ≡ length sizes.now.append.items }
         ensures rewrite { result.rewrite_files ≡ length sizes.now.rewrite.items }
@@ -48,7 +48,7 @@ impl Findings {
         }
     }
 
-    /// Returns the verdict of a check: `empty` where there are no files, `sound` where nothing is wrong with them, else `damaged`.
+    /// Returns the verdict of a check: `empty` if there are no files, `sound` if nothing is wrong with them, else `damaged`.
     pub fn verdict(&self) -> &'static str
         ensures { result.now ≡ verdict_word self.now }
     {
@@ -62,7 +62,7 @@ impl Findings {
     }
 }
 
-/// Tests whether nothing is wrong with the files of either queue, and nothing is cut off from them.
+/// Tests whether no scan has found damage, and an opening accepts the files and cuts nothing off them.
 fn is_nothing_wrong(undamaged: UndamagedQueues, opening: &Opening) -> bool
     ensures { (result ≡ true)
         ↔ ((undamaged.append ≡ true) × (undamaged.rewrite ≡ true) × CutsNothing opening.now) }

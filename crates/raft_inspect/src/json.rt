@@ -1,5 +1,5 @@
-//! What an opening would do, and the verdict of a check, as lines of JSON. Each call fails for want of memory alone, and a part may then be
-//! appended.
+//! What an opening would do, and the verdict of a check, as lines of JSON. Each call fails for want of memory alone, and some of its text
+//! may then be appended.
 
 ghost use Rattle.std.specs.Prelude.{◌≡◌, ◌++◌, string_bytes, None, Some, OnOk};
 ghost use Rattle.raft_report.specs.JsonData.{json_line};
@@ -13,11 +13,11 @@ use raft_engine::CutTail;
 use raft_report::{QueueName, append_json_no_files, quoted_reason};
 use std::alloc::Global;
 
-/// Appends a line for what an opening would do where it refuses files, else one for each queue.
+/// Appends what an opening would do: a line if it refuses the files, else a line for each queue.
 ///
 /// # Errors
 ///
-/// Want of memory. Some lines may then be appended.
+/// Fails only if there is no memory. Some lines may then be appended.
 pub(crate) fn append_json_opening(
     alloc: Global,
     opening: &Opening,
@@ -34,7 +34,7 @@ pub(crate) fn append_json_opening(
     }
 }
 
-/// Appends that an opening refuses the files, and why.
+/// Appends the line which says that an opening refuses the files, and why.
 fn append_json_refused(alloc: Global, error: &Error, text: &mut String) -> AllocResult<()>
     ensures { OnOk result (string_bytes text.new ≡ string_bytes text.old ++ json_line (refused_data error.now)) }
 {
@@ -42,7 +42,7 @@ fn append_json_refused(alloc: Global, error: &Error, text: &mut String) -> Alloc
     writeln!(text, "{{\"opening\":\"refused\",\"why\":{why}}}")
 }
 
-/// Appends what an opening would cut off from a queue's last file; that it is nothing for `None`.
+/// Appends the line which says what an opening would cut off the last file of `queue`; for `None`, that it is nothing.
 fn append_json_cut(
     alloc: Global,
     queue: LogQueue,
@@ -57,7 +57,7 @@ fn append_json_cut(
     }
 }
 
-/// Appends that nothing is cut off from a queue.
+/// Appends the line which says that an opening would cut nothing off `queue`.
 fn append_json_uncut(queue: LogQueue, text: &mut String) -> AllocResult<()>
     ensures { OnOk result (string_bytes text.new ≡ string_bytes text.old ++ json_line (cut_data queue None)) }
 {
@@ -68,7 +68,7 @@ fn append_json_uncut(queue: LogQueue, text: &mut String) -> AllocResult<()>
     )
 }
 
-/// Appends that a tail is cut off from a queue, and why.
+/// Appends the line which says that an opening would cut a tail off the last file of `queue`: its file, offset, length and reason.
 fn append_json_tail(
     alloc: Global,
     queue: LogQueue,
@@ -88,11 +88,11 @@ fn append_json_tail(
     )
 }
 
-/// Appends the end of a check: which queue has no files, what an opening would do, and the verdict.
+/// Appends the end of a check: a line for each queue that has no files, what an opening would do, and the verdict.
 ///
 /// # Errors
 ///
-/// Want of memory. Some lines may then be appended.
+/// Fails only if there is no memory. Some lines may then be appended.
 pub(crate) fn append_json_ending(
     alloc: Global,
     found: &Findings,
@@ -106,7 +106,7 @@ pub(crate) fn append_json_ending(
     append_json_verdict(found, text)
 }
 
-/// Appends the line of a queue without files, where it has none of them: `files` says how many.
+/// Appends the line of a queue without files if it has none; else nothing. `files` says how many it has.
 fn append_json_if_empty(queue: LogQueue, files: usize, text: &mut String) -> AllocResult<()>
     ensures { OnOk result (string_bytes text.new ≡ string_bytes text.old ++ empty_json queue files) }
 {
@@ -116,7 +116,7 @@ fn append_json_if_empty(queue: LogQueue, files: usize, text: &mut String) -> All
     Ok(())
 }
 
-/// Appends the line with which a check ends: its verdict.
+/// Appends the last line of a check, its verdict: `sound`, `damaged`, or `empty`.
 fn append_json_verdict(found: &Findings, text: &mut String) -> AllocResult<()>
     ensures { OnOk result (string_bytes text.new ≡ string_bytes text.old ++ json_line (verdict_data (verdict_word found.now))) }
 {

@@ -1,4 +1,5 @@
-//! What stands in the log files of an engine, for whoever looks at them. Nothing here changes a file but a cut.
+//! Inspects the log files of an engine: checks them, finds out what an opening would do, and recovers their tables. Only a cut
+//! ([`cut_as_opened`]) changes files.
 #![tactic(auto)]
 
 pub mod check;

@@ -1,4 +1,4 @@
-//! What an opening of files would do.
+//! Finding out what an opening of files would do, without changing them.
 
 ghost use Rattle.std.specs.Prelude.{◌≡◌, ◌≢◌, ◌↔◌, ◌<◌, ◌≤◌, true, false, IfErr, IfOk, IsTrue};
 ghost use Rattle.raft_engine.specs.CutTails.{tail_of};
@@ -20,14 +20,14 @@ use std::thread::Threads;
 /// What an opening would do with files.
 #[derive(Drop)]
 pub enum Opening {
-    /// It opens them, and first cuts off the tails that the value has.
+    /// It opens the files, and first cuts off the tails that the value names.
     Opens(Recovered),
-    /// It refuses them for this reason, and changes nothing.
+    /// It refuses the files for this reason, and changes nothing.
     Refuses(Error),
 }
 
 impl Opening {
-    /// Tests whether files are opened, and nothing is cut off from them.
+    /// Tests whether the opening accepts the files and cuts nothing off them.
     pub fn cuts_nothing(&self) -> bool
         ensures { IsTrue result ↔ CutsNothing self.now }
     {
@@ -38,11 +38,12 @@ impl Opening {
     }
 }
 
-/// Finds out what an opening by `workers` threads would do with files, which are read in pieces and stay as they are.
+/// Finds out what an opening by `workers` threads, 1 to 256, would do with the files that `sizes` names. They are read from `source` in
+/// pieces, in `version`, and stay as they are. A refusal is a result, and no error.
 ///
 /// # Errors
 ///
-/// `Io` where the system refuses a read; `Memory`. Where a read gives fewer bytes than there were, that is taken for the refusal of an opening.
+/// `Io` if the system refuses a read; `Memory`. A read that gives fewer bytes than the file had counts as the opening's refusal.
 pub fn try_opening<R: Threads + Sync, S: ReadFiles>(
     rt: &R,
     alloc: Global,
@@ -63,11 +64,12 @@ pub fn try_opening<R: Threads + Sync, S: ReadFiles>(
     }
 }
 
-/// Reads the files of both queues in pieces, as an opening by `workers` threads does, and asks nothing of them.
+/// Reads the files of both queues in pieces, as an opening by `workers` threads does that cuts off torn tails. Returns what was read: the
+/// tables, and what an opening would still have to ask of the files. It asks nothing of them itself.
 ///
 /// # Errors
 ///
-/// Those of an opening that refuses the files; `Io` where a read fails; `Memory`.
+/// The refusals of an opening; `Io` if a read fails; `Memory`.
 pub(crate) fn read_both_queues<R: Threads + Sync, S: ReadFiles>(
     rt: &R,
     alloc: Global,
@@ -88,7 +90,7 @@ pub(crate) fn read_both_queues<R: Threads + Sync, S: ReadFiles>(
     Ok(read.reading)
 }
 
-/// Returns the tails that an opening would cut off behind what was read.
+/// Returns the tails that an opening would cut off once it has read the files so.
 fn tails_of(reading: Reading) -> Recovered
     ensures { (result.append ≡ tail_of reading.append_missing) × (result.rewrite ≡ tail_of reading.rewrite_missing) }
 {
@@ -98,11 +100,11 @@ fn tails_of(reading: Reading) -> Recovered
     }
 }
 
-/// Returns that files are refused with an error. Want of memory is no refusal of theirs, nor is a read that the system refuses.
+/// Returns the opening that refuses files with `error`, if that is a refusal of the files.
 ///
 /// # Errors
 ///
-/// The error itself, where it is no refusal.
+/// `error` itself, if it is `Memory`, or says that the system refused a read.
 fn refusal_for(error: Error) -> Result<Opening>
     ensures ok { IfOk result (λ opening. (opening ≡ Refuses error) × (error ≢ Error.Memory) × (is_refused_read error ≡ false)) }
     ensures same { IfErr result (λ e. e ≡ error) }
@@ -117,7 +119,7 @@ fn refusal_for(error: Error) -> Result<Opening>
     Ok(Opening::Refuses(error))
 }
 
-/// Tests whether the system refused a read: not where bytes end too early, which may be the refusal of a batch.
+/// Tests whether `error` says that the system refused a read. Bytes that end too early don't count: that may be the refusal of a batch.
 fn is_refused_read(error: &Error) -> bool
     ensures { result ≡ is_refused_read error.now }
 {

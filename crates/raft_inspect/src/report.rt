@@ -1,5 +1,5 @@
-//! The lines of what an opening would do, and of a queue without files. Each call that appends fails for want of memory alone, and a part
-//! may then be appended.
+//! The lines that say what an opening would do, and that a queue has no files. Each call that appends fails for want of memory alone, and
+//! some of its text may then be appended.
 
 ghost use Rattle.std.specs.Prelude.{◌≡◌, ◌++◌, codes, string_bytes, None, Some, IfErr, OnErr, OnOk};
 ghost use Rattle.std.specs.Io.KnownBytes.{Appends};
@@ -20,11 +20,11 @@ use raft_survey::append_no_files;
 use std::alloc::Global;
 use std::io::Write;
 
-/// Prints what an opening would do.
+/// Prints to `out` what an opening would do: a line if it refuses the files, else a line for each queue.
 ///
 /// # Errors
 ///
-/// `Output` where the output takes no more, `Files` with `Memory`. Nothing is printed then, or a prefix, but not all of it.
+/// `Output` if the output takes no more; `Files` of `Memory`. Nothing is printed then, or a prefix, but not all of it.
 pub fn print_opening<W: Write>(
     form: Form,
     alloc: Global,
@@ -40,11 +40,11 @@ pub fn print_opening<W: Write>(
     write_text(out, text.as_str())
 }
 
-/// Appends what an opening would do, in a form.
+/// Appends what an opening would do, as text or as JSON.
 ///
 /// # Errors
 ///
-/// Want of memory. Some of it may then be appended.
+/// Fails only if there is no memory. Some lines may then be appended.
 fn append_opening_in_form(
     form: Form,
     alloc: Global,
@@ -59,11 +59,11 @@ fn append_opening_in_form(
     }
 }
 
-/// Appends what an opening would do: a line where it refuses the files, or one for each queue.
+/// Appends what an opening would do, as text: a line if it refuses the files, else a line for each queue.
 ///
 /// # Errors
 ///
-/// Want of memory. A line may then be appended.
+/// Fails only if there is no memory. Some of the text may then be appended.
 pub(crate) fn append_opening(opening: &Opening, text: &mut String) -> AllocResult<()>
     ensures { OnOk result (string_bytes text.new ≡ string_bytes text.old ++ opening_text opening.now) }
 {
@@ -76,7 +76,7 @@ pub(crate) fn append_opening(opening: &Opening, text: &mut String) -> AllocResul
     }
 }
 
-/// Appends that an opening refuses the files, and why.
+/// Appends the line which says that an opening refuses the files, and why.
 fn append_refused(error: &Error, text: &mut String) -> AllocResult<()>
     ensures { OnOk result (string_bytes text.new ≡ string_bytes text.old ++ refused_line (reason_text error.now)) }
 {
@@ -84,7 +84,7 @@ fn append_refused(error: &Error, text: &mut String) -> AllocResult<()>
     append_reason_line(error, text)
 }
 
-/// Appends what an opening would cut off from a queue's last file; that it is nothing for `None`.
+/// Appends the line which says what an opening would cut off the last file of `queue`; for `None`, that it is nothing.
 fn append_cut(queue: LogQueue, cut: &Option<CutTail>, text: &mut String) -> AllocResult<()>
     ensures { OnOk result (string_bytes text.new ≡ string_bytes text.old ++ cut_line queue cut.now) }
 {
@@ -94,7 +94,7 @@ fn append_cut(queue: LogQueue, cut: &Option<CutTail>, text: &mut String) -> Allo
     }
 }
 
-/// Appends that nothing is cut off from a queue.
+/// Appends the line which says that an opening would cut nothing off `queue`.
 fn append_uncut(queue: LogQueue, text: &mut String) -> AllocResult<()>
     ensures { OnOk result (string_bytes text.new ≡ string_bytes text.old ++ cut_line queue None) }
 {
@@ -105,7 +105,7 @@ fn append_uncut(queue: LogQueue, text: &mut String) -> AllocResult<()>
     )
 }
 
-/// Appends that a tail is cut off from a queue, and why.
+/// Appends the line which says that an opening would cut a tail off the last file of `queue`, and why.
 fn append_tail(queue: LogQueue, tail: &CutTail, text: &mut String) -> AllocResult<()>
     ensures { OnOk result (string_bytes text.new ≡ string_bytes text.old ++ cut_line queue (Some tail.now)) }
 {
@@ -113,7 +113,7 @@ fn append_tail(queue: LogQueue, tail: &CutTail, text: &mut String) -> AllocResul
     append_reason_line(&tail.error, text)
 }
 
-/// Appends that a tail is cut off from a queue, up to why.
+/// Appends the line about a tail up to the reason: how many bytes of which file would be cut off, and from which offset on.
 fn append_tail_words(queue: LogQueue, tail: &CutTail, text: &mut String) -> AllocResult<()>
     ensures { OnOk result (string_bytes text.new ≡ string_bytes text.old ++ tail_words queue tail.now) }
 {
@@ -125,7 +125,7 @@ fn append_tail_words(queue: LogQueue, tail: &CutTail, text: &mut String) -> Allo
     )
 }
 
-/// Appends a reason, and the end of its line.
+/// Appends the text of an error, and ends the line.
 fn append_reason_line(reason: &Error, text: &mut String) -> AllocResult<()>
     ensures { OnOk result (string_bytes text.new ≡ string_bytes text.old ++ (reason_text reason.now ++ codes "\n")) }
 {
@@ -133,11 +133,11 @@ fn append_reason_line(reason: &Error, text: &mut String) -> AllocResult<()>
     text.push_str("\n")
 }
 
-/// Appends the line of a queue without files, where it has none of them: `files` says how many.
+/// Appends the line of a queue without files if it has none; else nothing. `files` says how many it has.
 ///
 /// # Errors
 ///
-/// Want of memory. Some of it may then be appended.
+/// Fails only if there is no memory. Some of the line may then be appended.
 pub(crate) fn append_if_empty(queue: LogQueue, files: usize, text: &mut String) -> AllocResult<()>
     ensures { OnOk result (string_bytes text.new ≡ string_bytes text.old ++ empty_line queue files) }
 {

@@ -1,4 +1,4 @@
-//! The tables that an engine would have which is opened over files.
+//! The tables of an engine that would be opened over files.
 
 ghost use Rattle.std.specs.Prelude.{◌≢◌, ◌<◌, ◌≤◌, IfErr, IfOk};
 ghost use Rattle.raft_inspect.specs.Openings.{AreRefusedFor, AreTablesOf, HoldsOfRead};
@@ -11,12 +11,12 @@ use raft_survey::BothSizes;
 use std::alloc::Global;
 use std::thread::Threads;
 
-/// Returns the tables of an engine that would be opened over files by `workers` threads. The files are read in pieces, and stay as they
-/// are.
+/// Returns the tables that an engine would have if it were opened by `workers` threads, 1 to 256, over the files that `sizes` names. They
+/// are read from `source` in pieces, in `version`, and stay as they are.
 ///
 /// # Errors
 ///
-/// Those of an opening that refuses the files; `Io` where a read fails; `Memory`.
+/// The refusals of an opening; `Io` if a read fails; `Memory`.
 pub fn read_tables<R: Threads + Sync, S: ReadFiles>(
     rt: &R,
     alloc: Global,

@@ -1,4 +1,4 @@
-//! The entry block of a batch, read once for all its entries.
+//! Reading the entry block of a batch: it is read once, and not again for each of its entries.
 
 ghost use Rattle.std.specs.Prelude.{◌≡◌, Some, IfErr, IfOk, IfSome};
 ghost use Rattle.raft_records.specs.FilePart.{Part};
@@ -10,29 +10,29 @@ use crate::selection::Selection;
 use raft_base::{EntryIndex, Error, FileBlockHandle, Result};
 use raft_records::{FilePart, LogItem, LogItemContent, entries_block_in};
 
-/// An entry block of a part, with its entry bytes where they can be read.
+/// An entry block that was read: its place, and its entry bytes if they can be read.
 #[derive(Clone, Copy)]
 pub struct ReadBlock<'a> {
-    /// Where it stands.
+    /// The file, the offset and the length of the block.
     pub place: FileBlockHandle,
-    /// The entry bytes; `None` where no entry block stands there, or its checksum doesn't hold.
+    /// The entry bytes, without their checksum. `None` if no block stands at the place, or its checksum doesn't hold.
     pub entries: Option<&'a [u8]>,
 }
 
-/// The bytes of an entry, or why they can't be read.
+/// The bytes of one entry, or the reason why they can't be read.
 #[derive(Clone, Copy)]
 pub enum BytesOfEntry<'a> {
     /// The bytes.
     Read(&'a [u8]),
-    /// Why they can't be read.
+    /// The bytes can't be read, for this reason.
     Lost(Loss),
 }
 
-/// Reads the block at a place; its entry bytes are `None` where no entry block stands there, or its checksum doesn't hold.
+/// Reads the entry block at `place` in the part. A block that can't be read is no error: its `entries` are `None`.
 ///
 /// # Errors
 ///
-/// `Memory`.
+/// `Memory` alone.
 fn read_block(part: &FilePart, place: FileBlockHandle) -> Result<ReadBlock<'_>>
     ensures place { IfOk result (λ block. block.place ≡ place) }
     ensures read { IfOk result (IsReadBlock part.now) }
@@ -51,11 +51,12 @@ fn read_block(part: &FilePart, place: FileBlockHandle) -> Result<ReadBlock<'_>>
     }
 }
 
-/// Reads the block of the first item of a batch whose first entry has one; `None` where there is no such item.
+/// Reads the entry block that the first entry of an item names: of the first item in which it names one. As a rule all items of a batch
+/// share that block. Returns `None` if there is no such item.
 ///
 /// # Errors
 ///
-/// `Memory`.
+/// `Memory` alone.
 pub(crate) fn first_block<'a>(
     part: &'a FilePart,
     items: &[LogItem],
@@ -72,12 +73,12 @@ pub(crate) fn first_block<'a>(
     Ok(None)
 }
 
-/// Reads the block of the first item of a batch whose first entry has one, where the bytes of entries are selected; `None` where they aren't,
-/// or there is no such item.
+/// Reads the entry block of a batch, as far as a dump needs it: `None` if `selection` doesn't ask for values, or no item's first entry
+/// names a block. Else it is the block of the first item whose first entry names one.
 ///
 /// # Errors
 ///
-/// `Memory`.
+/// `Memory` alone.
 pub fn needed_block<'a>(
     part: &'a FilePart,
     items: &[LogItem],
@@ -92,7 +93,8 @@ pub fn needed_block<'a>(
     Ok(None)
 }
 
-/// Returns where the block of an item's first entry stands; `None` where it has no entry, or that has no place.
+/// Returns the place of the entry block that the first entry of `item` names. `None` if the item has no entries, or the first one names no
+/// block.
 fn first_place(item: &LogItem) -> Option<FileBlockHandle> {
     match &item.content {
         LogItemContent::EntryIndexes(entries) => entries.0.first()?.entries,
@@ -100,11 +102,12 @@ fn first_place(item: &LogItem) -> Option<FileBlockHandle> {
     }
 }
 
-/// Returns why the bytes of an entry can't be read, `None` where they can be. The block `known` isn't read again.
+/// Returns the reason why the bytes of `entry` can't be read, or `None` if they can be. `known` is a block that was read already: if the
+/// entry is in it, it isn't read again.
 ///
 /// # Errors
 ///
-/// `Memory`.
+/// `Memory` alone.
 #[tactic(auto, using(crate::proofs::LossLemmas::bytes_can_be_read))]
 pub(crate) fn loss_of(
     part: &FilePart,
@@ -121,11 +124,12 @@ pub(crate) fn loss_of(
     }
 }
 
-/// Returns the bytes of an entry, or why they can't be read. The block `known` isn't read again.
+/// Returns the bytes of `entry`, or the reason why they can't be read. `known` is a block of this part that was read already: if the entry
+/// is in it, it isn't read again.
 ///
 /// # Errors
 ///
-/// `Memory`.
+/// `Memory` alone: bytes that can't be read are no error.
 pub fn bytes_of_entry<'a>(
     part: &'a FilePart,
     entry: &EntryIndex,
@@ -142,11 +146,11 @@ pub fn bytes_of_entry<'a>(
     Ok(bytes_in(block, entry))
 }
 
-/// Returns the block at a place: `known`, if it stands there, or one that is read.
+/// Returns the block at `place`: `known` if it stands there, else the one that is read from the part.
 ///
 /// # Errors
 ///
-/// `Memory`.
+/// `Memory` alone.
 fn block_at<'a>(
     part: &'a FilePart,
     place: FileBlockHandle,
@@ -166,7 +170,7 @@ fn block_at<'a>(
     Ok(block)
 }
 
-/// Returns the bytes of an entry in its block, or why they can't be read.
+/// Returns the bytes of `entry`, which is in `block`, or the reason why they can't be read: the block can't be, or is too short.
 fn bytes_in<'a>(block: ReadBlock<'a>, entry: &EntryIndex) -> BytesOfEntry<'a>
     ensures { (part : Part) → IsReadBlock part block.entry → entry.now.entries ≡ Some block.entry.place
         → IsReadOf part entry.now result }

@@ -1,4 +1,4 @@
-//! What can't be read of a log file.
+//! What can't be read in a log file, and the reasons in words.
 
 ghost use Rattle.std.specs.Prelude.{◌≡◌, ◌++◌, string_bytes, OnOk};
 ghost use Rattle.raft_listing.specs.LossWords.{loss_words};
@@ -9,22 +9,22 @@ use raft_base::{AllocResult, Error};
 use std::io;
 use std::io::ErrorKind;
 
-/// A place in a log file where something can't be read.
+/// A place in a log file at which something can't be read.
 #[derive(Debug, Drop)]
 pub struct Damage {
-    /// At which byte of the file the batch stands, or none does.
+    /// The offset in the file at which no batch can be read, or at which the batch with the lost entries begins.
     pub offset: u64,
     /// What can't be read there.
     pub kind: DamageKind,
 }
 
-/// What can't be read at a place.
+/// What can't be read at a place: a batch, or entries of a batch.
 #[derive(Debug, Drop)]
 pub enum DamageKind {
     /// No batch can be read there, for this reason.
     Batch(Error),
-    /// A batch stands there, but these entries of it can't be read, all for one reason: neighbors in one of its items, of this
-    /// region, the first of which has the index `first`, and the last the index `last`.
+    /// A batch can be read there, but some neighboring entries of one of its items can't be, all for one reason. They are of the region
+    /// `region` and have the indexes `first` to `last`, both included.
     Entries {
         region: u64,
         first: u64,
@@ -33,19 +33,19 @@ pub enum DamageKind {
     },
 }
 
-/// Why the bytes of an entry can't be read.
+/// The reason why the bytes of an entry can't be read.
 #[derive(Clone, Copy, PartialEq, Eq, Debug)]
 pub enum Loss {
-    /// Its entry block isn't within the file, or its checksum doesn't hold.
+    /// Its entry block doesn't stand in the file, or the block's checksum doesn't hold.
     Block,
-    /// They would end past those of its entry block.
+    /// By its offset and length the entry would end after its block.
     Outside,
-    /// Nothing says where they stand.
+    /// The entry names no block.
     Unplaced,
 }
 
 impl Loss {
-    /// Returns the words that say so in a line.
+    /// Returns the words for the reason, which stand in the lines of a check and of a dump.
     pub fn words(self) -> &'static str
         ensures { result.now ≡ loss_words self }
     {
@@ -58,11 +58,11 @@ impl Loss {
     }
 }
 
-/// Appends in words why something can't be read, or is refused, in one line: line breaks of the reason are spaces.
+/// Appends the text of an error as one line, without an end of line. Line breaks in the text of the error become spaces.
 ///
 /// # Errors
 ///
-/// Want of memory. Some of it may then be appended.
+/// Fails only if there is no memory. Some of the text may then be appended.
 pub fn append_reason(reason: &Error, text: &mut String) -> AllocResult<()>
     ensures { OnOk result (string_bytes text.new ≡ string_bytes text.old ++ reason_text reason.now) }
 {
@@ -82,7 +82,7 @@ pub fn append_reason(reason: &Error, text: &mut String) -> AllocResult<()>
     }
 }
 
-/// Returns the words for why a read or a write failed.
+/// Returns the words for a read or a write that failed. Only an early end of the bytes is told from other failures.
 fn io_words(error: &io::Error) -> &'static str
     ensures { result.now ≡ io_words (error_kind error.now) }
 {
@@ -92,11 +92,11 @@ fn io_words(error: &io::Error) -> &'static str
     }
 }
 
-/// Appends the name of an error, and behind it its reason in one line.
+/// Appends `name`, and then `why` with spaces in place of its line breaks.
 ///
 /// # Errors
 ///
-/// Want of memory. Some of it may then be appended.
+/// Fails only if there is no memory. Some of the text may then be appended.
 fn append_named_reason(name: &str, why: &String, text: &mut String) -> AllocResult<()>
     ensures { OnOk result (string_bytes text.new ≡ string_bytes text.old ++ (name.now ++ in_line (string_bytes why.now))) }
 {
@@ -107,7 +107,7 @@ fn append_named_reason(name: &str, why: &String, text: &mut String) -> AllocResu
     Ok(())
 }
 
-/// Returns a space for a line break, and each other character as it is.
+/// Returns a space for a line break, and any other character unchanged.
 fn unbroken(letter: char) -> char
     ensures { result ≡ unbroken letter }
 {

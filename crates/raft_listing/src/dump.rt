@@ -1,4 +1,4 @@
-//! Dumps of log files: their batches, item by item, in a form.
+//! Dumps of log files: what a walk meets is written batch by batch, item by item, in a form of the caller's choice.
 
 ghost use Rattle.std.specs.Prelude.{ℕ, ◌≡◌, ◌≤◌, List, length, map, string_bytes, IfErr, OnOk};
 ghost use Rattle.raft_records.specs.FilePart.{Part, IsBatchAt};
@@ -13,16 +13,17 @@ use raft_base::{AllocResult, Error, Result};
 use raft_records::{FilePart, LogItem, write_whole};
 use std::io::Write;
 
-/// The form in which a dump says what it meets, as text or as JSON.
+/// How a dump writes what a walk meets, for example as text or as JSON.
 pub trait DumpForm {
     /// This text says what is met at a byte of a part, as far as it is selected.
     ghost says: { Selected → Part → ℕ → Met → List ℕ → Type 0 };
 
-    /// Appends what is said of a batch that stands from `at` to `next`, as far as its items are selected.
+    /// Appends what the dump says of a batch that stands from position `at` to position `next` of the part's bytes. Of its `items` only
+    /// those are written that `selection` has.
     ///
     /// # Errors
     ///
-    /// `Memory`. Some lines may then be appended.
+    /// `Memory`. Some of the text may then be appended.
     fn append_batch(
         &self,
         part: &FilePart,
@@ -37,12 +38,12 @@ pub trait DumpForm {
             (string_bytes text.old) (string_bytes text.new)) }
         ensures memory { IfErr result (λ e. e ≡ Error.Memory) };
 
-    /// Appends that no batch can be read at a byte for `reason`. `next` is where the batch ends that stands there by its header, `None`
-    /// where no header leads on.
+    /// Appends what the dump says of position `at` of the part's bytes, at which no batch can be read for `reason`. `next` is where the
+    /// batch ends by the header that stands at `at`; `None` if no header stands there, or the batch would end after the part.
     ///
     /// # Errors
     ///
-    /// Want of memory. Some of it may then be appended.
+    /// Fails only if there is no memory. Some of the text may then be appended.
     fn append_damage(
         &self,
         part: &FilePart,
@@ -57,16 +58,16 @@ pub trait DumpForm {
             (string_bytes text.old) (string_bytes text.new)) };
 }
 
-/// A dump of log files that is being written in a form.
+/// A dump of log files to a writer. It is a visitor of walks: it writes each batch and each place without one as the walk meets it.
 #[derive(Drop)]
 pub struct Dump<F: DumpForm + Drop, W: Write + Drop> {
-    /// How it is written.
+    /// How it writes what it meets.
     pub form: F,
-    /// What is printed.
+    /// Which items and entries it writes.
     pub selection: Selection,
-    /// Where it is written.
+    /// What it writes to.
     pub writer: W,
-    /// Whether some batch couldn't be read so far.
+    /// Whether a walk has met a byte at which no batch can be read. Damaged entries don't count.
     pub is_damaged: bool,
 }
 
@@ -81,6 +82,11 @@ impl<F: DumpForm + Drop, W: Write + Drop> PartVisitor for Dump<F, W> {
 
     ghost may_fail = { λ e. e ≢ Memory → IsIoError e };
 
+    /// Writes what the form says of a batch, as far as it is selected.
+    ///
+    /// # Errors
+    ///
+    /// `Memory`; nothing is written then. An io error of the writer; some of the text may then be written.
     fn visit_batch(
         &mut self,
         part: &FilePart,
@@ -94,6 +100,12 @@ impl<F: DumpForm + Drop, W: Write + Drop> PartVisitor for Dump<F, W> {
         write_whole(&mut self.writer, text.as_bytes())
     }
 
+    /// Sets `is_damaged`, and writes what the form says of a byte at which no batch can be read.
+    ///
+    /// # Errors
+    ///
+    /// `Memory`; nothing is written then. An io error of the writer; some of the text may then be written. `is_damaged` is set after an
+    /// error too.
     fn visit_damage(
         &mut self,
         part: &FilePart,

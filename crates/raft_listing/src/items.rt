@@ -1,5 +1,5 @@
-//! The lines of items. `known` is the entry block that was read already, so that it isn't read for each entry. Each call that appends fails
-//! for want of memory alone, and a part may then be appended.
+//! The lines of items in a dump as text. `known` is the entry block that was read already, so that it isn't read for each entry. Each call
+//! that appends fails for want of memory alone, and some of its text may then be appended.
 
 ghost use Rattle.std.specs.Prelude.{◌≡◌, ◌++◌, codes, map, option_map, string_bytes, IfErr, IfOk, IfSome, OnOk};
 ghost use Rattle.raft_records.specs.Item.{item_of, pair, pair_of};
@@ -17,7 +17,7 @@ use raft_records::{
 };
 use std::alloc::Global;
 
-/// Appends the lines of the selected items of a batch.
+/// Appends the lines of the selected items of a batch. The entry block of the batch is read once, if values are selected.
 ///
 /// # Errors
 ///
@@ -39,7 +39,7 @@ pub(crate) fn append_items(
     Ok(())
 }
 
-/// Appends the lines of an item, if the item is selected.
+/// Appends the lines of an item if it is selected; else nothing.
 fn append_item_if_selected(
     part: &FilePart,
     item: &LogItem,
@@ -58,7 +58,7 @@ fn append_item_if_selected(
     Ok(())
 }
 
-/// Appends the lines of an item.
+/// Appends the lines of an item: its region and what it says, and below it, if values are selected, a line for each selected entry.
 fn append_item(
     part: &FilePart,
     item: &LogItem,
@@ -75,7 +75,7 @@ fn append_item(
     append_content(part, item, selection, known, text)
 }
 
-/// Appends what an item says: entries, a command, or the change of a key.
+/// Appends what an item says, up to the end of its last line: its entries, a command, or the change of a key.
 fn append_content(
     part: &FilePart,
     item: &LogItem,
@@ -97,7 +97,7 @@ fn append_content(
     }
 }
 
-/// Appends what a command does.
+/// Appends the name of a command, with its index if it has one, and ends the line.
 fn append_command(command: &Command, text: &mut String) -> AllocResult<()>
     ensures { OnOk result (string_bytes text.new ≡ string_bytes text.old ++ (command_text command.now ++ codes "\n")) }
 {
@@ -108,7 +108,8 @@ fn append_command(command: &Command, text: &mut String) -> AllocResult<()>
     }
 }
 
-/// Appends what is done to a key, and whether that begins, continues or ends an atomic group.
+/// Appends what is done to a key, and ends the line. If the key value marks a batch of an atomic group, the line says whether the group
+/// begins, goes on or ends there. `change` is the content of `item`.
 fn append_change(
     part: &FilePart,
     item: &LogItem,
@@ -131,7 +132,7 @@ fn append_change(
     Ok(())
 }
 
-/// Returns the words for what is done to a key.
+/// Returns the word for what is done to a key, and a space.
 fn op_words(op_type: OpType) -> &'static str
     ensures { result.now ≡ op_words op_type }
 {
@@ -141,7 +142,7 @@ fn op_words(op_type: OpType) -> &'static str
     }
 }
 
-/// Appends how many bytes a value has, or, where values are selected, the value; nothing for `None`.
+/// Appends the number of bytes of a value, or the value itself if values are selected. Appends nothing for `None`.
 fn append_value(
     part: &FilePart,
     value: &Option<Vec<u8>>,
@@ -161,11 +162,12 @@ fn append_value(
     append_shown(part.allocator(), value.as_slice(), text)
 }
 
-/// Returns how an item marks the place of its batch in an atomic group, `None` where it doesn't.
+/// Returns the place of the batch in an atomic group that `item` marks. `None` if the item is no group marker, or its byte stands for no
+/// place. `part` lends its allocator alone.
 ///
 /// # Errors
 ///
-/// `Memory`.
+/// `Memory` alone.
 pub fn status_of(part: &FilePart, item: &LogItem) -> Result<Option<AtomicGroupStatus>>
     ensures ok { IfOk result (MarksGroup (item_of item.now)) }
     ensures memory { IfErr result (λ e. e ≡ Error.Memory) }
@@ -178,7 +180,7 @@ pub fn status_of(part: &FilePart, item: &LogItem) -> Result<Option<AtomicGroupSt
     }
 }
 
-/// Returns the words for the place of a batch in an atomic group; none for `None`.
+/// Returns the words for the place of a batch in an atomic group, after a comma; an empty text for `None`.
 fn status_words(status: Option<AtomicGroupStatus>) -> &'static str
     ensures { result.now ≡ status_words status }
 {
@@ -190,7 +192,8 @@ fn status_words(status: Option<AtomicGroupStatus>) -> &'static str
     }
 }
 
-/// Appends the entries of an item, and, where values are selected, a line for each selected entry.
+/// Appends the range of indexes of an item's entries, with the place of their block, and ends the line. If values are selected, a line for
+/// each selected entry follows.
 fn append_entries(
     part: &FilePart,
     entries: &[EntryIndex],
@@ -211,7 +214,8 @@ fn append_entries(
     append_lines_if_asked(part, entries, selection, known, text)
 }
 
-/// Appends the rest of the line of `count` entries, the first of which is `first`.
+/// Appends the rest of an item's line: the indexes of `count` consecutive entries from `first` on, and the place of the block that `first`
+/// names. Ends the line.
 fn append_entries_line(first: &EntryIndex, count: usize, text: &mut String) -> AllocResult<()>
     ensures { OnOk result (string_bytes text.new ≡ string_bytes text.old ++ entries_line first.now count) }
 {
@@ -221,7 +225,7 @@ fn append_entries_line(first: &EntryIndex, count: usize, text: &mut String) -> A
     text.push('\n')
 }
 
-/// Appends a line for each selected entry, where values are selected.
+/// Appends a line for each selected entry if values are selected; else nothing.
 fn append_lines_if_asked(
     part: &FilePart,
     entries: &[EntryIndex],
@@ -240,7 +244,7 @@ fn append_lines_if_asked(
     Ok(())
 }
 
-/// Appends where an entry block stands; nothing for `None`.
+/// Appends the offset and the length in bytes of an entry block; nothing for `None`.
 fn append_place(place: &Option<FileBlockHandle>, text: &mut String) -> AllocResult<()>
     ensures { OnOk result (string_bytes text.new ≡ string_bytes text.old ++ place_words place.now) }
 {
@@ -250,7 +254,7 @@ fn append_place(place: &Option<FileBlockHandle>, text: &mut String) -> AllocResu
     }
 }
 
-/// Appends a line for each entry that is selected.
+/// Appends a line for each selected entry, whether or not values are selected.
 fn append_entry_lines(
     part: &FilePart,
     entries: &[EntryIndex],
@@ -269,7 +273,7 @@ fn append_entry_lines(
     Ok(())
 }
 
-/// Appends the line of an entry, if the entry is selected.
+/// Appends the line of an entry if it is selected; else nothing.
 fn append_line_if_selected(
     part: &FilePart,
     entry: &EntryIndex,
@@ -288,7 +292,7 @@ fn append_line_if_selected(
     Ok(())
 }
 
-/// Appends the line of an entry, with its bytes, or why they can't be read.
+/// Appends the line of an entry: its index, and its bytes or the reason why they can't be read.
 fn append_entry(
     part: &FilePart,
     entry: &EntryIndex,
@@ -306,7 +310,7 @@ fn append_entry(
     Ok(())
 }
 
-/// Appends the bytes of an entry, or why they can't be read.
+/// Reads the bytes of an entry, and appends them or the reason why they can't be read.
 fn append_entry_bytes(
     part: &FilePart,
     entry: &EntryIndex,
@@ -323,7 +327,7 @@ fn append_entry_bytes(
     Ok(())
 }
 
-/// Appends the bytes of an entry that were read, or why they can't be.
+/// Appends the bytes of an entry that were read, or the reason why they can't be.
 fn append_bytes_or_loss(alloc: Global, read: BytesOfEntry<'_>, text: &mut String) -> AllocResult<()>
     ensures { OnOk result (Adds (AreBytesShown read.entry) (string_bytes text.old) (string_bytes text.new)) }
 {
@@ -333,14 +337,14 @@ fn append_bytes_or_loss(alloc: Global, read: BytesOfEntry<'_>, text: &mut String
     }
 }
 
-/// Appends that an entry can't be read, and why.
+/// Appends that an entry can't be read, and the reason `loss` in words.
 fn append_loss(loss: Loss, text: &mut String) -> AllocResult<()>
     ensures { OnOk result (Adds (λ t. t ≡ lost_text loss) (string_bytes text.old) (string_bytes text.new)) }
 {
     append_unreadable(loss.words(), text)
 }
 
-/// Appends that an entry can't be read, and `why`.
+/// Appends that an entry can't be read, and the reason `why`.
 fn append_unreadable(why: &str, text: &mut String) -> AllocResult<()>
     ensures { OnOk result (string_bytes text.new ≡ string_bytes text.old ++ (codes "unreadable: " ++ why.now)) }
 {

@@ -1,4 +1,5 @@
-//! What stands in parts of log files, batch by batch: walks, scans for damage, and dumps. Nothing here changes a file.
+//! Reads the batches in parts of log files, one after another: walks that show them to a visitor, scans for damage, and dumps as text.
+//! Nothing here changes a file.
 #![tactic(auto)]
 
 pub mod blocks;

@@ -1,11 +1,11 @@
-//! Numbers of files that are missing.
+//! Numbers of files that are missing between two files of a queue.
 
 ghost use Rattle.std.specs.Prelude.{◌≡◌};
 ghost use Rattle.raft_listing.specs.Missing.{missing_behind, missing_between};
 
 use raft_base::FileSeq;
 
-/// Returns the first and the last number that are missing between the file `last` and the file `next` behind it; `None` where no number is
+/// Returns the first and the last of the file numbers that are missing between `last`, the file before, and `next`. `None` if no number is
 /// missing, or there is no file before.
 pub fn missing_between(last: Option<FileSeq>, next: FileSeq) -> Option<(FileSeq, FileSeq)>
     ensures { result ≡ missing_between last next }
@@ -16,7 +16,7 @@ pub fn missing_between(last: Option<FileSeq>, next: FileSeq) -> Option<(FileSeq,
     }
 }
 
-/// Returns the first and the last number between two numbers; `None` where there is no number between them.
+/// Returns the first and the last of the numbers between `last` and `next`, without these two. `None` if there are none.
 fn missing_behind(last: FileSeq, next: FileSeq) -> Option<(FileSeq, FileSeq)>
     ensures { result ≡ missing_behind last next }
 {

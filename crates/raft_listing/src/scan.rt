@@ -1,4 +1,4 @@
-//! Scans of log files for damage.
+//! Scans of log files for damage: which batches and which entries can't be read.
 
 ghost use Rattle.std.specs.Prelude.{◌≡◌, ◌++◌, ◌<◌, ◌^◌, ℕ, [], List, map, IfErr, IfOk, IfSome, OnOk};
 ghost use Rattle.raft_records.specs.FilePart.{Part};
@@ -16,26 +16,28 @@ use raft_base::{EntryIndex, Error, FileSeq, Result};
 use raft_records::{FilePart, LogItem, LogItemContent};
 use std::alloc::Global;
 
-/// What a scan of a log file finds.
+/// What a scan of a log file has found. It is a visitor of walks: each walk through a part of the file adds what it meets.
 #[derive(Debug, Drop)]
 pub struct FileScan {
     /// The number of the file.
     pub seq: FileSeq,
-    /// How many bytes it has.
+    /// The length of the file in bytes.
     pub len: u64,
-    /// How many batches of it can be read, also behind damage.
+    /// The number of batches that can be read, those after damage too.
     pub batches: u64,
-    /// Up to which byte, from the first one on, its batches can be read: the first byte at which none can be, or its length.
+    /// The offset up to which batches can be read one after another from the first byte on: that of the first byte at which none can be, or
+    /// the length of the file.
     pub read: u64,
-    /// How many bytes at the end weren't searched for batches: from the byte on at which none can be read and past which no header leads; 0
-    /// where there is no such byte.
+    /// The number of bytes at the end that weren't searched for batches: from the byte on at which no batch can be read and from which no
+    /// header leads on. 0 if there is no such byte.
     pub unseen: u64,
     /// What can't be read, in the order of the file.
     pub damages: Vec<Damage>,
 }
 
 impl FileScan {
-    /// Returns a scan of a file with the number `seq` and `len` bytes, which has met nothing yet.
+    /// Returns the scan of a file that has met nothing yet. `seq` is the number of the file, `len` its length in bytes. Nothing is
+    /// allocated.
     pub fn new(alloc: Global, seq: FileSeq, len: u64) -> FileScan
         ensures seq { result.seq ≡ seq }
         ensures len { result.len ≡ len }
@@ -64,6 +66,11 @@ impl PartVisitor for FileScan {
 
     ghost may_fail = { λ e. e ≡ Memory };
 
+    /// Counts a batch, and adds to `damages` its entries that can't be read.
+    ///
+    /// # Errors
+    ///
+    /// `Memory` alone. The batch isn't counted then, but some of its entries may have been added.
     fn visit_batch(
         &mut self,
         part: &FilePart,
@@ -77,6 +84,12 @@ impl PartVisitor for FileScan {
         Ok(())
     }
 
+    /// Adds to `damages` a byte at which no batch can be read, and sets `read` back to it if it is the first. If no header leads on, the
+    /// rest of the file counts as `unseen`.
+    ///
+    /// # Errors
+    ///
+    /// `Memory` alone. The scan is unchanged then.
     fn visit_damage(
         &mut self,
         part: &FilePart,
@@ -95,22 +108,22 @@ impl PartVisitor for FileScan {
     }
 }
 
-/// Entries of an item that stand side by side, none of which can be read, all for one reason.
+/// Neighboring entries of one item that can't be read, all for one reason.
 #[derive(Clone, Copy)]
 pub(crate) struct Stretch {
-    /// The index of the first.
+    /// The index of the first of them.
     pub first: u64,
-    /// The index of the last.
+    /// The index of the last of them.
     pub last: u64,
-    /// Why they can't be read.
+    /// The reason why they can't be read.
     pub loss: Loss,
 }
 
-/// Adds to `damages` what can't be read of the entries of a batch at an offset, item by item.
+/// Adds to `damages` the entries of a batch that can't be read, item by item. `offset` is that of the batch in its file.
 ///
 /// # Errors
 ///
-/// `Memory`. A part may then be added; so it is of the calls below.
+/// `Memory` alone, as of the calls below. Some of the entries may have been added then.
 fn add_batch_losses(
     part: &FilePart,
     offset: u64,
@@ -128,7 +141,8 @@ fn add_batch_losses(
     Ok(())
 }
 
-/// Adds to `damages` what can't be read of the entries of an item; nothing where it has no entries.
+/// Adds to `damages` the entries of an item that can't be read; nothing if the item has no entries. `offset` is that of its batch, and
+/// `known` the entry block that was read already.
 fn add_item_losses(
     part: &FilePart,
     offset: u64,
@@ -150,7 +164,8 @@ fn add_item_losses(
     }
 }
 
-/// Adds to `damages` what can't be read of entries of a region: an element for each stretch of neighbors that can't be, all for one reason.
+/// Adds to `damages` those of `entries`, an item's of one region, that can't be read. Neighbors that can't be read for one reason are added
+/// as one element. `offset` is that of their batch, and `known` the entry block that was read already.
 fn add_entry_losses(
     part: &FilePart,
     offset: u64,
@@ -172,8 +187,9 @@ fn add_entry_losses(
     add_stretch(offset, region, stretch, damages)
 }
 
-/// Goes on behind a stretch with the entry of an index: the stretch becomes longer, or it is added to `damages`, and another one may begin.
-/// Returns the stretch that ends with the entry, `None` where the entry can be read.
+/// Takes in the next entry of an item: `loss` is why it can't be read, or `None`. It makes `stretch` longer if it can; else `stretch` is
+/// added to `damages`, and another one may begin with the entry. Returns the stretch that ends with the entry; `None` if the entry can be
+/// read.
 fn take_in_entry(
     offset: u64,
     region: u64,
@@ -192,8 +208,8 @@ fn take_in_entry(
     Ok(stretch_of(index, loss))
 }
 
-/// Returns the stretch with the entry of an index more; `None` where there is no stretch, or the entry can be read, or can't be for another
-/// reason.
+/// Returns `stretch` made longer by the entry with the index `index`. `None` if there is no stretch, the entry can be read, or it can't be
+/// for another reason.
 fn longer_stretch(stretch: Option<Stretch>, index: u64, loss: Option<Loss>) -> Option<Stretch>
     ensures { IfSome result (IsLonger stretch index loss) }
 {
@@ -208,7 +224,7 @@ fn longer_stretch(stretch: Option<Stretch>, index: u64, loss: Option<Loss>) -> O
     })
 }
 
-/// Returns the stretch that begins with the entry of an index, `None` where the entry can be read.
+/// Returns the stretch of the entry with the index `index` alone; `None` if the entry can be read.
 fn stretch_of(index: u64, loss: Option<Loss>) -> Option<Stretch>
     ensures { result ≡ stretch_of index loss }
 {
@@ -219,7 +235,7 @@ fn stretch_of(index: u64, loss: Option<Loss>) -> Option<Stretch>
     }
 }
 
-/// Adds a stretch to `damages`; nothing for `None`.
+/// Adds a stretch of entries of the region `region` to `damages`; nothing for `None`. `offset` is that of their batch.
 fn add_stretch(
     offset: u64,
     region: u64,
@@ -242,8 +258,9 @@ fn add_stretch(
     Ok(())
 }
 
-/// States what the numbers of a scan are once it has met all that a walk through a part meets: how many batches it met, the first byte
-/// at which none can be read, and how many bytes of the file come from damage on past which no header leads. This is a law: it computes nothing.
+/// States what the numbers of a scan are once it has visited all that a walk through a part meets: how many batches were met, which is the
+/// first byte at which none can be read, and how many bytes of the file stand from the damage on from which no header leads on. This is a
+/// law: it computes nothing.
 pub fn scans_sum_up()
     ensures { (part : Part) (met : List (ℕ × Met)) (old new : FileScan) → old.batches < 2 ^ 64
         → AreVisited IsScanned part old met new → IsSummedUp part met old new }

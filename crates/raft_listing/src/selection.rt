@@ -1,4 +1,4 @@
-//! What a dump prints.
+//! Which items and entries a dump prints.
 
 ghost use Rattle.std.specs.Prelude.{◌≡◌};
 ghost use Rattle.raft_records.specs.Item.{item_of};
@@ -7,21 +7,22 @@ ghost use Rattle.raft_listing.specs.Dumped.{has_any, has_index, has_one, is_of_r
 use raft_base::EntryIndex;
 use raft_records::{LogItem, LogItemContent};
 
-/// What a dump prints of batches.
+/// Which items and entries a dump prints, and whether it prints their bytes.
 #[derive(Clone, Copy, PartialEq, Eq, Debug)]
 pub struct Selection {
-    /// The only region whose items are printed, if there is one.
+    /// The only region whose items are printed; `None` for all regions.
     pub region: Option<u64>,
     /// The least index of the entries that are printed.
     pub from: u64,
-    /// The index below which the entries are that are printed.
+    /// The index after the greatest of the entries that are printed: those from `from` on and below `to` are.
     pub to: u64,
     /// Whether values and the bytes of entries are printed too.
     pub values: bool,
 }
 
 impl Selection {
-    /// Tests whether an item is printed: it is of the selected region, and where it has entries one of them is selected.
+    /// Tests whether an item is printed. It must be of a selected region; if it has entries, one of them must be selected. An item without
+    /// entries is printed whatever the bounds of indexes.
     pub fn has_item(&self, item: &LogItem) -> bool
         ensures { result ≡ is_selected self.now (item_of item.now) }
     {
@@ -32,7 +33,7 @@ impl Selection {
             }
     }
 
-    /// Tests whether the items of a region are printed.
+    /// Tests whether items of the region `region` are printed.
     fn has_region(&self, region: u64) -> bool
         ensures { result ≡ is_of_region self.now region }
     {
@@ -42,14 +43,14 @@ impl Selection {
         }
     }
 
-    /// Tests whether an item with these `entries` is printed: one of them is, or it has none.
+    /// Tests whether an item with these `entries` is printed, as far as indexes decide: one of them is selected, or there are none.
     fn has_any(&self, entries: &[EntryIndex]) -> bool
         ensures { result ≡ has_any self.now entries.now }
     {
         entries.is_empty() || self.has_one(entries)
     }
 
-    /// Tests whether one of the entries is printed.
+    /// Tests whether one of the entries is selected by its index.
     fn has_one(&self, entries: &[EntryIndex]) -> bool
         ensures { result ≡ has_one self.now entries.now }
     {
@@ -61,7 +62,7 @@ impl Selection {
         false
     }
 
-    /// Tests whether an entry is printed.
+    /// Tests whether the index of an entry is selected. The region isn't tested.
     pub fn has_entry(&self, entry: &EntryIndex) -> bool
         ensures { result ≡ has_index self.now entry.now }
     {

@@ -1,4 +1,4 @@
-//! Bytes as text.
+//! Keys, values and entries as text: in quotes, or as hex digits.
 
 ghost use Rattle.std.specs.List.{AllByRecursion};
 ghost use Rattle.std.specs.Prelude.{◌↔◌, IsTrue, OnOk, string_bytes};
@@ -8,11 +8,12 @@ use raft_base::AllocResult;
 use std::alloc::Global;
 use std::str;
 
-/// Appends bytes as they are in quotes, where each is a printable ASCII character and no quote; else as `0x` and hex digits.
+/// Appends `bytes` to `text` in quotes if each of them is a printable ASCII character other than a quote; else as `0x` and two hex digits
+/// for each byte. `alloc` is used for the digits.
 ///
 /// # Errors
 ///
-/// Want of memory. Some of it may then be appended.
+/// Fails only if there is no memory. Some of it may then be appended.
 #[tactic(auto, using(crate::proofs::ShownLemmas::printable_is_utf8))]
 pub fn append_shown(alloc: Global, bytes: &[u8], text: &mut String) -> AllocResult<()>
     ensures { OnOk result (Adds (IsShown bytes.now) (string_bytes text.old) (string_bytes text.new)) }
@@ -27,7 +28,7 @@ pub fn append_shown(alloc: Global, bytes: &[u8], text: &mut String) -> AllocResu
     }
 }
 
-/// Tests whether all bytes are printable ASCII characters, and none is a quote.
+/// Tests whether each byte is a printable ASCII character (a space counts as one) other than a quote.
 fn are_printable(bytes: &[u8]) -> bool
     ensures { IsTrue result ↔ AllByRecursion IsPrintable bytes.now }
 {

@@ -1,4 +1,4 @@
-//! Dumps as text.
+//! The text form of a dump: a line for each batch and each item.
 
 ghost use Rattle.std.specs.Prelude.{◌≡◌, ◌≤◌, ◌++◌, length, string_bytes, OnOk};
 ghost use Rattle.raft_listing.specs.Dumped.{batch_line, damage_line, file_words};
@@ -11,8 +11,9 @@ use raft_base::{AllocResult, Error, Result};
 use raft_records::{FilePart, LogItem};
 use raft_replay::segment::queue_name;
 
-/// The form of text: a line for each batch of which an item is selected, with its file, its offset, its length, and how many items it has,
-/// and behind it a line for each of its items that are selected; where no batch can be read, a line says why.
+/// Writes a dump as text. A batch of which some item is selected gets a line with its file, its offset, its length in bytes and the number
+/// of all its items; a line for each selected item follows. A byte at which no batch can be read gets a line with the reason, whatever is
+/// selected.
 #[derive(Clone, Copy, PartialEq, Eq, Debug)]
 pub struct TextDump;
 
@@ -21,6 +22,12 @@ impl DumpForm for TextDump {
 
     ghost says = { IsMetText };
 
+    /// Appends a line for the batch that stands from position `at` to position `next` of the part's bytes, and below it the lines of its
+    /// selected items. Appends nothing if none of `items` is selected.
+    ///
+    /// # Errors
+    ///
+    /// `Memory`. Some of the text may then be appended.
     fn append_batch(
         &self,
         part: &FilePart,
@@ -40,6 +47,11 @@ impl DumpForm for TextDump {
         Ok(())
     }
 
+    /// Appends a line which says that no batch can be read at position `at` of the part's bytes, and why. It does so whatever is selected.
+    ///
+    /// # Errors
+    ///
+    /// Fails only if there is no memory. Some of the line may then be appended.
     fn append_damage(
         &self,
         part: &FilePart,
@@ -53,7 +65,8 @@ impl DumpForm for TextDump {
     }
 }
 
-/// Appends the file and the offset in front of a line.
+/// Appends the words with which a line begins: the queue and the number of the part's file, and the offset in that file of position `at` of
+/// the part. Fails only if there is no memory; some of the words may then be appended.
 fn append_file_words(part: &FilePart, at: usize, text: &mut String) -> AllocResult<()>
     requires { at ≤ length part.now.bytes }
     ensures { OnOk result (string_bytes text.new ≡ string_bytes text.old ++ file_words part.now at) }
@@ -64,7 +77,8 @@ fn append_file_words(part: &FilePart, at: usize, text: &mut String) -> AllocResu
     write!(text, "{queue} file {} offset {offset}", id.seq)
 }
 
-/// Appends the line of a batch that stands from `at` to `next`, and has `count` items.
+/// Appends the line of a batch with `count` items that stands from position `at` to position `next` of the part's bytes. Fails only if
+/// there is no memory; some of the line may then be appended.
 fn append_batch_line(
     part: &FilePart,
     at: usize,
@@ -80,7 +94,8 @@ fn append_batch_line(
     writeln!(text, " length {len} items {count}")
 }
 
-/// Appends the line of a byte at which no batch can be read for `reason`.
+/// Appends a line which says that no batch can be read at position `at` of the part's bytes, for `reason`. Fails only if there is no
+/// memory; some of the line may then be appended.
 fn append_damage_line(
     part: &FilePart,
     at: usize,

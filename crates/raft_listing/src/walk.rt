@@ -1,4 +1,4 @@
-//! Walks through parts of files, from batch to batch.
+//! Walks through parts of files, from batch to batch, past damage where a header leads on.
 
 ghost use Rattle.std.specs.Prelude.{◌≡◌, ◌≢◌, ℕ, ◌<◌, ◌≤◌, length, drop, map, Some, IfErr, IfNone, IfOk, IfSome, OnOk};
 ghost use Rattle.raft_codec.specs.Reading.{HasNoFront};
@@ -13,7 +13,7 @@ use raft_base::{Error, Result};
 use raft_records::{FilePart, LogItem, next_batch};
 use raft_replay::cutting::batch_length;
 
-/// What is shown the batches of parts of files, in order, and the places where none can be read.
+/// What a walk shows the batches of parts of files to, in order, and the bytes at which no batch can be read.
 pub trait PartVisitor {
     /// A visit at a byte of a part, of what is met there, leaves this.
     ghost visits: { Self → Part → ℕ → Met → Self → Type 0 };
@@ -21,11 +21,11 @@ pub trait PartVisitor {
     /// A visit may fail so.
     ghost may_fail: { Refusal → Type 0 };
 
-    /// Visits a batch that can be read, which stands from `at` to `next`.
+    /// Visits a batch that can be read. It stands from position `at` to position `next` of the part's bytes.
     ///
     /// # Errors
     ///
-    /// The visitor's own, and what it keeps then is its own matter.
+    /// The visitor's own. What the visitor keeps then is its own matter.
     fn visit_batch(
         &mut self,
         part: &FilePart,
@@ -37,12 +37,12 @@ pub trait PartVisitor {
         ensures ok { OnOk result (visits self.old part.now at (batch (map item_of items.now) next) self.new) }
         ensures fault { IfErr result may_fail };
 
-    /// Visits a byte at which no batch can be read for `reason`. `next` is where the batch ends that stands there by its header, `None` where
-    /// no header leads on.
+    /// Visits position `at` of the part's bytes, at which no batch can be read for `reason`. `next` is where the batch ends by the header
+    /// that stands at `at`; `None` if no header stands there, or the batch would end after the part. The walk goes on at `next`.
     ///
     /// # Errors
     ///
-    /// The visitor's own, and what it keeps then is its own matter.
+    /// The visitor's own. What the visitor keeps then is its own matter.
     fn visit_damage(
         &mut self,
         part: &FilePart,
@@ -56,12 +56,13 @@ pub trait PartVisitor {
         ensures fault { IfErr result may_fail };
 }
 
-/// Shows a visitor what stands in a part, from its first byte on: each batch that can be read, and each byte at which none can.
-/// Past such a byte the walk goes on only where a header leads.
+/// Shows `visitor` all that stands in a part, from its first byte on: each batch that can be read, and each byte at which the walk finds
+/// none. From such a byte the walk goes on at the end of the batch that a header there names. It ends if no header stands there, or if the
+/// batch would end after the part.
 ///
 /// # Errors
 ///
-/// The visitor's, and `Memory`. The visitor was shown what stands in front of the failure.
+/// Those of the visitor, and `Memory`. The visitor was shown what stands before the failure.
 pub fn walk_part<V: PartVisitor>(part: &FilePart, visitor: &mut V) -> Result<()>
     ensures ok { OnOk result (HasWalked V.visits part.now visitor.old visitor.new) }
     ensures fault { IfErr result (λ e. e ≢ Error.Memory → V.may_fail e) }
@@ -77,7 +78,8 @@ pub fn walk_part<V: PartVisitor>(part: &FilePart, visitor: &mut V) -> Result<()>
     Ok(())
 }
 
-/// Shows a visitor what stands at a byte of a part. Returns where the walk goes on, `None` where no header leads on.
+/// Shows `visitor` what stands at position `at` of the part's bytes, which is below their number. Returns the position at which the walk
+/// goes on; `None` if no batch can be read there, and no header leads on.
 fn visit_byte<V: PartVisitor>(part: &FilePart, at: usize, visitor: &mut V) -> Result<Option<usize>>
     requires { at < length part.now.bytes }
     ensures ok { IfOk result (λ next. IsVisited V.visits part.now at next visitor.old visitor.new) }
@@ -95,8 +97,8 @@ fn visit_byte<V: PartVisitor>(part: &FilePart, at: usize, visitor: &mut V) -> Re
     }
 }
 
-/// Shows a visitor that at a byte of a part no batch can be read for `reason`. Returns where the walk goes on, `None` where no header leads
-/// on. Want of memory isn't shown, but returned as an error.
+/// Shows `visitor` that no batch can be read at position `at` of the part's bytes, for `reason`. Returns the position at which the walk
+/// goes on; `None` if no header leads on. If `reason` is `Memory`, nothing is shown, and it is returned as the error.
 fn visit_damage<V: PartVisitor>(
     part: &FilePart,
     at: usize,
@@ -118,8 +120,8 @@ fn visit_damage<V: PartVisitor>(
     }
 }
 
-/// Shows a visitor that at a byte of a part no batch can be read for `reason`, which isn't want of memory. Returns where the walk goes on,
-/// `None` where no header leads on.
+/// Shows `visitor` that no batch can be read at position `at` of the part's bytes, for a `reason` other than `Memory`. Returns the position
+/// at which the walk goes on; `None` if no header leads on.
 fn visit_unreadable<V: PartVisitor>(
     part: &FilePart,
     at: usize,
@@ -141,7 +143,8 @@ fn visit_unreadable<V: PartVisitor>(
     Ok(next)
 }
 
-/// Returns where the batch at a byte ends by the header that stands there; `None` where none stands there, or the batch isn't whole by it.
+/// Returns the position in the part's bytes at which the batch at position `at` ends by its header. `None` if no header stands there, or
+/// the batch would end after the part.
 fn end_by_header(part: &FilePart, at: usize) -> Option<usize>
     requires { at ≤ length part.now.bytes }
     ensures some { IfSome result (EndsByHeader part.now at) }

@@ -1,5 +1,5 @@
-//! Tables of regions and the contexts that rebuild them from log files: the names of `raft_table`, `raft_history`,
-//! `raft_accessor` and `raft_contexts` that users need.
+//! The tables of regions, and the contexts that rebuild them from log files: the names of `raft_table`,
+//! `raft_history`, `raft_accessor` and `raft_contexts` that users need.
 #![tactic(auto)]
 
 pub use raft_accessor::{

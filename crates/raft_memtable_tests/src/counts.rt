@@ -1,4 +1,5 @@
-//! Written and deleted counts of contexts: of those that only replay, and where a clean meets an older table.
+//! Tests how many records contexts count as written and deleted: where they only replay, and where a clean meets an
+//! older table.
 
 use crate::overlays::{Word, read};
 use LogQueue::{Append, Rewrite};
@@ -7,10 +8,11 @@ use raft_memtable::{LogQueue, MemTableRecoverContext, Result};
 use raft_trials::again;
 use std::alloc::Global;
 
-/// The live count of the append queue, and what was written to the rewrite queue and deleted from it.
+/// How many records are live in the append queue, how many were written to the rewrite queue, and how many deleted from
+/// it.
 type Counts = (usize, usize, usize);
 
-/// Returns the counts of what a context has read.
+/// Returns the counts of the tables of a context.
 fn counts_of(context: MemTableRecoverContext) -> Result<Counts> {
     let accessor = context.finish()?;
     let stats = accessor.stats();
@@ -21,8 +23,8 @@ fn counts_of(context: MemTableRecoverContext) -> Result<Counts> {
     ))
 }
 
-/// What a context reads of a queue, what a newer one reads of a queue from there on, if there is one, and the counts of
-/// both together.
+/// What a context reads of a queue; what a newer one reads of a queue, if there is one; and the counts of both
+/// together.
 type Row = (
     LogQueue,
     &'static [Word],
@@ -86,11 +88,13 @@ static ROWS: [Row; 17] = [
     ),
 ];
 
+/// Returns the rows of contexts.
 fn rows() -> &'static [Row] {
     &ROWS
 }
 
-/// Returns the counts of a row's contexts: the older one merged with the newer one, or the newer one put over it.
+/// Returns the counts of a row's contexts: the newer one is merged into the older one, or put over it, if it is of the
+/// append queue.
 fn counted(alloc: Global, row: &Row) -> Result<Counts> {
     let (queue, older, newer, _) = *row;
     let mut context = read(alloc, queue, older)?;

@@ -7,7 +7,7 @@ use raft_memtable::{FileId, MemTableRecoverContext, Result};
 use raft_records::{FilePart, LogBatch, LogFileContext, ReadBatch, Version, next_batch};
 use std::alloc::Global;
 
-/// Returns a file that holds this batch alone.
+/// Makes the bytes of a batch, and returns them as the only ones of a file.
 pub(crate) fn file_of(alloc: Global, file: FileId, mut batch: LogBatch) -> Result<FilePart>
     requires { batch.stage ≡ is_open }
 {
@@ -25,7 +25,7 @@ pub(crate) fn replay_file(context: &mut MemTableRecoverContext, file: &FilePart)
     Ok(())
 }
 
-/// Returns a context that replayed the batches of these files.
+/// Returns a context that has replayed the batches of these files.
 pub(crate) fn replayed(alloc: Global, files: &[FilePart]) -> Result<MemTableRecoverContext> {
     let mut context = MemTableRecoverContext::new(alloc)?;
     for file in files {
@@ -34,7 +34,7 @@ pub(crate) fn replayed(alloc: Global, files: &[FilePart]) -> Result<MemTableReco
     Ok(context)
 }
 
-/// Replays the batch of a file as it was read, as a batch of another file or of the same.
+/// Reads the batch of a file, and replays it, without a copy of its items, as one of the file `id`.
 pub(crate) fn replay_read(
     context: &mut MemTableRecoverContext,
     file: &FilePart,

@@ -1,4 +1,4 @@
-//! Batches with group markers, and what tables have of them.
+//! Batches with group markers, and what tables have after them.
 
 ghost use Rattle.std.specs.Prelude.{◌≡◌, OnOk};
 ghost use Rattle.raft_records.specs.LogBatch.{is_open};
@@ -17,7 +17,7 @@ pub(crate) fn file(seq: u64) -> FileId {
     FileId::new(LogQueue::Rewrite, seq)
 }
 
-/// Adds the group marker of a group with this status.
+/// Adds a group marker of a group with a status to a batch.
 pub(crate) fn add_marker(
     alloc: Global,
     group: u64,
@@ -38,7 +38,7 @@ pub(crate) fn add_marker(
     }
 }
 
-/// Returns the bytes of a batch with this group marker of a group, which puts a key in a region.
+/// Returns a part with a batch that has a group marker and puts a key of a region.
 pub(crate) fn part_of(
     alloc: Global,
     group: u64,
@@ -57,10 +57,10 @@ pub(crate) fn part_of(
     file_of(alloc, file(seq), batch)
 }
 
-/// Which of the four keys a region has, and the files of its last group.
+/// Which of the four keys a region has, and the first and the last file of its last atomic group.
 pub(crate) type Effect = ([bool; 4], Option<(u64, u64)>);
 
-/// Returns what the tables have of a region.
+/// Returns which keys the table of a region has, and the files of its last group.
 pub(crate) fn seen_of(accessor: &MemTableAccessor, region: u64) -> Effect {
     match accessor.get(region) {
         Some(table) => (

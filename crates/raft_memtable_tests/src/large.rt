@@ -1,4 +1,4 @@
-//! Contexts with many regions, many groups, long stretches, many deleted keys, long runs and many batches.
+//! Tests contexts with many regions, many groups, long stretches, many deleted keys, long runs and many batches.
 
 use crate::files::{file_of, replay_file, replayed};
 use crate::groups::{add_marker, file, part_of, seen_of};
@@ -27,8 +27,8 @@ const DELETED: u64 = 100;
 /// How many batches a context replays.
 const BATCHES: u64 = 100_000;
 
-/// Returns a context of a batch with this status for each group, from one group on to the last and then the others, in
-/// files from one on. Group n puts a key in region n.
+/// Returns a context that has replayed a batch with this status for each group: from `first_group` on to the last one,
+/// and then the others, in the files from `first_seq` on. The batch of group n puts a key of region n.
 fn groups(
     alloc: Global,
     status: AtomicGroupStatus,
@@ -48,8 +48,8 @@ fn groups(
     Ok(context)
 }
 
-/// Tests whether all groups take effect in a merge with a context that ends them: the last half of them first, so that
-/// some groups lie in others, and some reach from before another into it.
+/// Tests whether all groups take effect in a merge with a context that ends them, the second half of them first, so
+/// that some groups are within others, and some begin before another one and end within it.
 fn groups_take_effect(alloc: Global) -> Result<bool> {
     let mut context = groups(alloc, Begin, b"k1", 1, 0)?;
     context.merge(
@@ -66,17 +66,18 @@ fn groups_take_effect(alloc: Global) -> Result<bool> {
     Ok(all)
 }
 
-/// What is done to a key.
+/// A change of a key.
 #[derive(Clone, Copy, PartialEq)]
 enum Change {
-    /// With a value of so many bytes.
+    /// Puts a value of so many bytes.
     Put(usize),
     Delete,
 }
 
 use Change::{Delete, Put};
 
-/// Changes the key with a number, which the number spells; that with the number 0 is empty.
+/// Adds a change of the key with a number to a batch. The key is the eight bytes of the number; that with the number 0
+/// is empty.
 fn change_key(
     alloc: Global,
     batch: &mut LogBatch,
@@ -101,8 +102,8 @@ fn change_key(
     }
 }
 
-/// Returns a part whose batch changes the keys with these numbers in a region, or the empty key in the regions with
-/// these ids; with a group marker of group 9 where there is a status.
+/// Returns a part whose batch changes the keys with these numbers in region 5, if `is_of_one_region`, else the empty
+/// key in the regions with these numbers; with a group marker of group 9, if a status is given.
 fn changes(
     alloc: Global,
     file: FileId,
@@ -128,7 +129,7 @@ fn changes(
     file_of(alloc, file, batch)
 }
 
-/// Returns how many tables there are, and how many keys they have.
+/// Returns how many tables there are, and how many keys they have together.
 fn counts(accessor: &MemTableAccessor) -> (u64, usize) {
     let tables = accessor.fold(0u64, |count: u64, _: &MemTable| count.saturating_add(1));
     let keys = accessor.fold(0usize, |count: usize, table: &MemTable| {
@@ -137,7 +138,7 @@ fn counts(accessor: &MemTableAccessor) -> (u64, usize) {
     (tables, keys)
 }
 
-/// Returns the tables of the contexts of two parts, merged.
+/// Replays two parts in a context each, merges these, and returns the tables.
 fn merge_parts(
     alloc: Global,
     queue: LogQueue,
@@ -149,13 +150,13 @@ fn merge_parts(
     context.finish()
 }
 
-/// Tests whether region 5 has the first key and the last that a group puts in two batches.
+/// Tests whether region 5 has the first and the last key that a group puts in two batches.
 fn has_ends(accessor: &MemTableAccessor) -> bool {
     let last = (2 * LONG - 1).to_be_bytes();
     accessor.get(5).is_some_and(|table| table.get(&last).is_some() && table.get(b"").is_some())
 }
 
-/// Tests whether a stretch of many items takes effect whole when a batch of as many ends the group.
+/// Tests whether a group of many items takes effect as a whole when a batch with as many items ends it.
 fn stretch_takes_effect(alloc: Global) -> Result<bool> {
     let begun = changes(alloc, file(1), Some(Begin), 0..LONG, true, Put(1))?;
     let ended = changes(alloc, file(2), Some(End), LONG..2 * LONG, true, Put(1))?;
@@ -169,7 +170,7 @@ const APPENDED: FileId = FileId {
     seq: 1,
 };
 
-/// Tests whether a key for each of many regions is merged with one for each of as many, of which half are the same.
+/// Tests whether contexts that put a key of many regions each, half of which are the same, are merged.
 fn regions_are_merged(alloc: Global) -> Result<bool> {
     let older = changes(alloc, APPENDED, None, 0..REGIONS, false, Put(1))?;
     let newer = changes(
@@ -184,8 +185,8 @@ fn regions_are_merged(alloc: Global) -> Result<bool> {
     Ok(counts(&accessor) == (900, 900))
 }
 
-/// Returns a context that read such changes of keys in region 5, each of the keys with the numbers from one on and
-/// below another.
+/// Returns a context that has read changes of keys in region 5: each row changes the keys with the numbers from its
+/// first on and below its second.
 fn read_changes(alloc: Global, rows: &[(u64, u64, Change)]) -> Result<MemTableRecoverContext> {
     let mut context = MemTableRecoverContext::new(alloc)?;
     for &(first, end, change) in rows {
@@ -195,8 +196,8 @@ fn read_changes(alloc: Global, rows: &[(u64, u64, Change)]) -> Result<MemTableRe
     Ok(context)
 }
 
-/// Returns a context that puts the keys from the empty one on and deletes as many others, merged with a newer one that
-/// deletes all that were put but the last.
+/// Returns a context that has put keys, from the empty one on, and deleted as many others, merged with a newer one that
+/// has deleted all that were put but the last.
 fn deletions(alloc: Global) -> Result<MemTableRecoverContext> {
     let older = [
         (0, DELETED + 1, Put(1 << 16)),
@@ -208,8 +209,8 @@ fn deletions(alloc: Global) -> Result<MemTableRecoverContext> {
     Ok(context)
 }
 
-/// Tests whether the keys that both contexts delete, the empty one too, are gone, also those that an older context put,
-/// and the other key stays.
+/// Tests whether the keys that both contexts delete, the empty one among them, are removed, also if an older context
+/// has put them, and the other key stays.
 fn deletions_are_merged(alloc: Global) -> Result<bool> {
     let mut context = read_changes(alloc, &[(DELETED + 1, 2 * DELETED + 1, Put(1))])?;
     context.merge(deletions(alloc)?, LogQueue::Append)?;
@@ -225,9 +226,10 @@ fn has_long_value(accessor: &MemTableAccessor, number: u64) -> bool {
     value.is_some_and(|value| value.len() == 1 << 16 && value.iter().all(|byte| *byte == 0xab))
 }
 
-/// The first index of region 1 and the last, and how many of its records are live in each queue.
+/// The first and the last index of region 1, and how many records are live in each queue.
 type Shape = (Option<u64>, Option<u64>, usize, usize);
 
+/// Returns the first and the last index of region 1, and how many records are live in each queue.
 fn shape(accessor: &MemTableAccessor) -> Shape {
     let table = accessor.get(1);
     let stats = accessor.stats();
@@ -243,7 +245,7 @@ const OLDER: Word = Word::Run(0, 5_000);
 
 const NEWER: Word = Word::Run(4_000, 9_000);
 
-/// The queues of an older long run and of a newer one, and what region 1 has of both.
+/// The queues of an older and of a newer long run, and what region 1 has after both.
 static RUNS: [(LogQueue, LogQueue, Shape); 3] = [
     (
         LogQueue::Append,
@@ -262,11 +264,13 @@ static RUNS: [(LogQueue, LogQueue, Shape); 3] = [
     ),
 ];
 
+/// Returns the rows of two long runs.
 fn runs() -> &'static [(LogQueue, LogQueue, Shape)] {
     &RUNS
 }
 
-/// Returns the contexts of an older long run and of a newer one, merged, or the newer one put over the older one.
+/// Reads an older and a newer long run in a context each. Returns both merged, or, if they are of different queues, the
+/// newer one put over the older one.
 fn both_runs(alloc: Global, older: LogQueue, newer: LogQueue) -> Result<MemTableRecoverContext> {
     let mut context = read(alloc, older, &[OLDER])?;
     let appended = read(alloc, newer, &[NEWER])?;
@@ -278,7 +282,8 @@ fn both_runs(alloc: Global, older: LogQueue, newer: LogQueue) -> Result<MemTable
     Ok(context)
 }
 
-/// Tests whether long runs are merged and put over each other so, and so are two that one context reads.
+/// Tests whether long runs are merged and put over each other as the rows say, and two long runs that one context reads
+/// give the same.
 fn runs_are_merged(alloc: Global) -> Result<bool> {
     for &(older, newer, merged) in runs() {
         if shape(&both_runs(alloc, older, newer)?.finish()?) != merged {
@@ -289,7 +294,7 @@ fn runs_are_merged(alloc: Global) -> Result<bool> {
     Ok(shape(&read.finish()?) == (Some(0), Some(8_999), 9_000, 0))
 }
 
-/// Returns a context that replayed many batches, each a compaction of region 5 that was not read from a file.
+/// Returns a context that has replayed many batches, each a compaction of region 5 that wasn't read from a file.
 fn long_context(alloc: Global) -> Result<MemTableRecoverContext> {
     let mut context = MemTableRecoverContext::new(alloc)?;
     for _ in 0..BATCHES {
@@ -300,13 +305,14 @@ fn long_context(alloc: Global) -> Result<MemTableRecoverContext> {
     Ok(context)
 }
 
-/// Tests whether two contexts of many batches are merged, and have the table of the region alone.
+/// Tests whether two contexts of many batches are merged, and have a single table then.
 fn many_batches_are_merged(alloc: Global) -> Result<bool> {
     let mut context = long_context(alloc)?;
     context.merge(long_context(alloc)?, LogQueue::Append)?;
     Ok(counts(&context.finish()?) == (1, 0))
 }
 
+/// Tests all merges of large contexts.
 fn all_are_merged(alloc: Global) -> Result<bool> {
     Ok(
         groups_take_effect(alloc)?

@@ -1,4 +1,4 @@
-//! All lists of four group markers, read by one context and by several that are merged.
+//! Tests all lists of four group markers, read by one context and by several that are merged.
 
 use crate::files::{replay_read, replayed};
 use crate::groups::{Effect, KEYS, part_of, seen_of};
@@ -13,7 +13,8 @@ type Statuses = [AtomicGroupStatus; 4];
 
 const STATUSES: [AtomicGroupStatus; 3] = [Begin, Middle, End];
 
-/// How many batches each context replays, and which contexts take in their newer neighbors, one after the other.
+/// How many batches each context replays; and then the positions of the contexts into which the newer neighbors are
+/// merged, one merge after the other.
 type Cutting = (&'static [usize], &'static [usize]);
 
 static CUTTINGS: [Cutting; 15] = [
@@ -34,11 +35,12 @@ static CUTTINGS: [Cutting; 15] = [
     (&[1, 1, 1, 1], &[2, 1, 0]),
 ];
 
+/// Returns the ways in which four batches are read and merged.
 fn cuttings() -> &'static [Cutting] {
     &CUTTINGS
 }
 
-/// Tests whether group markers of a group, one after the other, are a whole stretch.
+/// Tests whether group markers in a row are a whole group: a `Begin`, any number of `Middle`s and an `End`.
 fn is_whole(statuses: &[AtomicGroupStatus]) -> bool {
     match statuses {
         [Begin, middles @ .., End] => middles.iter().all(|status| *status == Middle),
@@ -46,8 +48,8 @@ fn is_whole(statuses: &[AtomicGroupStatus]) -> bool {
     }
 }
 
-/// Returns what the group markers ask for: each whole stretch has the keys of its batches, and is the region's last
-/// group if none follows it.
+/// Returns what these group markers have to give: the keys of the batches of each whole group, and the files of the
+/// last one.
 fn owed(statuses: &Statuses) -> Effect {
     let mut keys = [false; 4];
     let mut group = None;
@@ -89,7 +91,7 @@ fn parts_of(alloc: Global, statuses: &Statuses) -> Result<Vec<FilePart>> {
     Ok(parts)
 }
 
-/// Returns contexts that replay so many batches each.
+/// Returns contexts that have replayed so many of the batches each, one after the other.
 fn contexts(
     alloc: Global,
     parts: &[FilePart],
@@ -105,7 +107,7 @@ fn contexts(
     Ok(contexts)
 }
 
-/// Has the context at a place take in its newer neighbor.
+/// Merges into the context at a position its newer neighbor.
 fn merge_at(contexts: &mut Vec<MemTableRecoverContext>, at: usize) -> Result<()> {
     if at < contexts.len().saturating_sub(1) {
         let newer = contexts.remove(at + 1);
@@ -114,7 +116,7 @@ fn merge_at(contexts: &mut Vec<MemTableRecoverContext>, at: usize) -> Result<()>
     Ok(())
 }
 
-/// Returns the tables of batches that are read and merged so.
+/// Returns the tables of batches that are read and merged as `cutting` says; `None` where that leaves several contexts.
 fn tables(alloc: Global, parts: &[FilePart], cutting: Cutting) -> Result<Option<MemTableAccessor>> {
     let (lengths, merges) = cutting;
     let mut contexts = contexts(alloc, parts, lengths)?;
@@ -127,7 +129,7 @@ fn tables(alloc: Global, parts: &[FilePart], cutting: Cutting) -> Result<Option<
     }
 }
 
-/// Tests whether tables have this effect, and nothing beside it.
+/// Tests whether the tables have this effect, and nothing else.
 fn have_effect(tables: &MemTableAccessor, effect: Effect) -> bool {
     let records = effect.0.iter().filter(|has| **has).count();
     seen_of(tables, 5) == effect
@@ -136,7 +138,7 @@ fn have_effect(tables: &MemTableAccessor, effect: Effect) -> bool {
         && tables.is_empty() == (records == 0)
 }
 
-/// Returns the tables of batches that one context replays as they were read.
+/// Returns the tables of batches that one context replays without copies of their items.
 fn tables_as_read(alloc: Global, parts: &[FilePart]) -> Result<MemTableAccessor> {
     let mut context = MemTableRecoverContext::new(alloc)?;
     for part in parts {
@@ -145,7 +147,7 @@ fn tables_as_read(alloc: Global, parts: &[FilePart]) -> Result<MemTableAccessor>
     context.finish()
 }
 
-/// Tests whether these group markers have the effect that is owed, however the batches are read and merged.
+/// Tests whether these group markers have the effect that they should have, however the batches are read and merged.
 fn has_effect(alloc: Global, statuses: &Statuses) -> Result<bool> {
     let parts = parts_of(alloc, statuses)?;
     let effect = owed(statuses);
@@ -158,7 +160,7 @@ fn has_effect(alloc: Global, statuses: &Statuses) -> Result<bool> {
     Ok(have_effect(&tables_as_read(alloc, parts.as_slice())?, effect))
 }
 
-/// Tests whether all lists of group markers that begin with these two have their effects.
+/// Tests whether all lists of group markers that begin with these two have the effects that they should have.
 fn all_behind_have_effects(
     alloc: Global,
     first: AtomicGroupStatus,

@@ -1,4 +1,4 @@
-//! Hundreds of regions of one slot, read by one context and merged into another.
+//! Tests hundreds of regions of one slot, read by one context and merged into another.
 
 use raft_memtable::{FileId, FileSeq, LogQueue, MemTable, MemTableRecoverContext, Result, slot_of};
 use raft_records::{Command, LogItemBatch};
@@ -8,9 +8,10 @@ use std::alloc::Global;
 /// How many regions of slot 5 a newer context names.
 const REGIONS: usize = 300;
 
-/// The regions below this one have more of slot 5 than that.
+/// A number below which more regions than that belong to slot 5.
 const LIMIT: u64 = 60_000;
 
+/// Returns regions that all belong to slot 5.
 fn regions_of_slot(alloc: Global) -> Result<Vec<u64>> {
     let mut regions = Vec::new(alloc);
     for region in 0..LIMIT {
@@ -21,7 +22,7 @@ fn regions_of_slot(alloc: Global) -> Result<Vec<u64>> {
     Ok(regions)
 }
 
-/// Returns a context that replayed a batch of the append queue with a compaction of each region.
+/// Returns a context that has replayed a batch, in append file `seq`, with a compaction of each region.
 fn context_of(alloc: Global, regions: &[u64], seq: FileSeq) -> Result<MemTableRecoverContext> {
     let mut batch = LogItemBatch::default(alloc);
     for &region in regions {
@@ -32,7 +33,7 @@ fn context_of(alloc: Global, regions: &[u64], seq: FileSeq) -> Result<MemTableRe
     Ok(context)
 }
 
-/// Tests whether all regions have a region mark and a table where an older context with the first of them, so many, is
+/// Tests whether all regions have a region mark and a table once an older context, with the first `older` regions, is
 /// merged with a newer one.
 fn are_merged(alloc: Global, older: usize) -> Result<bool> {
     let regions = regions_of_slot(alloc)?;

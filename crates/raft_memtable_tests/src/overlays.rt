@@ -1,4 +1,4 @@
-//! Contexts of the rewrite queue that take in the context of the append queue.
+//! Tests contexts of the rewrite queue over which the context of the append queue is put.
 
 ghost use Rattle.std.specs.Prelude.{◌≡◌, OnOk};
 ghost use Rattle.raft_records.specs.LogBatch.{is_open};
@@ -13,10 +13,10 @@ use raft_samples::{Proposal, Proposals};
 use raft_trials::again;
 use std::alloc::Global;
 
-/// What a batch says of region 1.
+/// What a batch does to region 1.
 #[derive(Clone, Copy)]
 pub(crate) enum Word {
-    /// Entries from the first index to below the second.
+    /// Adds entries from the first index on and below the second.
     Run(u64, u64),
     Compact(u64),
     Truncate(u64),
@@ -27,7 +27,7 @@ pub(crate) enum Word {
 
 use Word::{Clean, Compact, Delete, Put, Run, Truncate};
 
-/// Adds what a batch says of a region.
+/// Adds an item for what a word does to a region.
 fn add(alloc: Global, region: u64, word: Word, batch: &mut LogBatch) -> Result<()>
     requires { batch.old.stage ≡ is_open }
     ensures { OnOk result (batch.new.stage ≡ is_open) }
@@ -53,14 +53,14 @@ fn add(alloc: Global, region: u64, word: Word, batch: &mut LogBatch) -> Result<(
     }
 }
 
-/// Returns the bytes of a batch that says this.
+/// Returns a part with a batch of what a word does to a region.
 fn part(alloc: Global, region: u64, word: Word, file: FileId) -> Result<FilePart> {
     let mut batch = LogBatch::default(alloc);
     add(alloc, region, word, &mut batch)?;
     file_of(alloc, file, batch)
 }
 
-/// Replays a batch for each word, each of a file of its own.
+/// Replays a batch for each word, each in a file of its own.
 fn replay(
     alloc: Global,
     context: &mut MemTableRecoverContext,
@@ -77,7 +77,7 @@ fn replay(
     Ok(())
 }
 
-/// Returns a context of these words on region 1.
+/// Returns a context that has read batches of a queue with these words on region 1.
 pub(crate) fn read(
     alloc: Global,
     queue: LogQueue,
@@ -88,7 +88,7 @@ pub(crate) fn read(
     Ok(context)
 }
 
-/// What region 1 has when the append queue is taken in.
+/// What region 1 has once the context of the append queue was put over.
 #[derive(Clone, Copy, PartialEq, Debug)]
 struct Shape {
     /// Whether it has a table.
@@ -100,7 +100,7 @@ struct Shape {
     append: usize,
     rewrite: usize,
     cleaned: usize,
-    /// Whether the other regions are as the rewrite queue leaves them.
+    /// Whether the other regions are as the rewrite queue has left them.
     beside: bool,
 }
 
@@ -116,7 +116,7 @@ const NONE: Shape = Shape {
     beside: true,
 };
 
-/// What both queues say of region 1, and what it has.
+/// What both queues do to region 1, and what it has then.
 struct Row {
     rewritten: &'static [Word],
     appended: &'static [Word],
@@ -318,10 +318,10 @@ static ROWS: [Row; 18] = [
     },
 ];
 
-/// What the rewrite queue alone says of region 2.
+/// What the rewrite queue does to region 2, which the append queue doesn't name.
 const BESIDE: Word = Run(3, 6);
 
-/// Tests whether region 2 has its entries, and region 3 no table, whose group doesn't end.
+/// Tests whether region 2 has its entries, and region 3 no table, since its group doesn't end.
 fn are_beside(accessor: &MemTableAccessor) -> bool {
     let table = accessor.get(2);
     let first = table.and_then(|table| table.first_index());
@@ -329,7 +329,7 @@ fn are_beside(accessor: &MemTableAccessor) -> bool {
     (first, last) == (Some(3), Some(5)) && accessor.get(3).is_none()
 }
 
-/// Returns what region 1 has. The three entries of region 2 aren't counted.
+/// Returns what region 1 has. The three entries of region 2 are subtracted from the counts.
 fn shape_of(accessor: &MemTableAccessor) -> Shape {
     let table = accessor.get(1);
     Shape {
@@ -347,11 +347,13 @@ fn shape_of(accessor: &MemTableAccessor) -> Shape {
     }
 }
 
+/// Returns the rows of overlays.
 fn rows() -> &'static [Row] {
     &ROWS
 }
 
-/// Returns a context of the rewrite queue: region 2, a group of region 3 that waits, and these words on region 1.
+/// Returns a context of the rewrite queue with these words on region 1, entries of region 2, and a group of region 3
+/// that waits for its end.
 fn rewritten_beside(alloc: Global, words: &[Word]) -> Result<MemTableRecoverContext> {
     let mut context = MemTableRecoverContext::new(alloc)?;
     replay(alloc, &mut context, LogQueue::Rewrite, 2, &[BESIDE])?;
@@ -361,7 +363,7 @@ fn rewritten_beside(alloc: Global, words: &[Word]) -> Result<MemTableRecoverCont
     Ok(context)
 }
 
-/// Returns the context of words of the rewrite queue that took in that of words of the append queue.
+/// Returns the context of words of the rewrite queue, over which that of words of the append queue was put.
 fn overlaid(
     alloc: Global,
     rewritten: &[Word],
@@ -372,7 +374,7 @@ fn overlaid(
     Ok(context)
 }
 
-/// Tests whether a row's tables are those that it owes.
+/// Tests whether region 1 has what a row says.
 fn holds(alloc: Global, row: &Row) -> Result<bool> {
     let tables = overlaid(alloc, row.rewritten, row.appended)?.finish()?;
     Ok(shape_of(&tables) == row.shape)

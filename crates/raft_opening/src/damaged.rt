@@ -1,4 +1,4 @@
-//! The batches of a file whose entries are damaged, by where they begin.
+//! The damaged batches of a file, by their offsets.
 
 ghost use Rattle.std.specs.Prelude.{◌≡◌, IfErr, IfOk};
 ghost use Rattle.raft_opening.specs.NamedBatches.{AreNamed};
@@ -9,11 +9,12 @@ use raft_engine::found::unless_memory;
 use raft_prefix::entry_blocks::damage_at;
 use std::alloc::Global;
 
-/// Returns the batches of `file` that begin at `offsets`, and whose entries are damaged, each with the error that says so.
+/// Returns the batches of `file` that begin at `offsets`, each with the error with which its damaged entries are refused. Whether
+/// they are damaged isn't tested.
 ///
 /// # Errors
 ///
-/// `Memory`.
+/// `Memory` alone.
 pub fn named_batches(alloc: Global, file: FileId, offsets: &[u64]) -> Result<Vec<DamagedBatch>>
     ensures ok { IfOk result (λ batches. AreNamed file offsets.now batches.items) }
     ensures memory { IfErr result (λ e. e ≡ Error.Memory) }

@@ -1,4 +1,4 @@
-//! What stands in a found file behind its readable prefix.
+//! The check of what stands in a found file after its readable prefix.
 
 ghost use Rattle.std.specs.Prelude.{◌≡◌, ◌≢◌, ◌⊎◌, ℕ, IfErr, OnOk};
 ghost use Rattle.raft_engine_prefixes.specs.TornTails.{IsDamagedAt};
@@ -12,12 +12,11 @@ use raft_engine::found::{check_beginning, followed, of_elsewhere, uncut};
 use raft_records::FilePart;
 use raft_tail::{is_broken_off, next_sound, signed_elsewhere};
 
-/// Checks that `mode` allows `rest` to be cut off its file: all that stands there from the first byte on at which no batch can be
-/// read.
+/// Checks that `mode` allows to cut `rest` off its file: all bytes from the first one on at which no batch can be read.
 ///
 /// # Errors
 ///
-/// `Corruption` where the mode refuses that, or the file is of the other version; `InvalidArgument` where it is of raft-engine;
+/// `Corruption` if `mode` refuses that, or the file is of the other version; `InvalidArgument` if it is one of raft-engine;
 /// `Memory`.
 pub fn check_rest(mode: RecoveryMode, rest: &FilePart) -> Result<()>
     ensures tolerated { (whole : Part) (at : ℕ) → IsRestOf whole at rest.now → OnOk result (¬ (IsRefusedAt mode whole at)) }
@@ -35,11 +34,12 @@ pub fn check_rest(mode: RecoveryMode, rest: &FilePart) -> Result<()>
     }
 }
 
-/// Checks that `rest`, which stands in a file where its reading stops, isn't damage, but something that a crash can leave.
+/// Checks that `rest`, at whose first byte no batch can be read, isn't damage. It isn't if it can be all that a crash left of one
+/// batch, or if no batch stands in it that can be read or is signed for another file.
 ///
 /// # Errors
 ///
-/// `Corruption`, which names both places; `Memory`.
+/// `Corruption`, which names both places, if it is damage; `Memory`.
 fn check_undamaged(rest: &FilePart) -> Result<()>
     ensures ok { (whole : Part) (at : ℕ) → IsRestOf whole at rest.now → OnOk result (¬ (IsDamagedAt whole at)) }
     ensures refused { (whole : Part) (at : ℕ) → IsRestOf whole at rest.now → IfErr result (λ e. e ≢ Error.Memory

@@ -1,4 +1,4 @@
-//! An engine that is opened over a folder, whose files are read in pieces.
+//! Opening an engine over a folder, whose files are read in pieces.
 
 ghost use Rattle.std.specs.Prelude.{map, IfOk};
 ghost use Rattle.raft_recover.specs.FileRecovery.{AreSizesOf};
@@ -13,19 +13,22 @@ use raft_reading::FileSize;
 use raft_recover::SharedFiles;
 use std::thread::Threads;
 
-/// The files of a queue in a folder: their paths, and how long they are.
+/// The files of a queue in a folder.
 #[derive(Drop)]
 struct QueuePaths {
+    /// Their numbers and paths, oldest first.
     paths: NumberedPaths,
+    /// Their numbers and lengths, oldest first.
     sizes: Vec<FileSize>,
 }
 
-/// Opens the engine of the folder at `path` by `workers` threads, as `Engine::open_telling` does, and reads its files in pieces: see
-/// [`open_in_pieces`]. A folder that isn't there yet is made.
+/// Opens the engine of the folder at `path` by `workers` threads, as [`Engine::open_telling`] does, and reads its files in
+/// pieces, as [`open_in_pieces`] does. A folder that isn't there yet is made. Returns with the engine what was cut off, and which
+/// batches of the last append file have damaged entries.
 ///
 /// # Errors
 ///
-/// Those of `FolderFiles::open`, and of [`open_in_pieces`]. The folder is closed then.
+/// Those of [`FolderFiles::open`], and of [`open_in_pieces`]. The folder is closed then.
 pub fn open_folder<'a, R: FolderHost + SharedFiles + Threads>(
     rt: &'a R,
     path: &'a str,
@@ -54,11 +57,11 @@ pub fn open_folder<'a, R: FolderHost + SharedFiles + Threads>(
     }
 }
 
-/// Returns the paths and the lengths of a queue's files in a folder.
+/// Returns the paths and the lengths of the files of `queue` in a folder.
 ///
 /// # Errors
 ///
-/// Those of the folder.
+/// Those of the folder; `Memory`.
 fn paths_in<R: FolderHost>(
     rt: &R,
     files: &FolderFiles<'_, R>,

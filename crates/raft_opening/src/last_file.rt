@@ -1,4 +1,4 @@
-//! The last file of a queue, of which each byte is read once.
+//! Reading the last file of a queue, each byte once.
 
 ghost use Rattle.std.specs.Prelude.{◌≡◌, List, [], IfOk};
 ghost use Rattle.raft_opening.specs.ReadOnce.{AreClosedAndLastRead, IsLastReplayed};
@@ -15,18 +15,18 @@ use std::alloc::Global;
 /// What was read of a queue's last file.
 #[derive(Drop)]
 pub struct LastRead {
-    /// What stands behind its readable prefix.
+    /// What stands after its readable prefix; `None` if all of it can be read.
     pub tail: Option<CutTail>,
-    /// The batches of its readable prefix, first to last, whose entries are damaged; none in a rewrite file.
+    /// The batches of its readable prefix whose entries are damaged, in order; none in a rewrite file.
     pub damaged: Vec<DamagedBatch>,
 }
 
-/// Replays a file of `len` bytes up to where no batch can be read, and returns the tail that stands there, if a mode doesn't refuse
-/// it, and which batches have damaged entries. In a rewrite file such a batch is refused.
+/// Replays a file of `len` bytes into `machine`, up to the first byte at which no batch can be read. Returns the tail from there
+/// on, whose cut `mode` has to allow, and which batches have damaged entries; a rewrite file with such a batch is refused.
 ///
 /// # Errors
 ///
-/// Those of `replay_prefix`, of `read_tail` and of `check_rest`.
+/// Those of `replay_prefix`, of `read_tail` and of [`check_rest`]; `Memory`. Some of the batches may have been replayed then.
 pub fn replay_last<M: ReplayMachine, S: ReadFiles>(
     machine: &mut M,
     alloc: Global,
@@ -61,11 +61,12 @@ pub fn replay_last<M: ReplayMachine, S: ReadFiles>(
     Ok(LastRead { tail, damaged })
 }
 
-/// Replays the last file of `queue`, as [`replay_last`] does, into a machine that `factory` makes. Returns the machine and what was read.
+/// Replays the last file of `queue` into a machine that `factory` makes, as [`replay_last`] does. Returns the machine, and what
+/// was read of the file.
 ///
 /// # Errors
 ///
-/// The factory's own, and those of [`replay_last`].
+/// Those of the factory, and those of [`replay_last`].
 pub fn read_last<M: ReplayMachine, F: Factory<M>, S: ReadFiles>(
     alloc: Global,
     factory: &F,

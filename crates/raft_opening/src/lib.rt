@@ -1,4 +1,4 @@
-//! An engine that is opened over files which are read in pieces.
+//! Opens an engine over files that are read in pieces: over a folder, or over any files.
 #![tactic(auto)]
 
 #[doc(hidden)]

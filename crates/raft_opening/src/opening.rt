@@ -1,4 +1,4 @@
-//! An engine that is opened over files which are read in pieces.
+//! Opening an engine over files that are read in pieces.
 
 ghost use Rattle.std.specs.Prelude.{◌≡◌, ◌⊎◌, [], IfErr, IfOk};
 ghost use Rattle.raft_opening.specs.ReadOnce.{AreUnreadAs, IsHalfOpenedOver, IsOpenedOver, IsReadingOf};
@@ -12,14 +12,20 @@ use raft_reading::{FileSize, ReadFiles};
 use std::alloc::Global;
 use std::thread::Threads;
 
-/// What a reading in pieces says of found files: they have the bytes that reads gave.
+/// What is said of found files once they are read in pieces: they have the bytes that the reads gave.
 #[derive(Drop)]
 struct FoundByReading<'a, S: ReadFiles> {
+    /// What the bytes were read from.
     source: &'a S,
+    /// The mode in which the files were accepted.
     mode: RecoveryMode,
+    /// The version of all files.
     version: Version,
+    /// The numbers and lengths of the append files, oldest first.
     append: &'a [FileSize],
+    /// The numbers and lengths of the rewrite files, oldest first.
     rewrite: &'a [FileSize],
+    /// What was read.
     read: &'a FilesRead,
 }
 
@@ -30,20 +36,23 @@ impl<S: ReadFiles> Found for FoundByReading<'_, S> {
         found.rewrite.now found.read.now };
 }
 
-/// Opens the files that a crash of the machine left, as [`Engine::open_telling`] does, by the numbers and lengths of those of each
-/// queue, oldest first. Their bytes are read by the workers, through `source`, piece by piece, each byte once, and let go once they
-/// are replayed: so besides the tables no more is in memory than a piece of 4 MiB, or a longer batch, for each worker, and what
-/// stands in a queue's last file behind its readable prefix. What was found is what the reads gave.
+/// Opens the files that a crash left, as [`Engine::open_telling`] does. `append` and `rewrite` are the numbers and lengths of
+/// each queue's files, oldest first. The `workers` threads read their bytes through `source`, piece by piece, each byte once, and
+/// let a piece go once its batches are replayed. So besides the tables no more is in memory than a piece of 4 MiB, or a longer
+/// batch, for each worker, and what stands in a queue's last file after its readable prefix. What was found is what the reads
+/// gave. `files` have to be the same files.
 ///
 /// # Errors
 ///
-/// The files are handed back. Nothing was asked of them, nor noted as found, where they aren't read to their end: those of
-/// [`Engine::open_telling`]; `Io`, whose text begins with the queue, the file and the offset, where a read fails, or gives another
-/// number of bytes than it was asked for. Files that are refused are read once more, to name what comes first; if they aren't
-/// refused then, that is `Corruption`, as where they changed meanwhile.
+/// The files are handed back with each error.
 ///
-/// Those of `EngineFiles`: some of it was asked then, and whatever is left of the files has the records that were found. They
-/// may be found again, and opened.
+/// Nothing was asked of them, nor noted as found, if they are refused for a reason of [`Engine::open_telling`]; or for `Io`,
+/// whose text begins with the queue, the file and the offset, if a read fails, or gives another number of bytes than it was asked
+/// for. Files that are refused are read once more, to name what comes first. If they aren't refused then, the error is
+/// `Corruption`: they changed meanwhile, or a read failed once.
+///
+/// If a call of `EngineFiles` fails, some of it was asked, and whatever is left of the files has the records that were found.
+/// They may be found again, and opened.
 pub fn open_in_pieces<R: Threads + Sync, F: NotesFound, S: ReadFiles>(
     rt: &R,
     alloc: Global,
@@ -69,11 +78,11 @@ pub fn open_in_pieces<R: Threads + Sync, F: NotesFound, S: ReadFiles>(
     }
 }
 
-/// Notes the files of a reading as those that were found, and makes an engine over them.
+/// Notes in `files` that the files of a reading were found, asks what is missing in them, and makes an engine over them.
 ///
 /// # Errors
 ///
-/// Those of `EngineFiles`, as of [`open_in_pieces`].
+/// Those of `EngineFiles`. The files are handed back, as by [`open_in_pieces`].
 fn open_read<F: NotesFound, S: ReadFiles>(
     mode: RecoveryMode,
     version: Version,

@@ -1,4 +1,4 @@
-//! Files by their paths, for those who read them.
+//! Reading files by their paths.
 
 ghost use Rattle.std.specs.Prelude.{◌≡◌, map, IfSome};
 ghost use Rattle.raft_recover.specs.FileRecovery.{IsNamed};
@@ -10,14 +10,17 @@ use raft_recover::SharedFiles;
 use std::io;
 use std::io::ErrorKind;
 
-/// Files of a queue by their numbers, which rise, and their paths.
+/// The files of a queue by their numbers, which rise, and their paths.
 pub(crate) type NumberedPaths = Vec<(FileSeq, String)>;
 
 /// The files of both queues by their paths.
 #[derive(Drop)]
 pub(crate) struct PathSource<'a, D: SharedFiles> {
+    /// What has the files.
     pub(crate) disk: &'a D,
+    /// The files of the append queue.
     pub(crate) append: NumberedPaths,
+    /// The files of the rewrite queue.
     pub(crate) rewrite: NumberedPaths,
 }
 
@@ -32,7 +35,7 @@ impl<D: SharedFiles> ReadFiles for PathSource<'_, D> {
     ///
     /// # Errors
     ///
-    /// `NotFound` if no file of its queue has that number, and those of the file. Some of the bytes may have been appended then.
+    /// `NotFound` if no file of its queue has that number; those of the file. Some of the bytes may have been appended then.
     fn read(&self, file: FileId, offset: u64, len: usize, bytes: &mut Vec<u8>) -> io::Result<()> {
         match path_of(paths_of(file.queue, &self.append, &self.rewrite), file.seq) {
             Some(path) => self.disk.read_file(path, offset, len, bytes),
@@ -41,7 +44,7 @@ impl<D: SharedFiles> ReadFiles for PathSource<'_, D> {
     }
 }
 
-/// Returns the files of a queue.
+/// Returns the files of one queue.
 fn paths_of<'p>(
     queue: LogQueue,
     append: &'p NumberedPaths,
@@ -56,7 +59,7 @@ fn paths_of<'p>(
     }
 }
 
-/// Returns the path of the file numbered `seq`, of files whose numbers rise; `None` if there is none.
+/// Returns the path of the file numbered `seq`; `None` if there is none. The numbers of `paths` rise.
 fn path_of(paths: &[(FileSeq, String)], seq: FileSeq) -> Option<&str>
     ensures { IfSome result (λ path. IsNamed (map path_shown paths.now) seq path.now) }
 {

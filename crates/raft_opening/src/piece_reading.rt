@@ -1,4 +1,4 @@
-//! The reading of found files in pieces, each byte once.
+//! Reading found files in pieces, each byte once.
 
 ghost use Rattle.std.specs.Prelude.{◌≡◌, ◌<◌, ◌≤◌, List, IfErr, IfOk};
 ghost use Rattle.std.specs.Thread.{IsSync};
@@ -22,19 +22,23 @@ use raft_recover::recovery::part_of_workers;
 use std::alloc::Global;
 use std::thread::{Threads, join};
 
-/// Why files are refused of which one reading was refused, and the next one wasn't.
+/// The text of the error for files that one reading refused, and the next one didn't.
 const CHANGED: &str = "the files changed while they were read, or a read failed";
 
-/// Reads found files piece by piece, each byte once, by `workers` threads, and recovers the tables of those that are there once what
-/// is missing was asked. A piece is let go once its batches are replayed: so besides the tables no more is in memory than a piece
-/// of 4 MiB, or a longer batch, for each worker, and what stands in a queue's last file behind its readable prefix. Of the last
-/// append file the batches are named whose entries are damaged. What is promised is promised of the bytes that the reads gave.
+/// Reads found files piece by piece through `source`, each byte once, by `workers` threads, and recovers the tables of those that
+/// are there once what is missing was asked. Returns them with what is missing, and with the batches of the last append file
+/// whose entries are damaged. `append` and `rewrite` are the numbers and lengths of each queue's files, oldest first.
+///
+/// A piece is let go once its batches are replayed. So besides the tables no more is in memory than a piece of 4 MiB, or a longer
+/// batch, for each worker, and what stands in a queue's last file after its readable prefix. What is promised is promised of the
+/// bytes that the reads gave.
 ///
 /// # Errors
 ///
-/// Those of `Engine::open_telling`; `Io`, whose text begins with the queue, the file and the offset, where a read fails, or gives
-/// another number of bytes than it was asked for. Where files are refused they are read once more, to name what comes first; if
-/// they aren't refused then, that is `Corruption`, as where they changed meanwhile.
+/// Those of [`Engine::open_telling`](raft_engine::Engine::open_telling) for files that are refused; `Io`, whose text begins with
+/// the queue, the file and the offset, if a read fails, or gives another number of bytes than it was asked for; `Memory`. Files
+/// that are refused are read once more, to name what comes first. If they aren't refused then, the error is `Corruption`: they
+/// changed meanwhile, or a read failed once.
 pub fn read_in_pieces<R: Threads + Sync, S: ReadFiles>(
     rt: &R,
     alloc: Global,
@@ -56,7 +60,8 @@ pub fn read_in_pieces<R: Threads + Sync, S: ReadFiles>(
     }
 }
 
-/// Returns why files are refused that a reading refused: what comes first in another one.
+/// Returns the error for files that a reading has refused: they are read once more, and the error is that of what comes first; or
+/// `Corruption`, if they aren't refused this time.
 fn refusal<R: Threads + Sync, S: ReadFiles>(
     rt: &R,
     alloc: Global,
@@ -75,11 +80,11 @@ fn refusal<R: Threads + Sync, S: ReadFiles>(
     }
 }
 
-/// Does what [`read_in_pieces`] does where no file is refused.
+/// Reads found files as [`read_in_pieces`] does, but if it refuses them the error needn't be that of what comes first.
 ///
 /// # Errors
 ///
-/// Any where files are refused. `Memory`.
+/// `Memory`; any other if the files are refused.
 fn read_once<R: Threads + Sync, S: ReadFiles>(
     rt: &R,
     alloc: Global,
@@ -121,12 +126,12 @@ fn read_once<R: Threads + Sync, S: ReadFiles>(
     Ok(FilesRead { reading, damaged })
 }
 
-/// Reads the files of both queues: at once, by two workers or more, or one after the other by all workers, where those of the
-/// rewrite queue are short.
+/// Reads the files of both queues. If those of the rewrite queue are short, or there is one worker, they are read one after the
+/// other, each queue by all workers; else at the same time, by a part of the workers each. Returns the rewrite queue's first.
 ///
 /// # Errors
 ///
-/// Those of `read_queue`.
+/// Those of [`read_queue`].
 fn read_queues<R: Threads + Sync, S: ReadFiles>(
     rt: &R,
     alloc: Global,
@@ -172,11 +177,11 @@ fn read_queues<R: Threads + Sync, S: ReadFiles>(
     Ok((rewritten, appended))
 }
 
-/// Reads the files of the rewrite queue, and gathers whether its groups stand in rows.
+/// Reads the files of the rewrite queue by `workers` threads, and gathers whether its atomic groups stand in rows.
 ///
 /// # Errors
 ///
-/// Those of `read_queue`.
+/// Those of [`read_queue`].
 fn read_rewrite<R: Threads + Sync, S: ReadFiles>(
     rt: &R,
     alloc: Global,
@@ -199,11 +204,11 @@ fn read_rewrite<R: Threads + Sync, S: ReadFiles>(
     )
 }
 
-/// Reads the files of the append queue.
+/// Reads the files of the append queue by `workers` threads.
 ///
 /// # Errors
 ///
-/// Those of `read_queue`.
+/// Those of [`read_queue`].
 fn read_append<R: Threads + Sync, S: ReadFiles>(
     rt: &R,
     alloc: Global,

@@ -1,4 +1,4 @@
-//! The files of a queue, of which each byte is read once.
+//! Reading the files of a queue in pieces, each byte once.
 
 ghost use Rattle.std.specs.Prelude.{◌≡◌, ◌<◌, ◌≤◌, List, [], IfOk};
 ghost use Rattle.std.specs.Thread.{IsSync};
@@ -16,29 +16,34 @@ use raft_reading::{FileSize, ReadFiles, replay_files};
 use std::alloc::Global;
 use std::thread::{Threads, join};
 
-/// The found files of a queue, which a mode accepts, and a machine that has replayed their batches, up to the tail of the last one.
+/// The found files of a queue, which a mode accepts, once they are read.
 #[derive(Drop)]
 pub struct QueueRead<M> {
+    /// The machine that has replayed their batches, up to the tail of the last file.
     pub machine: M,
+    /// What is missing in the files, and which of their bytes are to be read.
     pub sized: SizedQueue,
-    /// The batches of the last file whose entries are damaged; none of the rewrite queue.
+    /// The batches of the last file whose entries are damaged, in order; none of the rewrite queue.
     pub damaged: Vec<DamagedBatch>,
 }
 
-/// A machine that has replayed the batches of found files, what is missing of these, and which batches of the last one have damaged
-/// entries.
+/// The found files of a queue, once their batches are replayed.
 #[derive(Drop)]
 pub struct QueueReplayed<M> {
+    /// The machine that has replayed them, up to the tail of the last file.
     pub machine: M,
+    /// What is missing in the files.
     pub missing: Missing,
+    /// The batches of the last file whose entries are damaged, in order; none of the rewrite queue.
     pub damaged: Vec<DamagedBatch>,
 }
 
-/// Reads the files of `queue` that `sizes` names, by `workers` threads, and checks that `mode` accepts what stands in the last one.
+/// Reads the files of `queue` that `sizes` names, by `workers` threads, into a machine that `factory` makes. Checks that `mode`
+/// accepts what stands in the last file after the batches that can be read.
 ///
 /// # Errors
 ///
-/// Those of `check_sizes` and of [`replay_queue`].
+/// Those of [`check_sizes`] and of [`replay_queue`]; `Memory`.
 pub fn read_queue<M: ReplayMachine, F: Factory<M>, S: ReadFiles, R: Threads + Sync>(
     rt: &R,
     alloc: Global,
@@ -74,12 +79,12 @@ pub fn read_queue<M: ReplayMachine, F: Factory<M>, S: ReadFiles, R: Threads + Sy
     })
 }
 
-/// Replays the files of a queue, and returns with the machine what is missing of them, and which batches of the last one are
-/// damaged.
+/// Replays the files of `queue` that `sizes` names. Returns the machine, what is missing in the files, and which batches of the
+/// last one have damaged entries.
 ///
 /// # Errors
 ///
-/// The factory's own, and those of [`replay_parts`].
+/// Those of the factory, and of [`replay_parts`].
 fn replay_queue<M: ReplayMachine, F: Factory<M>, S: ReadFiles, R: Threads + Sync>(
     rt: &R,
     alloc: Global,
@@ -123,7 +128,8 @@ fn replay_queue<M: ReplayMachine, F: Factory<M>, S: ReadFiles, R: Threads + Sync
     }
 }
 
-/// Replays closed files and the last one of a queue.
+/// Replays the `closed` files and the `last` one of a queue. Returns the machine that has replayed all, and what was read of the
+/// last file.
 ///
 /// # Errors
 ///
@@ -157,12 +163,13 @@ fn replay_parts<M: ReplayMachine, F: Factory<M>, S: ReadFiles, R: Threads + Sync
     Ok((machine, read))
 }
 
-/// Replays closed files and the last one of a queue into machines of their own: the last one by one worker, and meanwhile the
-/// closed ones by the others.
+/// Replays the `closed` files and the `last` one of a queue into a machine each: the last one by one worker, and meanwhile the
+/// closed ones by the others. A single worker reads the closed ones first. Returns the machine of the closed files, and that of
+/// the last one with what was read of it.
 ///
 /// # Errors
 ///
-/// The factory's own, those of `replay_files` and of `read_last`.
+/// Those of the factory, of `replay_files` and of [`read_last`].
 fn replay_apart<M: ReplayMachine, F: Factory<M>, S: ReadFiles, R: Threads + Sync>(
     rt: &R,
     alloc: Global,

@@ -1,4 +1,4 @@
-//! The found files of a queue by their sizes, whose bytes are read where they are needed.
+//! The found files of one queue by their lengths, whose bytes are read where they are needed.
 
 ghost use Rattle.std.specs.Prelude.{◌≡◌, ◌≢◌, ◌⊎◌, ◌<◌, ◌≤◌, ◌^◌, List, ℕ, length, IfErr, IfOk, OnOk};
 ghost use Rattle.raft_files.specs.Asks.{NumberedBytes};
@@ -21,20 +21,22 @@ use raft_prefix::{Prefix, read_prefix, read_rest};
 use raft_reading::{FileSize, ReadFiles};
 use std::alloc::Global;
 
-/// The found files of a queue by their sizes, which a mode accepts.
+/// The found files of a queue by their lengths, once a mode has accepted them.
 #[derive(Drop)]
 pub struct SizedQueue {
+    /// What is missing in them, and what is known of them once that is asked.
     pub ready: ReadyQueue,
-    /// The sizes of those that are to be read, the last one up to its torn tail.
+    /// The numbers and lengths of those that are to be read, the last one up to its torn tail.
     pub left: Vec<FileSize>,
 }
 
 impl SizedQueue {
-    /// Makes found files of a queue, of which the last one is read to find its tail, ready in a mode.
+    /// Checks that the found files of `queue` may be opened in `mode`. The last one is read to find its tail. `sizes` are their
+    /// numbers and lengths, oldest first.
     ///
     /// # Errors
     ///
-    /// `Corruption` where the number of a file isn't one above that of the file before it; those of [`missing_of`]; `Memory`.
+    /// `Corruption` if the number of a file isn't one above that of the file before it; those of [`missing_of`]; `Memory`.
     pub fn of<S: ReadFiles>(
         alloc: Global,
         source: &S,
@@ -58,11 +60,11 @@ impl SizedQueue {
     }
 }
 
-/// Refuses the files of a queue where the number of one isn't one above that of the file before it.
+/// Checks that the number of each file of `queue` in `sizes` is one above that of the file before it.
 ///
 /// # Errors
 ///
-/// `Corruption`, which names the first missing file where one is missing between two; `Memory`.
+/// `Corruption` if one isn't; if files are missing between two, the text names the first one missing. `Memory`.
 pub fn check_sizes(alloc: Global, queue: LogQueue, sizes: &[FileSize]) -> Result<()>
     ensures ok { OnOk result (AreConsecutive (numbers_of sizes.now)) }
     ensures refused { IfErr result (λ e. e ≢ Error.Memory → AreNumbersApartAs queue (numbers_of sizes.now) e) }
@@ -78,11 +80,11 @@ pub fn check_sizes(alloc: Global, queue: LogQueue, sizes: &[FileSize]) -> Result
     Ok(())
 }
 
-/// Returns what is known of the files that `sizes` names, or of the first file that is begun if there is none.
+/// Returns what is known of the files that `sizes` names, or of the first file that will be begun if there is none.
 ///
 /// # Errors
 ///
-/// `Memory`.
+/// `Memory` alone.
 pub fn known_of(alloc: Global, sizes: &[FileSize]) -> Result<QueueFiles>
     ensures ok { IfOk result (AreKnownOf sizes.now) }
     ensures memory { IfErr result (λ e. e ≡ Error.Memory) }
@@ -101,11 +103,12 @@ pub fn known_of(alloc: Global, sizes: &[FileSize]) -> Result<QueueFiles>
     })
 }
 
-/// Returns the sizes of the files that are to be read, the last one up to its torn tail.
+/// Returns the numbers and lengths of the files that are to be read: those of `sizes`, but the last one without its tail, if its
+/// cut is `missing`.
 ///
 /// # Errors
 ///
-/// `Memory`.
+/// `Memory` alone.
 pub fn sizes_left(alloc: Global, sizes: &[FileSize], missing: &Missing) -> Result<Vec<FileSize>>
     ensures ok { IfOk result (λ left. AreLeft missing.now sizes.now left.items) }
     ensures memory { IfErr result (λ e. e ≡ Error.Memory) }
@@ -122,8 +125,8 @@ pub fn sizes_left(alloc: Global, sizes: &[FileSize], missing: &Missing) -> Resul
     Ok(left)
 }
 
-/// Returns what is missing of a queue's files, the last of which is read up to where no batch can be read, and what stands there
-/// is looked at.
+/// Returns what is missing in the files of `queue`: a first file, or the cut of the tail of the last one. The last file is read
+/// up to the first byte at which no batch can be read, and `mode` has to accept what stands there.
 ///
 /// # Errors
 ///
@@ -152,14 +155,14 @@ fn missing_of<S: ReadFiles>(
     }
 }
 
-/// Returns the tail of a file of `len` bytes that can't be read, if it has one, and a mode doesn't refuse it. In a rewrite file
-/// the entries of each batch are checked.
+/// Returns the tail of a file of `len` bytes: its bytes from the first one on at which no batch can be read. `None` if all of the
+/// file can be read. `mode` has to allow the cut of the tail. In a rewrite file the entries of each batch before it are checked.
 ///
 /// # Errors
 ///
-/// `Corruption` where the mode refuses the tail, the file is of the other version, or the entries of a batch of a rewrite file are
-/// damaged; `InvalidArgument` where it is of raft-engine; `Io`, whose text begins with the queue, the file and the offset, where
-/// a read fails or gives another number of bytes; `Memory`.
+/// `Corruption` if `mode` refuses the tail, the file is of the other version, or a batch of a rewrite file has damaged entries;
+/// `InvalidArgument` if the file is one of raft-engine; `Io`, whose text begins with the queue, the file and the offset, if a
+/// read fails or gives another number of bytes; `Memory`.
 fn tail_of<S: ReadFiles>(
     alloc: Global,
     source: &S,
@@ -196,7 +199,7 @@ fn tail_of<S: ReadFiles>(
 ///
 /// # Errors
 ///
-/// `Full` if they have more.
+/// `Full` alone, if they have as many or more.
 pub fn check_few_bytes(sizes: &[FileSize]) -> Result<()>
     ensures ok { OnOk result (bytes_of_sizes sizes.now < 2 ^ 63) }
     ensures fault { IfErr result (λ e. (2 ^ 63 ≤ bytes_of_sizes sizes.now) × (e ≡ Error.Full)) }

@@ -1,4 +1,4 @@
-//! The reading of found files by their sizes.
+//! Reading found files in pieces in the order in which refusals have to be reported: the last file of each queue is read twice.
 
 ghost use Rattle.std.specs.Prelude.{◌≡◌, ◌≢◌, ◌⊎◌, ◌<◌, ◌≤◌, ◌^◌, List, [], length, IfErr, IfOk, OnErr, OnOk};
 ghost use Rattle.std.specs.Thread.{IsSync};
@@ -28,21 +28,23 @@ use raft_replay::check_arguments;
 use std::alloc::Global;
 use std::thread::{Threads, join};
 
-/// About how many bytes the rewrite queue has at least where both queues are replayed at once.
+/// The least number of bytes, about, that the rewrite queue has if both queues are read at the same time.
 pub const LEAST_SHARE: usize = 1 << 20;
 
-/// The least number of files that aren't read.
+/// The number of a queue's files from which on they are refused.
 const FILE_LIMIT: usize = 1 << 62;
 
-/// Reads found files piece by piece, by `workers` threads, and recovers the tables of those that are there once what is missing was
-/// asked. The last file of each queue is read first, up to where no batch can be read, and what stands there is looked at; then all
-/// files are replayed, each up to there.
+/// Reads found files piece by piece, by `workers` threads, and recovers the tables of those that are there once what is missing
+/// was asked. The last file of each queue is read first, up to the first byte at which no batch can be read, and `mode` has to
+/// accept what stands there; then all files are replayed, each up to there. `append` and `rewrite` are the numbers and lengths of
+/// each queue's files, oldest first.
 ///
 /// # Errors
 ///
-/// `Io`, whose text begins with the queue, the file and the offset, where a read fails, or gives another number of bytes than it was
-/// asked for; those of `SizedQueue::of`, of `check_few_bytes` and of `replay_files`; `InvalidArgument` where an atomic group of the
-/// rewrite files doesn't stand in a row, in one file; `Full` where what is to be told at once has 2^56 bytes or more; `Memory`.
+/// `Io`, whose text begins with the queue, the file and the offset, if a read fails, or gives another number of bytes than it was
+/// asked for; those of [`SizedQueue::of`], of [`check_few_bytes`], of [`check_counts`] and of `replay_files`; `InvalidArgument`
+/// if an atomic group of the rewrite files doesn't stand in a row, in one file; `Full` if what has to be told at once has 2^56
+/// bytes or more; `Memory`.
 pub fn read_sized<R: Threads + Sync, S: ReadFiles>(
     rt: &R,
     alloc: Global,
@@ -90,11 +92,12 @@ pub fn read_sized<R: Threads + Sync, S: ReadFiles>(
     ready.with_contexts(alloc, appended, first)
 }
 
-/// Makes the found files of both queues ready in a mode, at once by two workers or more.
+/// Checks that the found files of both queues may be opened in `mode`, as [`SizedQueue::of`] does; at the same time, if there are
+/// two workers or more. Returns the append queue's first.
 ///
 /// # Errors
 ///
-/// Those of `SizedQueue::of`.
+/// Those of [`SizedQueue::of`]; that of the append queue first.
 fn both_sized<R: Threads + Sync, S: ReadFiles>(
     rt: &R,
     alloc: Global,
@@ -141,11 +144,11 @@ fn both_sized<R: Threads + Sync, S: ReadFiles>(
     Ok((append, rewrite))
 }
 
-/// Refuses another number of workers than 1 to 256, and 2^62 files of a queue or more.
+/// Checks that there are 1 to 256 workers, and fewer than 2^62 files of each queue.
 ///
 /// # Errors
 ///
-/// `InvalidArgument`, `Memory`.
+/// `InvalidArgument` if not; `Memory`.
 pub fn check_counts(
     alloc: Global,
     append: &[FileSize],
@@ -163,8 +166,13 @@ pub fn check_counts(
     Ok(())
 }
 
-/// Replays the files of both queues: at once, by two workers or more, or one after the other by all workers, where those of the
-/// rewrite queue are short.
+/// Replays the files of both queues. If those of the rewrite queue are short, or there is one worker, they are read one after the
+/// other, each queue by all workers; else at the same time, by a part of the workers each. Returns the rewrite queue's machine
+/// first.
+///
+/// # Errors
+///
+/// Those of [`replay_rewrite`] and of [`replay_append`]; that of the rewrite queue first.
 fn replay_both<R: Threads + Sync, S: ReadFiles>(
     rt: &R,
     alloc: Global,
@@ -216,7 +224,11 @@ fn replay_both<R: Threads + Sync, S: ReadFiles>(
     Ok((rewritten, appended))
 }
 
-/// Replays the files of the rewrite queue, and gathers whether its groups stand in rows.
+/// Replays the files of the rewrite queue by `workers` threads, and gathers whether its atomic groups stand in rows.
+///
+/// # Errors
+///
+/// Those of `replay_files`.
 fn replay_rewrite<R: Threads + Sync, S: ReadFiles>(
     rt: &R,
     alloc: Global,
@@ -246,7 +258,11 @@ fn replay_rewrite<R: Threads + Sync, S: ReadFiles>(
     )
 }
 
-/// Replays the files of the append queue.
+/// Replays the files of the append queue by `workers` threads.
+///
+/// # Errors
+///
+/// Those of `replay_files`.
 fn replay_append<R: Threads + Sync, S: ReadFiles>(
     rt: &R,
     alloc: Global,
@@ -273,7 +289,7 @@ fn replay_append<R: Threads + Sync, S: ReadFiles>(
     )
 }
 
-/// Returns how many bytes files have, capped at 2^64 - 1.
+/// Returns the length of all files together in bytes, at most `usize::MAX`.
 pub fn bytes_of(files: &[FileSize]) -> usize {
     let mut bytes = 0usize;
     for file in files {

@@ -1,4 +1,4 @@
-//! Batches, read one after the other.
+//! Reads batches, one after the other.
 
 ghost use Rattle.std.specs.Prelude.{◌≡◌, ◌≢◌, ◌++◌, ◌∷◌, [], List, Some, None, map, IfOk, IfErr};
 ghost use Rattle.raft_plain.specs.Common.{nat_cmp, IsOrdered, AreDecodedIn, event, Event, Sound, HasRead, tables_shown, tables_after, region_step_shown, steps_of_items};
@@ -11,13 +11,13 @@ use raft_history::RegionStep;
 use raft_records::LogItemBatch;
 use std::alloc::Global;
 
-/// Reads one more batch, which was written to the file `file`. Returns `reading` with it: its steps take
-/// effect or, with a group marker, wait for the End of their group.
+/// Returns what `reading` and then `batch` give, which was written to the file `file` of `queue`. The steps
+/// of the batch take effect at once or, if it has a group marker, wait for the End of their group.
 ///
 /// # Errors
 ///
-/// `Corruption` if the file is below the last one, a group marker has an unknown status, or a run leaves a
-/// hole in the append queue; `Memory`.
+/// `Corruption` if the file is numbered below the last one, a group marker has an unknown status, or a run
+/// leaves a hole in the append queue; `Memory`.
 pub(crate) fn with_batch(
     alloc: Global,
     queue: LogQueue,
@@ -49,11 +49,12 @@ pub(crate) fn with_batch(
     })
 }
 
-/// Returns the steps of the items of `batch`, in order. Items without a step, as group markers, are left out.
+/// Returns the steps of the items of `batch`, in order. Items without a step, such as group markers, are left
+/// out.
 ///
 /// # Errors
 ///
-/// `AllocError` if there is no memory for them.
+/// `AllocError` if there is no memory.
 fn steps_of(alloc: Global, batch: LogItemBatch) -> AllocResult<Vec<RegionStep>>
     ensures { IfOk result (λ steps. map region_step_shown steps.items ≡ steps_of_items batch) }
 {
@@ -66,7 +67,7 @@ fn steps_of(alloc: Global, batch: LogItemBatch) -> AllocResult<Vec<RegionStep>>
     Ok(steps)
 }
 
-/// Returns `regions` after `steps`, one after another.
+/// Returns `regions` after `steps`, which were read from `queue`, one after another.
 ///
 /// # Errors
 ///
@@ -90,7 +91,8 @@ fn with_steps(
     Ok(regions)
 }
 
-/// Returns `regions` after one step. A region that isn't there begins without records.
+/// Returns `regions` after `step`, which was read from `queue`. A region that isn't there begins without
+/// records.
 ///
 /// # Errors
 ///

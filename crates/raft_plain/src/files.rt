@@ -1,4 +1,4 @@
-//! Whole files of a queue, and the lines of their tables.
+//! Whole files of a queue, as parts, and the printed tables of what they give.
 
 ghost use Rattle.std.specs.Prelude.{◌≡◌, ◌≢◌, ◌⊎◌, map, IfOk, IfErr, OnOk};
 ghost use Rattle.raft_plain.specs.Common.{FilesCannotBeRead, IsPrintFailure, Keeps, PrintsRecovered, file_shown, whole_file};
@@ -9,11 +9,12 @@ use raft_records::FilePart;
 use std::alloc::Global;
 use std::io::Write;
 
-/// Returns a part for each of `files` of `queue`, with all its bytes, which aren't copied.
+/// Returns a part for each of `files` of `queue`, in order. It has all bytes of the file, which aren't
+/// copied.
 ///
 /// # Errors
 ///
-/// `Memory` alone.
+/// `Memory` alone. The files are dropped then.
 pub fn file_parts(
     queue: LogQueue,
     version: Version,
@@ -30,7 +31,7 @@ pub fn file_parts(
     Ok(parts)
 }
 
-/// Prints the tables that `files` of `queue` give: the lines of [`print_plainly`].
+/// Recovers the records of `files` of `queue`, and prints them in the lines of [`print_plainly`].
 ///
 /// # Errors
 ///

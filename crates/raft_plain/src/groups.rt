@@ -1,4 +1,4 @@
-//! Atomic groups that wait for their End.
+//! Atomic groups: the steps of their batches wait until the End of the group is read.
 
 ghost use Rattle.std.specs.Prelude.{◌≡◌, ◌≢◌, ◌++◌, map, option_map, IfOk, IfErr, OnOk};
 ghost use Rattle.std.specs.FinMap as finite;
@@ -13,25 +13,27 @@ use raft_table::Step;
 use std::alloc::Global;
 use std::collections::BTreeMap;
 
-/// Steps in order.
+/// Steps on regions, in order.
 pub type Steps = Vec<RegionStep>;
 
-/// The file number of a group's Begin, and the steps since then.
+/// What was read of a group since its Begin.
 #[derive(Debug, Drop)]
 pub struct Stretch {
+    /// The number of the file of the Begin.
     pub first_seq: FileSeq,
+    /// The steps since then, with those of the batch of the Begin.
     pub steps: Steps,
 }
 
-/// Of each group the stretch that its End would complete.
+/// The stretch of each group that has begun, and that an End would complete, by the number of the group.
 pub type Stretches = BTreeMap<u64, Stretch>;
 
-/// Returns the first group marker of a batch: the number of its group, and its status. Returns `None` without
-/// one, and always in the append queue, which ignores markers.
+/// Returns the first group marker among `items`, those of a batch of `queue`: the number of its group, and
+/// its status. Returns `None` if there is none, and always in the append queue, which ignores markers.
 ///
 /// # Errors
 ///
-/// `Corruption` if the status of a marker is unknown; `Memory`.
+/// `Corruption` if the status of a marker is unknown; `Memory` if there is none for the text.
 pub(crate) fn marker_in(
     alloc: Global,
     queue: LogQueue,
@@ -49,12 +51,12 @@ pub(crate) fn marker_in(
     }
 }
 
-/// Returns the first group marker among `items`, or `None` if there is none. Each marker must have a known
-/// status.
+/// Returns the group and the status of the first group marker among `items`, or `None` if there is none. The
+/// other markers are parsed too.
 ///
 /// # Errors
 ///
-/// `Corruption` if the status of one is unknown; `Memory`.
+/// `Corruption` if the status of a marker is unknown; `Memory` if there is none for the text.
 fn first_marker(alloc: Global, items: &[LogItem]) -> Result<Option<(u64, AtomicGroupStatus)>>
     ensures markers { OnOk result (HaveStatus Rewrite (map item_of items.now)) }
     ensures marker { IfOk result (λ marker. marker ≡ first_marker (map item_of items.now)) }
@@ -69,13 +71,14 @@ fn first_marker(alloc: Global, items: &[LogItem]) -> Result<Option<(u64, AtomicG
     Ok(marker)
 }
 
-/// Returns the stretches that wait after a batch with this `marker` and these `steps`, in the file numbered
-/// `seq`, and the steps that take effect with it: its own without a marker; those of the whole group with the
-/// End of a group that has begun; else none.
+/// Returns two things after a batch with this `marker` and these `steps`, in the file numbered `seq`. The
+/// first is the stretches that wait, where those of `waiting` waited before. The second is the steps that
+/// take effect with the batch: its own if it has no marker; those of the whole group if it has the End of one
+/// that has begun; else none.
 ///
 /// # Errors
 ///
-/// `AllocError` if there is no memory for them.
+/// `AllocError` if there is no memory. Stretches and steps are dropped then.
 pub(crate) fn after_marker(
     alloc: Global,
     waiting: Stretches,
@@ -124,7 +127,7 @@ pub(crate) fn after_marker(
 }
 
 /// Takes the stretch of the group numbered `group` out of `waiting`. Returns it, or `None` if the group
-/// hasn't begun, and the others.
+/// hasn't begun, and the other stretches.
 fn take_stretch(mut waiting: Stretches, group: u64) -> (Option<Stretch>, Stretches)
     requires { IsOrdered nat_cmp waiting }
     ensures ordered { IsOrdered nat_cmp result.1 }
@@ -135,12 +138,12 @@ fn take_stretch(mut waiting: Stretches, group: u64) -> (Option<Stretch>, Stretch
     (own, waiting)
 }
 
-/// Returns `steps`, those of a whole group, and behind them one more for each, which gives its region the
-/// first and the last file of the group, `first_seq` and `last_seq`.
+/// Returns `steps`, those of a whole group, and after them one more for each: it sets the first and the last
+/// file of the group, `first_seq` and `last_seq`, for the region of that step.
 ///
 /// # Errors
 ///
-/// `AllocError` if there is no memory for them.
+/// `AllocError` if there is no memory.
 fn whole_steps(alloc: Global, steps: Steps, first_seq: u64, last_seq: u64) -> AllocResult<Steps>
     ensures { IfOk result (λ all. map region_step_shown all.items ≡ marked_steps
         (map region_step_shown steps.items) first_seq last_seq) }
@@ -158,11 +161,11 @@ fn whole_steps(alloc: Global, steps: Steps, first_seq: u64, last_seq: u64) -> Al
     join_steps(steps, marks)
 }
 
-/// Returns `steps`, and `more` behind them.
+/// Returns `steps`, and `more` after them.
 ///
 /// # Errors
 ///
-/// `AllocError` if there is no memory for them.
+/// `AllocError` if there is no memory. The steps are dropped then.
 pub(crate) fn join_steps(mut steps: Steps, mut more: Steps) -> AllocResult<Steps>
     ensures { IfOk result (λ all. map region_step_shown all.items
         ≡ map region_step_shown steps.items ++ map region_step_shown more.items) }
@@ -171,8 +174,8 @@ pub(crate) fn join_steps(mut steps: Steps, mut more: Steps) -> AllocResult<Steps
     Ok(steps)
 }
 
-/// States that what this program keeps of groups is what the definitions say: the stretches that wait after
-/// each batch, and the steps that take effect with it.
+/// States that what this crate keeps of groups is what the definitions say: the stretches that wait after
+/// each batch, and the steps that take effect with it. This is a law: it computes nothing.
 #[tactic(auto, using(crate::proofs::GroupLemmas::stretches_go_on, crate::proofs::GroupLemmas::effects_are_defined))]
 pub fn stretches_are_those_of_groups()
     ensures stretches { StretchesGoOn }

@@ -1,5 +1,6 @@
-//! Recovery once more, as plainly as its definitions say it: by maps and filters, slowly, for small inputs. It shares the
-//! decoding of batches with the other crates, and nothing of their tables. Begin with `recovery.rt`.
+//! Recovery once more, by plain maps and filters, as its definitions say it: slow, for small inputs. It
+//! shares the decoding of batches with the other crates, and nothing of their tables. Begin with
+//! `recovery.rt`.
 #![tactic(auto)]
 
 pub mod batches;

@@ -1,4 +1,4 @@
-//! How many records are live in a queue.
+//! Counts the records that are live in a queue.
 
 ghost use Rattle.std.specs.Prelude.{◌≡◌, ◌<◌, ◌^◌};
 ghost use Rattle.raft_plain.specs.Common.{is_same, is_placed_in, entry_count, pair_count, live_in_all, keys_shown, tables_shown};
@@ -18,7 +18,7 @@ pub fn count_live(queue: LogQueue, regions: &Regions) -> u128
     count
 }
 
-/// Returns how many entries have their place in `queue`.
+/// Returns how many of `entries` have their place in `queue`.
 #[tactic(auto, unfolding(raft_table::specs::TableEntries::placed_in))]
 fn count_entries(queue: LogQueue, entries: &[EntryIndex]) -> usize
     ensures { result ≡ entry_count queue entries.now }
@@ -32,7 +32,7 @@ fn count_entries(queue: LogQueue, entries: &[EntryIndex]) -> usize
     count
 }
 
-/// Tests whether `entry` has a place, and that is in `queue`.
+/// Tests whether `entry` has its place in `queue`. False if it has none.
 #[tactic(auto, unfolding(raft_table::specs::TableEntries::is_placed_in))]
 pub(crate) fn is_placed_in(queue: LogQueue, entry: &EntryIndex) -> bool
     ensures { result ≡ is_placed_in queue entry.now }
@@ -40,7 +40,7 @@ pub(crate) fn is_placed_in(queue: LogQueue, entry: &EntryIndex) -> bool
     entry.entries.is_some_and(|place| place.id.queue == queue)
 }
 
-/// Returns how many keys have a value in a file of `queue`.
+/// Returns how many of `keys` have their value in a file of `queue`.
 fn count_keys(queue: LogQueue, keys: &Keys) -> usize
     ensures { result ≡ pair_count queue (keys_shown keys.now) }
 {

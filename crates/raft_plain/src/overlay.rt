@@ -1,4 +1,4 @@
-//! The records of the append queue over those of the rewrite queue.
+//! Puts the records of the append queue over those of the rewrite queue.
 
 ghost use Rattle.std.specs.Prelude.{◌≡◌, ◌∷◌, ℕ, List, false, map, max, option_map, IfOk};
 ghost use Rattle.std.specs.FinSet as finset;
@@ -13,12 +13,12 @@ use raft_table::Step;
 use std::alloc::Global;
 use std::collections::BTreeMap;
 
-/// Puts the records of the append queue, which `steps` made, over those of the rewrite queue, region by
-/// region.
+/// Returns the records of all regions where those of the append queue, `appended`, are put over those of the
+/// rewrite queue, `rewritten`, region by region. `steps` are the steps of the append queue.
 ///
 /// # Errors
 ///
-/// `AllocError` if there is no memory for them.
+/// `AllocError` if there is no memory. The records are dropped then.
 pub(crate) fn overlay_all(
     alloc: Global,
     mut appended: Regions,
@@ -43,12 +43,13 @@ pub(crate) fn overlay_all(
     Ok(both)
 }
 
-/// Puts the appended records of the region `id` over its rewritten ones, either of which may be absent. If
-/// the append queue cleaned the region, it has its appended records alone, or none.
+/// Returns the records of the region `id` where its appended records, `newer`, are put over its rewritten
+/// ones, `older`. Either may be absent; `None` is returned if both are. `steps` are those of the append
+/// queue, on all regions. If they clean the region, its rewritten records are dropped.
 ///
 /// # Errors
 ///
-/// `AllocError` if there is no memory for them.
+/// `AllocError` if there is no memory.
 fn overlay_region(
     alloc: Global,
     id: u64,
@@ -81,11 +82,11 @@ fn overlay_region(
     }
 }
 
-/// Returns the steps on the region `id`, in order.
+/// Returns those of `steps` that are on the region `id`, in order.
 ///
 /// # Errors
 ///
-/// `AllocError` if there is no memory for them.
+/// `AllocError` if there is no memory.
 #[tactic(auto, unfolding(raft_history::specs::RegionSteps::steps_on))]
 fn steps_on<'a>(alloc: Global, id: u64, steps: &'a [RegionStep]) -> AllocResult<Vec<&'a Step>>
     ensures { IfOk result (λ own. map (λ s. step_shown s.now) own.items
@@ -100,13 +101,14 @@ fn steps_on<'a>(alloc: Global, id: u64, steps: &'a [RegionStep]) -> AllocResult<
     Ok(own)
 }
 
-/// Puts the appended records of a region, `newer`, over its rewritten ones, `older`: the entries behind those
-/// that they join, and the key values over those that no step deletes. The region wasn't cleaned, and keeps
-/// the atomic group of `older`.
+/// Returns the records of a region where its appended ones, `newer`, are put over its rewritten ones,
+/// `older`: its appended entries come after those of the rewritten ones that stay, and its appended key
+/// values replace those of the same key. Rewritten key values that a step deletes go. `steps` are those of
+/// the append queue on the region, and don't clean it. It keeps the atomic group of `older`.
 ///
 /// # Errors
 ///
-/// `AllocError` if there is no memory for them.
+/// `AllocError` if there is no memory.
 fn overlay(alloc: Global, steps: &[&Step], newer: Region, older: Region) -> AllocResult<Region>
     requires { has_clean (map (λ s. step_shown s.now) steps.now) ≡ false }
     ensures { IfOk result (λ both. (id : ℕ) → table_shown id both
@@ -123,9 +125,9 @@ fn overlay(alloc: Global, steps: &[&Step], newer: Region, older: Region) -> Allo
     })
 }
 
-/// Returns those of the rewritten entries, `older`, that stay: from the greatest compaction on and below the
-/// least of run starts and truncations, if there are any. None stay if the appended entries, `newer`, don't
-/// join them there.
+/// Returns those of the rewritten entries, `older`, that stay: from the greatest compaction among `steps` on
+/// and below the least start of a run or index of a truncation, if there are any. None stay if the appended
+/// entries, `newer`, don't join them there.
 fn rewritten_within(alloc: Global, steps: &[&Step], older: Entries, newer: &[EntryIndex]) -> Entries
     ensures { result.items ≡ rewritten_within (greatest_compaction (map (λ s. step_shown s.now) steps.now))
         (least_cut (map (λ s. step_shown s.now) steps.now)) newer.now older.items }
@@ -138,7 +140,7 @@ fn rewritten_within(alloc: Global, steps: &[&Step], older: Entries, newer: &[Ent
     entries_within(floor, cut, older)
 }
 
-/// Returns the entries from index `floor` on and, if there is a `cut`, below it.
+/// Returns those of `entries` that are at or above index `floor` and, unless `cut` is `None`, below `cut`.
 fn entries_within(floor: u64, cut: Option<u64>, mut entries: Entries) -> Entries
     ensures { result.items ≡ entries_within floor cut entries.items }
 {
@@ -146,7 +148,7 @@ fn entries_within(floor: u64, cut: Option<u64>, mut entries: Entries) -> Entries
     entries
 }
 
-/// Tests whether `index` is below `cut`. True without a cut.
+/// Tests whether `index` is below `cut`. True if `cut` is `None`.
 fn is_under(cut: Option<u64>, index: u64) -> bool
     ensures { result ≡ is_under cut index }
 {
@@ -156,8 +158,8 @@ fn is_under(cut: Option<u64>, index: u64) -> bool
     }
 }
 
-/// Tests whether the appended entries `newer` don't join the rewritten ones, `older`: they don't begin at
-/// `cut`, or the rewritten ones end below it. False without a cut, and without appended entries.
+/// Tests whether the appended entries, `newer`, don't join the rewritten ones, `older`: they don't begin at
+/// `cut`, or the rewritten ones end below it. False if `cut` is `None` or there are no appended entries.
 fn is_unjoined(cut: Option<u64>, older: &[EntryIndex], newer: &[EntryIndex]) -> bool
     ensures { result ≡ is_unjoined cut (end_of older.now) newer.now }
 {
@@ -167,7 +169,7 @@ fn is_unjoined(cut: Option<u64>, older: &[EntryIndex], newer: &[EntryIndex]) -> 
     }
 }
 
-/// Tests whether one of `steps` cleans the region.
+/// Tests whether one of `steps`, all on one region, cleans it.
 fn has_clean(steps: &[&Step]) -> bool
     ensures { result ≡ has_clean (map (λ s. step_shown s.now) steps.now) }
 {
@@ -179,7 +181,7 @@ fn has_clean(steps: &[&Step]) -> bool
     false
 }
 
-/// Returns the greatest index of a compaction among `steps`, or 0 without one.
+/// Returns the greatest index of a compaction among `steps`, or 0 if there is none.
 fn greatest_compaction(steps: &[&Step]) -> u64
     ensures { result ≡ greatest_compaction (map (λ s. step_shown s.now) steps.now) }
 {
@@ -201,8 +203,8 @@ fn compaction_of(step: &Step) -> u64
     }
 }
 
-/// Returns the least index from which on one of `steps` drops older entries: of run starts and truncations.
-/// Returns `None` if there is neither.
+/// Returns the least index from which on one of `steps` drops older entries: a run does so from its start, a
+/// truncation from its index. Returns `None` if there is neither.
 fn least_cut(steps: &[&Step]) -> Option<u64>
     ensures { result ≡ least_cut (map (λ s. step_shown s.now) steps.now) }
 {
@@ -213,8 +215,8 @@ fn least_cut(steps: &[&Step]) -> Option<u64>
     least
 }
 
-/// Returns the index from which on `step` drops older entries: where a run starts, or that of a truncation.
-/// Returns `None` for any other step.
+/// Returns the index from which on `step` drops older entries: the start of a run, or the index of a
+/// truncation. Returns `None` for any other step, and for a run without entries.
 fn cut_of(step: &Step) -> Option<u64>
     ensures { (steps : _) → lesser result (least_cut steps) ≡ least_cut (step_shown step.now ∷ steps) }
 {
@@ -225,7 +227,8 @@ fn cut_of(step: &Step) -> Option<u64>
     }
 }
 
-/// Returns the lesser of the numbers `a` and `b`, the one that there is, or `None`.
+/// Returns the lesser of the numbers `a` and `b`. If only one is there, it returns that one, and `None` if
+/// neither is.
 pub(crate) fn lesser(a: Option<u64>, b: Option<u64>) -> Option<u64>
     ensures { result ≡ lesser a b }
 {
@@ -235,7 +238,7 @@ pub(crate) fn lesser(a: Option<u64>, b: Option<u64>) -> Option<u64>
     }
 }
 
-/// Returns `keys` without those that a step deletes. No step cleans the region.
+/// Returns `keys` without those that one of `steps` deletes. None of `steps` cleans the region.
 fn without_deleted(mut keys: Keys, steps: &[&Step]) -> Keys
     requires { has_clean (map (λ s. step_shown s.now) steps.now) ≡ false }
     ensures { keys_shown result
@@ -247,7 +250,7 @@ fn without_deleted(mut keys: Keys, steps: &[&Step]) -> Keys
     keys
 }
 
-/// Returns `keys` without the one that `step` deletes, if it deletes one.
+/// Returns `keys` without the one that `step` deletes. Returns them all if it deletes none.
 fn without_deleted_by(keys: Keys, step: &Step) -> Keys
     ensures { (steps : _) → has_clean (step_shown step.now ∷ steps) ≡ false
         → without (deleted_of finset.empty steps) (keys_shown result)
@@ -259,11 +262,11 @@ fn without_deleted_by(keys: Keys, step: &Step) -> Keys
     }
 }
 
-/// Puts the key values of `newer` over those of `keys`.
+/// Returns `keys` with the key values of `newer`, which replace those of the same key.
 ///
 /// # Errors
 ///
-/// `AllocError` if there is no memory for them.
+/// `AllocError` if there is no memory.
 fn with_pairs(mut keys: Keys, newer: Keys) -> AllocResult<Keys>
     ensures { IfOk result (λ all. keys_shown all ≡ pairs_over (keys_shown newer) (keys_shown keys)) }
 {

@@ -1,4 +1,4 @@
-//! Parts of files, read one after the other.
+//! Reads parts of files, one after the other.
 
 ghost use Rattle.std.specs.Prelude.{◌≡◌, ◌≢◌, ◌+◌, ◌≤◌, ◌↔◌, List, IsTrue, IfOk, IfErr, OnOk, OnErr};
 ghost use Rattle.raft_plain.specs.Common.{ArePartsOf, HasReplayed, CannotFollow, HasRead, HoldsFrom, EachHolds, IsInvalidArgument, IsPlaced, StopsIn, StopsAmong, IsNothing, Sound, IsReadOf};
@@ -10,7 +10,7 @@ use raft_records::{FilePart, next_batch};
 use raft_replay::segment::corruption_at;
 use std::alloc::Global;
 
-/// Checks that all parts are of files of `queue`.
+/// Checks that all of `parts` are of files of `queue`.
 ///
 /// # Errors
 ///
@@ -26,14 +26,14 @@ pub(crate) fn check_parts(alloc: Global, queue: LogQueue, parts: &[FilePart]) ->
     Err(Error::invalid_argument(alloc, "a part of another queue"))
 }
 
-/// Tests whether all parts are of files of `queue`.
+/// Tests whether all of `parts` are of files of `queue`.
 fn are_of(queue: LogQueue, parts: &[FilePart]) -> bool
     ensures { IsTrue result ↔ ArePartsOf queue parts.now }
 {
     parts.iter().all(|part| part.id().queue == queue)
 }
 
-/// Reads the batches of all `parts`, which are of files of `queue`, in order.
+/// Reads the batches of all `parts`, which must be of files of `queue`, in order. Returns what they give.
 ///
 /// # Errors
 ///
@@ -53,7 +53,7 @@ pub fn read_parts(alloc: Global, queue: LogQueue, parts: &[FilePart]) -> Result<
     Ok(reading)
 }
 
-/// Reads the batches of `part` behind those that `reading` has read.
+/// Returns what `reading` and then the batches of `part` give, which is of a file of `queue`.
 ///
 /// # Errors
 ///
@@ -89,8 +89,9 @@ fn with_part(
     }
 }
 
-/// Puts the queue, the file and the offset of a batch before the text of a `Corruption`, as `append file 3,
-/// offset 1024: `. Other errors stay as they are. Returns `Memory` if there is none for the text.
+/// Returns `error` with the queue, the file and the offset of a batch before its text if it is a
+/// `Corruption`, as `append file 3, offset 1024: `. Other errors are returned as they are. Returns `Memory`
+/// if there is none for the text.
 fn with_place(alloc: Global, error: Error, id: FileId, offset: u64) -> Error
     ensures placed { IsPlaced id offset result }
     ensures memory { result ≢ Error.Memory → error ≢ Error.Memory }

@@ -1,4 +1,4 @@
-//! What was read of a queue so far.
+//! What the batches of a queue gave that were read so far.
 
 ghost use Rattle.std.proofs.Props.{props};
 ghost use Rattle.std.specs.BTreeMap.{IsOrdered};
@@ -11,15 +11,16 @@ use raft_history::RegionStep;
 use std::alloc::Global;
 use std::collections::BTreeMap;
 
-/// What was read of a queue so far.
+/// What the batches of a queue gave that were read so far.
 #[derive(Drop)]
 pub struct Reading {
+    /// The records of each region.
     pub regions: Regions,
     /// All steps that took effect, in order.
     pub steps: Vec<RegionStep>,
-    /// The number of the file that was read last.
+    /// The number of the file of the last batch, or 0 before the first one.
     pub last: FileSeq,
-    /// What waits for the End of its group.
+    /// The steps that wait for the End of their atomic group.
     pub waiting: Stretches,
     ghost ordered: { IsOrdered nat_cmp regions } by { Prim.hlevel props },
     ghost waiting_ordered: { IsOrdered nat_cmp waiting } by { Prim.hlevel props },

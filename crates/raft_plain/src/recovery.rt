@@ -1,4 +1,4 @@
-//! What recovery gives, of one queue and of both.
+//! Recovers records, of one queue and of both.
 
 ghost use Rattle.std.specs.Prelude.{◌≡◌, ◌≢◌, ◌⊎◌, map, IfOk, IfErr, OnOk};
 ghost use Rattle.raft_plain.specs.Common.{Append, ArePartsOf, Rewrite, IsInvalidArgument, IsRecovered, AreBothRecovered, CannotFollow, HoldsFrom, EachHolds, StopsAmong, IsNothing, Sound, recovered_shown, cleaned_by_steps, region_step_shown, live_in_all, tables_shown};
@@ -13,20 +13,25 @@ use raft_records::FilePart;
 use raft_table::Step;
 use std::alloc::Global;
 
-/// The records of all regions, the regions that were cleaned, in order, and how many records are live in each queue.
+/// What a recovery gives.
 #[derive(Drop)]
 pub struct Recovered {
+    /// The records of each region.
     pub regions: Regions,
+    /// The regions that were cleaned, in order.
     pub cleaned: Vec<u64>,
+    /// How many records are live in the append queue.
     pub append: u128,
+    /// How many records are live in the rewrite queue.
     pub rewrite: u128,
 }
 
-/// Recovers the records of all regions from parts of files of `queue`, by reading their batches in order.
+/// Recovers the records of all regions from `parts`, parts of files of `queue`, by reading their batches in
+/// order.
 ///
 /// # Errors
 ///
-/// `InvalidArgument` for a part of another queue, and those of [`read_parts`].
+/// `InvalidArgument` for a part of another queue; those of [`read_parts`].
 pub fn recover_plainly(alloc: Global, queue: LogQueue, parts: &[FilePart]) -> Result<Recovered>
     ensures ok { IfOk result (λ r. IsRecovered queue (EachHolds (λ part. HoldsFrom part 0) parts.entry.now) (recovered_shown r)) }
     ensures accepted { OnOk result (ArePartsOf queue parts.entry.now) }
@@ -48,7 +53,7 @@ pub fn recover_plainly(alloc: Global, queue: LogQueue, parts: &[FilePart]) -> Re
 ///
 /// # Errors
 ///
-/// `InvalidArgument` for a part of another queue, and those of [`read_parts`] for the parts of either queue.
+/// `InvalidArgument` for a part of another queue; those of [`read_parts`] for the parts of either queue.
 pub fn recover_both_plainly(
     alloc: Global,
     rewrite: &[FilePart],
@@ -76,12 +81,12 @@ pub fn recover_both_plainly(
     Ok(with_counts(regions, cleaned))
 }
 
-/// Returns the regions that `steps` clean, in order. For the rewrite queue, whose cleans aren't told, there
-/// are none.
+/// Returns the ids of the regions that `steps` of `queue` clean, in order. For the rewrite queue, whose
+/// cleans aren't listed, there are none.
 ///
 /// # Errors
 ///
-/// `AllocError` if there is no memory for them.
+/// `AllocError` if there is no memory.
 fn cleaned_regions(alloc: Global, queue: LogQueue, steps: &[RegionStep]) -> AllocResult<Vec<u64>>
     ensures { IfOk result (λ regions. regions.items
         ≡ cleaned_by_steps queue (map region_step_shown steps.now)) }
@@ -98,7 +103,7 @@ fn cleaned_regions(alloc: Global, queue: LogQueue, steps: &[RegionStep]) -> Allo
     Ok(cleaned)
 }
 
-/// Returns the records of `regions` and the list `cleaned`, with the counts of live records in both queues.
+/// Returns `regions` and `cleaned` as what a recovery gives, with the counts of live records in both queues.
 fn with_counts(regions: Regions, cleaned: Vec<u64>) -> Recovered
     ensures regions { result.regions ≡ regions }
     ensures cleaned { result.cleaned ≡ cleaned }

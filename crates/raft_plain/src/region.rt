@@ -1,4 +1,4 @@
-//! One region's records, and what a step does to them.
+//! The records of one region, and what a step does to them.
 
 ghost use Rattle.std.specs.Prelude.{◌≡◌, ◌≢◌, ℕ, Some, None, option_map, IfOk, IfErr, OnOk};
 ghost use Rattle.std.specs.FinMap as finite;
@@ -9,10 +9,12 @@ use raft_table::Step;
 use std::alloc::Global;
 use std::collections::BTreeMap;
 
-/// The value of a key, and the file that both were written to.
+/// The value of a key, and where it was written to.
 #[derive(Debug, Drop)]
 pub struct Stored {
+    /// The value.
     pub value: Vec<u8>,
+    /// The file that key and value were written to.
     pub file: FileId,
 }
 
@@ -25,20 +27,22 @@ pub type Entries = Vec<EntryIndex>;
 /// The records of one region.
 #[derive(Debug, Drop)]
 pub struct Region {
+    /// Its entries, in order of index.
     pub entries: Entries,
+    /// Its key values.
     pub keys: Keys,
     /// The first and the last file number of the region's last atomic group.
     pub group: Option<(FileSeq, FileSeq)>,
 }
 
-/// The records of each region that is there.
+/// The records of each region that is there, by its id.
 pub type Regions = BTreeMap<u64, Region>;
 
-/// Returns `region` after a step that was read from `queue`, or `None` if the step cleans it.
+/// Returns `region` after `step`, which was read from `queue`, or `None` if the step cleans it.
 ///
 /// # Errors
 ///
-/// `Corruption` if a run leaves a hole in the append queue; `Memory`.
+/// `Corruption` if a run leaves a hole in the append queue; `Memory`. The region is dropped then.
 pub(crate) fn after_step(
     alloc: Global,
     queue: LogQueue,
@@ -87,12 +91,13 @@ pub(crate) fn after_step(
     }
 }
 
-/// Returns `entries` with `run` in place of those from its first index on. A run behind a hole is refused in
-/// the append queue, and is all that is left in the rewrite queue. A run without entries changes nothing.
+/// Returns `entries` with `run`, which was read from `queue`, in place of those from its first index on. A
+/// run after a hole is refused in the append queue; in the rewrite queue it replaces all entries. A run
+/// without entries changes nothing.
 ///
 /// # Errors
 ///
-/// `Corruption` for that hole in the append queue; `Memory`.
+/// `Corruption` for a hole in the append queue; `Memory`.
 fn with_run(alloc: Global, queue: LogQueue, entries: Entries, run: &Entries) -> Result<Entries>
     ensures ok { IfOk result (λ es. entries_after_replay queue entries.items run.now.items
         ≡ Some es.items) }
@@ -114,14 +119,15 @@ fn with_run(alloc: Global, queue: LogQueue, entries: Entries, run: &Entries) -> 
     Ok(kept)
 }
 
-/// Tests whether a run from index `start` on leaves a hole behind `entries`. False without entries.
+/// Tests whether there is a hole between the last of `entries` and a run from index `start` on. False if
+/// there are no entries.
 fn leaves_hole(entries: &[EntryIndex], start: u64) -> bool
     ensures { result ≡ leaves_hole entries.now start }
 {
     !entries.is_empty() && end_of(entries) < start as u128
 }
 
-/// Returns the greatest index of `entries` plus one, or 0 without entries.
+/// Returns the greatest index of `entries` plus one, or 0 if there are none.
 pub(crate) fn end_of(entries: &[EntryIndex]) -> u128
     ensures { result ≡ end_of entries.now }
 {
@@ -148,12 +154,12 @@ fn below(mut entries: Entries, index: u64) -> Entries
     entries
 }
 
-/// Returns `keys` with a copy of `value`, which is in `file`, under a copy of `key`, in place of the value
-/// that it had.
+/// Returns `keys` with a copy of `value`, which stands in `file`, under a copy of `key`. It replaces the
+/// value that the key had.
 ///
 /// # Errors
 ///
-/// `AllocError` if there is no memory for them.
+/// `AllocError` if there is no memory.
 fn with_pair(
     alloc: Global,
     mut keys: Keys,
@@ -178,7 +184,7 @@ pub(crate) fn without_key(mut keys: Keys, key: &Vec<u8>) -> Keys
     keys
 }
 
-/// Returns `region` if it is there, or else one without records.
+/// Returns `region` if it is there, else one without records.
 pub(crate) fn or_new(alloc: Global, region: Option<Region>) -> Region
     ensures { (id : ℕ) → table_shown id result
         ≡ table_of id (option_map (table_shown id) region) }
@@ -193,11 +199,12 @@ pub(crate) fn or_new(alloc: Global, region: Option<Region>) -> Region
     }
 }
 
-/// Returns `regions` with `region` as the region `id`, or without that region if it is `None`.
+/// Returns `regions` with `region` as the records of the region `id`. If `region` is `None`, the region isn't
+/// there any more.
 ///
 /// # Errors
 ///
-/// `AllocError` if there is no memory for it.
+/// `AllocError` if there is no memory.
 pub(crate) fn with_region(
     mut regions: Regions,
     id: u64,
@@ -220,7 +227,7 @@ pub(crate) fn with_region(
     }
 }
 
-/// Takes the region `id` out of `regions`. Returns it, or `None` if it isn't there, and the others.
+/// Takes the region `id` out of `regions`. Returns it, or `None` if it isn't there, and the other regions.
 pub(crate) fn take_region(mut regions: Regions, id: u64) -> (Option<Region>, Regions)
     requires { IsOrdered nat_cmp regions }
     ensures ordered { IsOrdered nat_cmp result.1 }

@@ -1,4 +1,4 @@
-//! The records of all regions as text, in the words of `raftlog recover`.
+//! The records of all regions as lines of text, the same as `raftlog recover` prints.
 
 ghost use Rattle.std.specs.Prelude.{◌≡◌, ◌++◌, ℕ, Option, IfOk, IfErr, OnOk, codes, flat_map, string_bytes};
 ghost use Rattle.std.specs.Fmt.{decimal};
@@ -14,9 +14,11 @@ use raft_records::write_whole;
 use std::alloc::Global;
 use std::io::Write;
 
-/// Prints a line for each region of `recovered`, by rising region, as `7 entries 10..12 keys 1 append 3
-/// rewrite -`, then the cleaned regions, as `cleaned 4 9`, and the live counts, as `live 3 0`. A `-` means
-/// that there is none.
+/// Prints a line for each region of `recovered`, the least id first, as
+/// `7 entries 10..12 keys 1 append 3 rewrite -`: the range of its indexes (here 10 and 11), the number of its
+/// keys, and the lowest number of a file that it needs in each queue. Then it prints the cleaned regions, as
+/// `cleaned 4 9`, and the live counts of the append and the rewrite queue, as `live 3 0`. A `-` means that
+/// there is none.
 ///
 /// # Errors
 ///
@@ -39,7 +41,7 @@ pub fn print_plainly<W: Write>(alloc: Global, recovered: &Recovered, writer: &mu
 ///
 /// # Errors
 ///
-/// `AllocError` if there is no memory for it.
+/// `AllocError` if there is no memory.
 fn recovered_text(alloc: Global, recovered: &Recovered) -> AllocResult<String>
     ensures { IfOk result (λ text. IsTextOfTables (recovered_shown recovered.now) (string_bytes text)) }
 {
@@ -50,12 +52,12 @@ fn recovered_text(alloc: Global, recovered: &Recovered) -> AllocResult<String>
     Ok(text)
 }
 
-/// Appends the line of the live counts, `append` of the append queue and `rewrite` of the rewrite queue, as
-/// `live 3 0`.
+/// Appends the line of the live counts to `text`, as `live 3 0`: `append` of the append queue, then `rewrite`
+/// of the rewrite queue.
 ///
 /// # Errors
 ///
-/// `AllocError` if there is no memory for it. Some of the text may have been appended then.
+/// `AllocError` if there is no memory. Some of the text may have been appended then.
 fn append_live(append: u128, rewrite: u128, text: &mut String) -> AllocResult<()>
     ensures { OnOk result (string_bytes text.new ≡ string_bytes text.old ++ (codes "live "
         ++ decimal append ++ codes " " ++ decimal rewrite ++ codes "\n")) }
@@ -63,11 +65,11 @@ fn append_live(append: u128, rewrite: u128, text: &mut String) -> AllocResult<()
     writeln!(text, "live {append} {rewrite}")
 }
 
-/// Appends a line for each of `regions`, by rising region.
+/// Appends a line for each of `regions` to `text`, the least id first.
 ///
 /// # Errors
 ///
-/// `AllocError` if there is no memory for them. Some of the text may have been appended then.
+/// `AllocError` if there is no memory. Some of the text may have been appended then.
 fn append_regions(regions: &Regions, text: &mut String) -> AllocResult<()>
     ensures ordered { IsOrdered nat_cmp regions.now }
     ensures lines { OnOk result (string_bytes text.new
@@ -79,12 +81,12 @@ fn append_regions(regions: &Regions, text: &mut String) -> AllocResult<()>
     Ok(())
 }
 
-/// Appends the line of the region `id`: the range of its indexes, the number of its keys, and the lowest
-/// number of a file that it needs in each queue, as `7 entries 10..12 keys 1 append 3 rewrite -`.
+/// Appends the line of the region `id` to `text`: the range of its indexes, the number of its keys, and the
+/// lowest number of a file that it needs in each queue, as `7 entries 10..12 keys 1 append 3 rewrite -`.
 ///
 /// # Errors
 ///
-/// `AllocError` if there is no memory for it. Some of the text may have been appended then.
+/// `AllocError` if there is no memory. Some of the text may have been appended then.
 fn append_region(id: u64, region: &Region, text: &mut String) -> AllocResult<()>
     ensures { OnOk result (string_bytes text.new ≡ string_bytes text.old ++ table_line (table_shown id region.now)) }
 {
@@ -98,18 +100,19 @@ fn append_region(id: u64, region: &Region, text: &mut String) -> AllocResult<()>
     text.push('\n')
 }
 
-/// Returns the number of keys that have a value in `keys`.
+/// Returns how many keys have a value in `keys`.
 fn key_count(keys: &Keys) -> usize
     ensures { result ≡ finite.len (keys_shown keys.now) }
 {
     keys.len()
 }
 
-/// Appends the range of the indexes, as `10..12` for 10 and 11, or `-` without entries.
+/// Appends the range of the indexes of `entries` to `text`, as `10..12` for 10 and 11, or `-` if there are
+/// none.
 ///
 /// # Errors
 ///
-/// `AllocError` if there is no memory for it. Some of the text may have been appended then.
+/// `AllocError` if there is no memory. Some of the text may have been appended then.
 fn append_range(entries: &[EntryIndex], text: &mut String) -> AllocResult<()>
     ensures { OnOk result (string_bytes text.new ≡ string_bytes text.old ++ range_text entries.now) }
 {
@@ -119,11 +122,11 @@ fn append_range(entries: &[EntryIndex], text: &mut String) -> AllocResult<()>
     }
 }
 
-/// Appends the file number `seq`, or `-` if there is none.
+/// Appends the file number `seq` to `text`, or `-` for `None`.
 ///
 /// # Errors
 ///
-/// `AllocError` if there is no memory for it. Some of the text may have been appended then.
+/// `AllocError` if there is no memory. Some of the text may have been appended then.
 fn append_seq(seq: Option<FileSeq>, text: &mut String) -> AllocResult<()>
     ensures { OnOk result (string_bytes text.new ≡ string_bytes text.old ++ seq_text seq) }
 {
@@ -133,11 +136,12 @@ fn append_seq(seq: Option<FileSeq>, text: &mut String) -> AllocResult<()>
     }
 }
 
-/// Appends the line of the cleaned regions, in order, as `cleaned 4 9`, or `cleaned -` if there are none.
+/// Appends the line of the `cleaned` regions to `text`, in order, as `cleaned 4 9`, or `cleaned -` if there
+/// are none.
 ///
 /// # Errors
 ///
-/// `AllocError` if there is no memory for it. Some of the text may have been appended then.
+/// `AllocError` if there is no memory. Some of the text may have been appended then.
 fn append_cleaned(cleaned: &[u64], text: &mut String) -> AllocResult<()>
     ensures { OnOk result (string_bytes text.new ≡ string_bytes text.old ++ cleaned_line cleaned.now) }
 {
@@ -151,8 +155,9 @@ fn append_cleaned(cleaned: &[u64], text: &mut String) -> AllocResult<()>
     text.push('\n')
 }
 
-/// Lowers the file number `seq` to at most the first one of an atomic group if it is at or below the group's
-/// last one. Returns `None` if `seq` is `None`.
+/// Returns the lowest file number that a region needs in the rewrite queue, where `seq` is that of its
+/// records there: if `seq` is at or below the last file of its atomic group `group`, at most the first one of
+/// the group. Returns `None` if `seq` is `None`.
 fn at_most_group_seq(group: Option<(FileSeq, FileSeq)>, seq: Option<FileSeq>) -> Option<FileSeq>
     ensures { result ≡ at_most_group_seq group seq }
 {
@@ -162,8 +167,8 @@ fn at_most_group_seq(group: Option<(FileSeq, FileSeq)>, seq: Option<FileSeq>) ->
     }
 }
 
-/// Returns the lower one of two file numbers in `queue`: that of the region's first entry there, and the
-/// lowest one of its key values. Returns `None` if it has no record there.
+/// Returns the file number of the region's first entry in `queue` or the lowest one of its key values there,
+/// whichever is lower. Returns `None` if the region has no record there.
 fn least_seq(queue: LogQueue, region: &Region) -> Option<FileSeq>
     ensures { result ≡ least_seq queue (table_shown 0 region.now) }
 {
@@ -171,7 +176,8 @@ fn least_seq(queue: LogQueue, region: &Region) -> Option<FileSeq>
     lesser(entry_seq, least_key_seq(queue, &region.keys))
 }
 
-/// Returns the file number of the first entry that has its place in `queue`, or `None` if there is none.
+/// Returns the file number of the first of `entries` that has its place in `queue`, or `None` if there is
+/// none.
 #[tactic(auto, unfolding(raft_table::specs::TableEntries::placed_in, raft_table::specs::TableEntries::is_placed_in))]
 fn first_entry_seq(queue: LogQueue, entries: &[EntryIndex]) -> Option<FileSeq>
     ensures { result ≡ first_entry_seq queue entries.now }
@@ -184,7 +190,8 @@ fn first_entry_seq(queue: LogQueue, entries: &[EntryIndex]) -> Option<FileSeq>
     None
 }
 
-/// Returns the lowest number of a file of `queue` that a value is in, or `None` if there is none.
+/// Returns the lowest number of a file of `queue` in which a value of `keys` stands, or `None` if there is
+/// none.
 fn least_key_seq(queue: LogQueue, keys: &Keys) -> Option<FileSeq>
     ensures { result ≡ least (seqs_in queue (keys_shown keys.now)) }
 {

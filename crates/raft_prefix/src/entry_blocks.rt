@@ -1,4 +1,4 @@
-//! The entry blocks of batches.
+//! Checks the entry blocks of batches.
 
 ghost use Rattle.std.specs.Prelude.{◌≡◌, ◌≢◌, true, false, IfErr, OnOk};
 ghost use Rattle.raft_base.specs.Corruption.{IsCorruption};
@@ -11,10 +11,10 @@ use raft_records::{LogBatch, lent_entry_block};
 use raft_replay::segment::corruption_at;
 use std::alloc::Global;
 
-/// How many bytes the header of a batch has.
+/// The length of the header of a batch, in bytes.
 const HEADER_LEN: usize = 16;
 
-/// Why the entries of a batch are refused of which the entry block doesn't end in its checksum.
+/// Why a batch is refused whose entry block doesn't end in its checksum.
 const DAMAGED_ENTRIES: &str = "the entries of this batch are damaged";
 
 /// Returns the error for a batch with damaged entries that begins at `offset` of the file `id`: `Corruption`, whose text begins
@@ -25,8 +25,8 @@ pub fn damage_at(alloc: Global, id: FileId, offset: u64) -> Error
     corruption_at(alloc, id, offset, DAMAGED_ENTRIES)
 }
 
-/// Pushes `offset` to `damaged` if the entries of the batch at the start of `bytes` are damaged. `offset` is where `bytes` begin
-/// in the append file `id`. In a rewrite file such a batch is an error.
+/// Pushes `offset` to `damaged` if the batch at the start of `bytes` has damaged entries. `bytes` begin at
+/// `offset` of the append file `id`. In a rewrite file such a batch is an error.
 ///
 /// # Errors
 ///
@@ -52,7 +52,8 @@ pub(crate) fn gather_damage(
     }
 }
 
-/// Tests whether the entry block of the batch at the start of `bytes` ends in its checksum. One batch at least must stand there.
+/// Tests whether the entry block of the batch at the start of `bytes` ends in its checksum, or is empty. A
+/// batch that can be read must stand there.
 fn is_sound(alloc: Global, bytes: &[u8]) -> bool
     requires { IsBatchIn bytes.now }
     ensures sound { result ≡ true → IsSoundIn bytes.now }

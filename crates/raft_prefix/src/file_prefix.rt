@@ -1,4 +1,4 @@
-//! The prefix of a file up to where its reading stops.
+//! Reads or replays a file up to the first batch that can't be read, and what stands from there on.
 
 ghost use Rattle.std.specs.Prelude.{◌≡◌, ◌≢◌, ◌⊎◌, ◌+◌, ◌-◌, ◌≤◌, List, ℕ, length, IfErr, IfOk};
 ghost use Rattle.raft_reading.specs.Common.{IsReadFault, IsUnread};
@@ -16,30 +16,33 @@ use std::alloc::Global;
 /// The readable prefix of a file: its batches, one after the other, up to the first one that can't be read.
 #[derive(Drop)]
 pub struct Prefix {
-    /// How many bytes it has.
+    /// How many bytes the prefix has.
     pub len: u64,
-    /// Why no batch can be read behind it; `None` if the file ends there.
+    /// Why no batch can be read after it; `None` if the file ends there.
     pub stopped: Option<Error>,
     /// The offsets in the file of its batches with damaged entries, in order; none in a rewrite file.
     pub damaged: Vec<u64>,
 }
 
-/// The readable prefix of a file that was replayed, and what was read of the file behind it.
+/// The readable prefix of a file whose batches were replayed, and the bytes after it that were read already.
 #[derive(Drop)]
 pub struct ReplayedPrefix {
+    /// The prefix.
     pub prefix: Prefix,
+    /// The bytes of the file right after the prefix, as many as were read.
     pub behind: Vec<u8>,
 }
 
-/// Returns the readable prefix of `file`, which has `len` bytes. It is read from `source` piece by piece, up to the first batch
-/// that can't be read, and no byte twice. A piece is dropped once its batches are read: so this takes the memory of a piece and
-/// of the longest batch, and 8 bytes for each batch with damaged entries. The entries of each batch are checked against their
-/// checksum.
+/// Returns the readable prefix of `file`, which has `len` bytes. It is read from `source` piece by piece, up
+/// to the first batch that can't be read, and no byte twice. A piece is dropped once its batches are read, so
+/// this takes memory for one piece and the longest batch, and 8 bytes for each batch with damaged entries.
+/// The entries of each batch are checked against their checksum.
 ///
 /// # Errors
 ///
-/// `Corruption`, which names the file and the offset, at a batch of a rewrite file with damaged entries; `Io`, whose text begins
-/// with the queue, the file and the offset, where a read fails, or gives another number of bytes than it was asked for; `Memory`.
+/// `Corruption`, whose text begins with the file and the offset, at a batch of a rewrite file with damaged
+/// entries; `Io`, whose text begins with the queue, the file and the offset, where a read fails, or gives
+/// another number of bytes than it was asked for; `Memory`.
 pub fn read_prefix<S: ReadFiles>(
     alloc: Global,
     source: &S,
@@ -75,8 +78,8 @@ pub fn read_prefix<S: ReadFiles>(
     }
 }
 
-/// Replays the readable prefix of `file`, which has `len` bytes and is read as [`read_prefix`] reads it. Returns the prefix with
-/// the bytes that were read of the file behind it.
+/// Replays the readable prefix of `file`, which has `len` bytes, into `machine`. The file is read from
+/// `source` as [`read_prefix`] reads it. Returns the prefix, and the bytes after it that were read.
 ///
 /// # Errors
 ///
@@ -115,13 +118,13 @@ pub fn replay_prefix<M: ReplayMachine, S: ReadFiles>(
     }
 }
 
-/// Returns all bytes of `file` from `at` on, as a part. The file has `len` bytes; `behind` are those from `at` on that were read
-/// already, and only the others are read.
+/// Returns all bytes of `file` from offset `at` to its end, as a part. The file has `len` bytes. `behind` has
+/// the first of these bytes, which were read already; only the others are read.
 ///
 /// # Errors
 ///
-/// `Io`, whose text begins with the queue, the file and the offset, where the read fails or gives another number of bytes;
-/// `Memory`.
+/// `Io`, whose text begins with the queue, the file and the offset, where the read fails or gives another
+/// number of bytes; `Memory`. `behind` is dropped then.
 pub fn read_tail<S: ReadFiles>(
     source: &S,
     file: &LogFileContext,
@@ -138,12 +141,13 @@ pub fn read_tail<S: ReadFiles>(
     FilePart::new(file.id, file.version, at, bytes)
 }
 
-/// Returns all bytes of `file`, which has `len` bytes, from `at` on, as a part. They are read at once.
+/// Returns all bytes of `file` from offset `at` to its end, as a part. The file has `len` bytes. They are
+/// read at once.
 ///
 /// # Errors
 ///
-/// `Io`, whose text begins with the queue, the file and the offset, where the read fails or gives another number of bytes;
-/// `Memory`.
+/// `Io`, whose text begins with the queue, the file and the offset, where the read fails or gives another
+/// number of bytes; `Memory`.
 pub fn read_rest<S: ReadFiles>(
     alloc: Global,
     source: &S,

@@ -1,4 +1,5 @@
-//! The readable prefix of a file, which is read in pieces.
+//! The readable prefix of a file: its batches up to the first one that can't be read. The file is read in
+//! pieces.
 #![tactic(auto)]
 
 #[doc(hidden)]

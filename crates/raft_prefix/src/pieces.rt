@@ -1,4 +1,4 @@
-//! Pieces of a file.
+//! How much of a file to read next.
 
 ghost use Rattle.std.specs.Prelude.{◌≡◌, ◌≤◌, IfNone, IfSome};
 ghost use Rattle.raft_prefix.specs.Pieces.{IsDecided, IsMissing, IsNoneMissing};
@@ -7,14 +7,15 @@ use raft_reading::PIECE;
 use raft_replay::cutting::header_in;
 use std::alloc::Global;
 
-/// How many bytes a header has.
+/// The length of the header of a batch, in bytes.
 const HEADER_LEN: usize = 16;
 
-/// Returns how many bytes to read behind `bytes`, at whose start no batch can be read so far, where the file has `left` more:
-/// what the batch lacks by its header, but at least a piece ([`PIECE`]), and never more than `left`.
+/// Returns how many more bytes of a file to read before a batch is tried again at the start of `bytes`, where
+/// none can be read so far. The file has `left` bytes after `bytes`. It is what the batch lacks by its
+/// header, but at least a piece ([`PIECE`]), and never more than `left`.
 ///
-/// 0 means that more bytes don't help: the file ends here, no header stands at the start of `bytes`, the batch is whole and can't
-/// be read, or it would end behind the file.
+/// 0 means that more bytes don't help: the file ends here, no header stands at the start of `bytes`, the
+/// batch is whole and still can't be read, or it would end after the file does.
 pub fn bytes_wanted(alloc: Global, bytes: &[u8], left: u64) -> usize
     ensures some { result ≤ left }
     ensures none { result ≡ 0 → IsDecided bytes.now left }
@@ -28,8 +29,8 @@ pub fn bytes_wanted(alloc: Global, bytes: &[u8], left: u64) -> usize
     (missing.max(PIECE) as u64).min(left) as usize
 }
 
-/// Returns how many bytes the batch at the start of `bytes` lacks by its header, or 0 if there are fewer bytes than a header has.
-/// `None` if no header stands there, or its batch is whole.
+/// Returns how many bytes the batch at the start of `bytes` lacks by its header, or 0 if there are fewer
+/// bytes than a header has. Returns `None` if no header stands there, or its batch is whole.
 fn bytes_missing(alloc: Global, bytes: &[u8]) -> Option<usize>
     ensures some { IfSome result (IsMissing bytes.now) }
     ensures none { IfNone result (IsNoneMissing bytes.now) }

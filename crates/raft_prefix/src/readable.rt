@@ -1,4 +1,4 @@
-//! The readable batches at the start of bytes.
+//! The readable batches at the start of some bytes.
 
 ghost use Rattle.std.specs.Prelude.{◌≡◌, ◌≢◌, ◌+◌, ◌<◌, ◌^◌, length, take, drop, IfErr, IfOk, IfSome, MatchOption, OnOk};
 ghost use Rattle.raft_base.specs.Signature.{signature_of};
@@ -16,15 +16,17 @@ use raft_history::ReplayMachine;
 use raft_records::ReadBatch;
 use std::alloc::Global;
 
-/// Reads batch after batch from the start of `bytes`, which stand in `file` from `offset` on, up to the first that can't be read.
-/// Returns how many bytes the batches before it have, and why it can't be read; `None` if `bytes` end with a batch. If `bytes`
-/// are a piece of a file, the reason may be only that the batch goes on behind them.
+/// Reads batch after batch from the start of `bytes`, which stand in `file` from `offset` on, up to the first
+/// that can't be read. Returns how many bytes the batches before it have, and why it can't be read; `None` if
+/// `bytes` end with a batch. If `bytes` are a piece of a file, the reason may be only that the batch goes on
+/// after them.
 ///
-/// In an append file the offset in the file of each batch with damaged entries is pushed to `damaged`.
+/// In an append file, the offset in the file of each batch with damaged entries is pushed to `damaged`.
 ///
 /// # Errors
 ///
-/// `Corruption` at the first batch of a rewrite file with damaged entries; `Memory`. Some offsets may have been pushed then.
+/// `Corruption` at the first batch of a rewrite file with damaged entries; `Memory`. Some offsets may have
+/// been pushed then.
 pub fn readable_in(
     alloc: Global,
     file: &LogFileContext,
@@ -59,12 +61,15 @@ pub fn readable_in(
     }
 }
 
-/// Replays the batches at the start of `bytes`, which stand in `file` from `offset` on, up to the first one that can't be read,
-/// and returns what [`readable_in`] does.
+/// Replays batch after batch from the start of `bytes`, which stand in `file` from `offset` on, into
+/// `machine`, up to the first that can't be read. Returns how many bytes the batches before it have, and why
+/// it can't be read; `None` if `bytes` end with a batch. As [`readable_in`] does, it pushes the offset in the
+/// file of each batch of an append file with damaged entries to `damaged`.
 ///
 /// # Errors
 ///
-/// Those of [`readable_in`] and of the machine. Some of the batches may have been replayed, and some offsets pushed, then.
+/// Those of [`readable_in`] and of the machine. Some of the batches may have been replayed, and some offsets
+/// pushed, then.
 pub fn replay_readable<M: ReplayMachine>(
     machine: &mut M,
     alloc: Global,
@@ -101,7 +106,8 @@ pub fn replay_readable<M: ReplayMachine>(
     }
 }
 
-/// Returns `Ok` for any error other than `Memory`.
+/// Checks that `error` isn't `Memory`: that alone ends a reading with an error, any other says that no batch
+/// can be read there.
 ///
 /// # Errors
 ///

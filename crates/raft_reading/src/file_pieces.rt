@@ -1,4 +1,4 @@
-//! One file, replayed piece by piece.
+//! Replays one file, piece by piece.
 
 ghost use Rattle.std.specs.Prelude.{◌≡◌, ◌≢◌, ℕ, ◌+◌, ◌<◌, ◌≤◌, ◌^◌, List, ◌++◌, length, drop, IfOk, IfErr, OnOk};
 ghost use Rattle.raft_reading.specs.Common.{Error, HasHeader, HasReplayed, HasReplayedFile, HeadersLead, HoldsFrom, IsAppended, IsFileStop, IsHopeless, IsIoOfKind, IsReadFault, IsReplayedFront, IsStoodFor, NoneIsWhole, StopsByFault, error_kind, part_of};
@@ -13,21 +13,22 @@ use std::alloc::Global;
 use std::io;
 use std::io::ErrorKind;
 
-/// The number of bytes of a file that are read at once, 4 MiB; more only if a batch is longer.
+/// How many bytes of a file are read at once: 4 MiB, or more where a batch is longer.
 pub const PIECE: usize = 4 << 20;
 
 /// The length of the header of a log batch, in bytes.
 const HEADER_LEN: usize = 16;
 
-/// Replays the batches of the file of `file`, which has `len` bytes, into `machine`. It is read piece by
-/// piece, no byte of it twice. A piece is let go once the batches that are whole in it are replayed, so this
-/// takes memory for one piece and the longest batch.
+/// Replays the batches of `file`, which has `len` bytes and is read from `source`, into `machine`. It is read
+/// piece by piece, no byte of it twice. A piece is dropped once the batches that are whole in it are
+/// replayed, so this takes memory for one piece and the longest batch.
 ///
 /// # Errors
 ///
 /// `Io`, whose text begins with the queue, the file and the offset, if a read fails, or gives another number
 /// of bytes than it was asked for, as when the file was changed meanwhile; `Memory`; and those of
-/// [`replay_bytes`](raft_replay::replay_bytes) for all bytes of the file.
+/// [`replay_bytes`](raft_replay::replay_bytes) for all bytes of the file. Some of the batches may have been
+/// replayed then.
 pub fn replay_file<M: ReplayMachine, S: ReadFiles>(
     machine: &mut M,
     alloc: Global,
@@ -45,7 +46,12 @@ pub fn replay_file<M: ReplayMachine, S: ReadFiles>(
     replay_through(machine, source, file, len, &mut piece)
 }
 
-/// Does what [`replay_file`] does, with its errors, in the memory of `piece`, which is emptied first.
+/// Replays the batches of `file`, which has `len` bytes and is read from `source`, into `machine`, as
+/// [`replay_file`] does. The pieces are read into the memory of `piece`, which is emptied first.
+///
+/// # Errors
+///
+/// Those of [`replay_file`]. Some of the batches may have been replayed then.
 pub(crate) fn replay_through<M: ReplayMachine, S: ReadFiles>(
     machine: &mut M,
     source: &S,
@@ -73,12 +79,12 @@ pub(crate) fn replay_through<M: ReplayMachine, S: ReadFiles>(
     }
 }
 
-/// Replays the batches that are whole in `piece`, whose first byte is at offset `at` of the file, and removes
-/// them from it. Returns the offset at which the rest of the piece begins.
+/// Replays the batches that are whole in `piece` into `machine`, and removes them from it. `at` is the offset
+/// in the file of the first byte of `piece`. Returns the offset at which the rest of the piece begins.
 ///
 /// # Errors
 ///
-/// Those of [`replay_bytes`](raft_replay::replay_bytes).
+/// Those of [`replay_bytes`](raft_replay::replay_bytes). The piece is unchanged then.
 fn replay_whole<M: ReplayMachine>(
     machine: &mut M,
     alloc: Global,
@@ -100,7 +106,8 @@ fn replay_whole<M: ReplayMachine>(
     Ok(at + whole as u64)
 }
 
-/// Returns the length in bytes of the batches that are whole at the start of `bytes`, by their headers alone.
+/// Returns how many bytes the batches have together that are whole at the start of `bytes`. It looks at their
+/// headers alone.
 fn whole_batches(alloc: Global, bytes: &[u8]) -> usize
     ensures led { HeadersLead bytes.now result }
     ensures inside { result ≤ length bytes.now }
@@ -116,7 +123,7 @@ fn whole_batches(alloc: Global, bytes: &[u8]) -> usize
     }
 }
 
-/// Removes the first `count` bytes, and moves the others to the start of the vector.
+/// Removes the first `count` bytes of `bytes`, and moves the others to the start. There are at least `count`.
 #[doc(hidden)]
 pub fn let_go(bytes: &mut Vec<u8>, count: usize)
     requires { count ≤ length bytes.old.items }
@@ -127,9 +134,12 @@ pub fn let_go(bytes: &mut Vec<u8>, count: usize)
     bytes.truncate(left);
 }
 
-/// Returns how many bytes to read behind `bytes`, at whose start no batch is whole, where the file has `left`
-/// more: enough for that batch, and a piece if there are as many. Returns 0 if no more bytes can make it
-/// whole: there is no header, or the file ends before the batch does.
+/// Returns how many more bytes of a file to read before the first batch of `bytes`, which isn't whole yet, is
+/// tried again. The file has `left` bytes after `bytes`. It is what the batch lacks by its header, but at
+/// least a piece ([`PIECE`]), and never more than `left`.
+///
+/// 0 means that more bytes don't help: no header stands at the start of `bytes`, or the file ends before the
+/// batch does.
 fn bytes_wanted(alloc: Global, bytes: &[u8], left: u64) -> usize
     requires { NoneIsWhole bytes.now }
     ensures some { result ≤ left }
@@ -148,12 +158,13 @@ fn bytes_wanted(alloc: Global, bytes: &[u8], left: u64) -> usize
     (missing.max(PIECE) as u64).min(left) as usize
 }
 
-/// Reads `len` bytes of the file behind those of `piece`, whose first byte is at offset `at` of the file.
+/// Reads `len` bytes of the file `file` and appends them to `piece`. They are those right after the bytes of
+/// `piece`, whose first byte is at offset `at` of the file.
 ///
 /// # Errors
 ///
-/// `Io`, with the place of the read, if it fails, or gives another number of bytes; `Memory`. Some of the
-/// bytes may have been appended then.
+/// `Io`, whose text begins with the place of the read, if it fails or gives another number of bytes;
+/// `Memory`. Some of the bytes may have been appended then.
 #[doc(hidden)]
 pub fn read_behind<S: ReadFiles>(
     source: &S,
@@ -183,8 +194,8 @@ pub fn read_behind<S: ReadFiles>(
     Ok(())
 }
 
-/// Returns the `Io` error for a read that failed: of the same kind, with `append file 3, offset 1024: `
-/// before its text. Returns `Memory` if there is none for the text.
+/// Returns the `Io` error for a read of `file` at `offset` that failed with `error`: of the same kind, with
+/// `append file 3, offset 1024: ` before its text. Returns `Memory` if there is none for the text.
 fn failure_at(alloc: Global, file: FileId, offset: u64, error: io::Error) -> Error
     ensures { IsIoOfKind (error_kind error) result }
 {

@@ -1,4 +1,5 @@
-//! Files that are read in pieces, which end where batches end, and let go once they are replayed.
+//! Replays files that are read in pieces. A piece ends where a batch ends, and its bytes are dropped once
+//! they are replayed.
 #![tactic(auto)]
 
 pub mod file_pieces;

@@ -1,4 +1,4 @@
-//! The files of a queue, replayed by workers.
+//! Replays the files of a queue, by several workers.
 
 ghost use Rattle.std.specs.Prelude.{◌≡◌, ◌≢◌, ◌<◌, ◌≤◌, List, [], length, IfOk, IfErr};
 ghost use Rattle.raft_reading.specs.Common.{Error, IsQueueReplayed, IsQueueStop, IsStoodFor, IsSync};
@@ -10,23 +10,26 @@ use raft_history::ReplayMachine;
 use std::alloc::Global;
 use std::thread::{Threads, join};
 
-/// A file of a queue by its number, and how many bytes it has.
+/// The number of a file, and its length in bytes.
 #[derive(Clone, Copy, PartialEq, Eq, Debug)]
 pub struct FileSize {
+    /// The number of the file.
     pub seq: FileSeq,
+    /// How many bytes it has.
     pub len: u64,
 }
 
-/// Replays the files of a queue, in order, by 1 to 256 workers. Each replays neighboring files, of about
-/// the same number of bytes in all, into a machine of its own, as [`replay_file`](crate::replay_file) does;
-/// neighboring machines are merged. The result is that of one worker. The caller does the work of one for
-/// which no thread can be started. The machines that `factory` makes must stand for no batch.
+/// Replays `files` of `queue`, in order, by `workers` workers, 1 to 256, and returns one machine. The files
+/// are all of `version`, and are read from `source`. Each worker replays some neighboring files, of about the
+/// same number of bytes in all, into a machine of its own, as [`replay_file`](crate::replay_file) does;
+/// neighboring machines are then merged. The result is that of one worker. The caller does the work of one
+/// for which no thread can be started. The machines that `factory` makes must stand for no batch.
 ///
 /// # Errors
 ///
-/// `Memory`, the factory's own, and those of [`replay_file`](crate::replay_file). If workers fail, in a
-/// reading or a merge, the files are read once more by one, up to the first refusal in order, which is
-/// returned.
+/// `Memory`; the factory's own; and those of [`replay_file`](crate::replay_file). If workers fail for another
+/// reason than lack of memory, in reading or in a merge, one worker reads all files once more, and the error
+/// is that of the first batch in order that is refused.
 pub fn replay_files<M: ReplayMachine, F: Factory<M>, S: ReadFiles, R: Threads + Sync>(
     rt: &R,
     alloc: Global,
@@ -55,12 +58,13 @@ pub fn replay_files<M: ReplayMachine, F: Factory<M>, S: ReadFiles, R: Threads + 
     replay_in_turn(alloc, factory, source, files, queue, version)
 }
 
-/// Replays the files by `workers` workers: half of these replay the first files, the others the rest at the
-/// same time, and so on for each half.
+/// Replays `files` by `workers` workers. Half of these, rounded down, replay the first files, with about as
+/// large a part of all bytes; the others replay the rest at the same time. Each half divides its files in the
+/// same way.
 ///
 /// # Errors
 ///
-/// Those of [`replay_files`], but whichever comes first: the caller then reads once more, in order.
+/// Those of [`replay_files`], of any worker: not always the first one in order.
 fn replay_divided<M: ReplayMachine, F: Factory<M>, S: ReadFiles, R: Threads + Sync>(
     rt: &R,
     alloc: Global,
@@ -112,8 +116,8 @@ fn replay_divided<M: ReplayMachine, F: Factory<M>, S: ReadFiles, R: Threads + Sy
     Ok(machine)
 }
 
-/// Returns how many of the files, from the first one on, have about `parts` of `whole` equal parts of all
-/// bytes: at least one, and not all of them. There are two files or more.
+/// Returns how many of `files`, from the first one on, have about `parts` of `whole` equal parts of all
+/// bytes: at least one, and not all of them. There must be two files or more.
 fn count_of_part(files: &[FileSize], parts: usize, whole: usize) -> usize
     requires { (1 < length files.now) × (0 < whole) }
     ensures { (0 < result) × (result < length files.now) }
@@ -131,7 +135,7 @@ fn count_of_part(files: &[FileSize], parts: usize, whole: usize) -> usize
     count.clamp(1, files.len() - 1)
 }
 
-/// Returns how many bytes `files` have together, capped at 2^64 - 1.
+/// Returns how many bytes `files` have together, at most 2^64 - 1.
 fn bytes_of(files: &[FileSize]) -> u64 {
     let mut bytes = 0u64;
     for file in files {
@@ -140,11 +144,11 @@ fn bytes_of(files: &[FileSize]) -> u64 {
     bytes
 }
 
-/// Replays `files` one after another into one machine, which it returns.
+/// Replays `files` of `queue`, one after another, into one machine, which it returns.
 ///
 /// # Errors
 ///
-/// The factory's own, those of [`replay_file`](crate::replay_file), and `Memory`.
+/// The factory's own; those of [`replay_file`](crate::replay_file); `Memory`.
 fn replay_in_turn<M: ReplayMachine, F: Factory<M>, S: ReadFiles>(
     alloc: Global,
     factory: &F,

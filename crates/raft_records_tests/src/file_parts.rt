@@ -1,4 +1,4 @@
-//! Batches read one after another, whole and damaged.
+//! Tests batches that are read one after another, whole and damaged.
 
 use crate::refusals::is_refused_for;
 use raft_records::{
@@ -15,7 +15,7 @@ use std::process::Abort;
 const BATCHES: &[u8; 58] =
     b"\x00\x00\x00\x00\x00\x00\x22\x00\x00\x00\x00\x00\x00\x00\x00\x17abc\xc2\x41\x24\x35\x01\x07\x01\x02\x0a\x02\x03\xa7\xb3\xdf\x17\x00\x00\x00\x00\x00\x00\x18\x00\x00\x00\x00\x00\x00\x00\x00\x10\x01\x01\x02\x01\x5a\x80\x0b\xdd";
 
-/// How long the first of them is.
+/// The length of the first of these batches, in bytes.
 const FIRST: usize = 34;
 
 /// A file of the append queue.
@@ -24,19 +24,20 @@ pub(crate) const FILE: FileId = FileId {
     seq: 12,
 };
 
-/// Where the entry block of the first batch is.
+/// The place of the first batch's entry block.
 const BLOCK: FileBlockHandle = FileBlockHandle {
     id: FILE,
     offset: 116,
     len: 7,
 };
 
-/// Returns these bytes of that file, from 100 on.
+/// Returns these bytes as the part of that file from offset 100 on.
 pub(crate) fn part(alloc: Global, bytes: &[u8]) -> Result<FilePart> {
     FilePart::new(FILE, Version::V1, 100, Vec::from_slice(alloc, bytes)?)
 }
 
-/// Returns how many items stand at `at`, and where the next batch begins; nothing at the end.
+/// Reads the batch at byte `at` of a part. Returns how many items it has, and where the next batch begins; `None` at
+/// the end of the part and behind it.
 fn counted(part: &FilePart, at: usize) -> Result<Option<(usize, usize)>> {
     if at > part.bytes().len() {
         return Ok(None);
@@ -52,6 +53,8 @@ fn batches(rt: HostRuntime) {
     assert!(rt; again!(batches_stand_one_behind_the_other(&rt, rt.alloc())).is_ok());
 }
 
+/// Tests that the batches of `BATCHES` are read one after another, and that a part knows its file and lends its
+/// entries.
 fn batches_stand_one_behind_the_other(rt: &impl Abort, alloc: Global) -> Result<()> {
     let part = part(alloc, BATCHES)?;
     for &(at, read) in &[(0, Some((1, FIRST))), (FIRST, Some((1, 58))), (58, None)] {
@@ -62,7 +65,7 @@ fn batches_stand_one_behind_the_other(rt: &impl Abort, alloc: Global) -> Result<
     Ok(())
 }
 
-/// Tests whether the entry bytes of the first batch are lent, and those of each of its entries.
+/// Tests whether a part lends the entry bytes of its first batch, and the bytes of each of its entries.
 fn lends_entries(alloc: Global, part: &FilePart) -> Result<bool> {
     let Some((batch, _)) = next_batch(part, 0)? else {
         return Ok(false);
@@ -75,6 +78,7 @@ fn lends_entries(alloc: Global, part: &FilePart) -> Result<bool> {
     Ok(false)
 }
 
+/// Tests whether a part lends the block of two entries, and it the bytes of each.
 fn are_lent(alloc: Global, part: &FilePart, entries: &[EntryIndex]) -> Result<bool> {
     let [first, second] = entries else {
         return Ok(false);
@@ -91,7 +95,7 @@ fn are_lent(alloc: Global, part: &FilePart, entries: &[EntryIndex]) -> Result<bo
     Ok(place == BLOCK && second.entries == Some(BLOCK) && is_lent)
 }
 
-/// Tests whether the first batch and its clone know the file that it was decoded in, until an item is added.
+/// Tests whether the first batch and its clone know the file that it was read from, until an item is added.
 fn knows_its_file(part: &FilePart) -> Result<bool> {
     let Some((mut batch, _)) = next_batch(part, 0)? else {
         return Ok(false);
@@ -107,9 +111,9 @@ fn damaged_batches(rt: HostRuntime) {
     assert!(rt; again!(damaged_batches_are_refused(&rt, rt.alloc())).is_ok());
 }
 
-/// Tests that a batch that is cut short is refused, but where nothing of it is left, and one with a flipped bit, but in
-/// its entry block, which isn't read; and that the front of so many bytes ends where its last whole batch does, and the
-/// reason is that of the decoders.
+/// Tests that a batch is refused which is cut short (unless nothing of it is left), or has a flipped bit (unless that
+/// is in its entry block, which isn't read); and that the readable prefix of such bytes ends with the last whole batch,
+/// with the error of the decoders.
 fn damaged_batches_are_refused(rt: &impl Abort, alloc: Global) -> Result<()> {
     assert!(rt; counted(&part(alloc, b"")?, 0)?.is_none());
     for len in 1..FIRST {
@@ -138,7 +142,8 @@ fn damaged_batches_are_refused(rt: &impl Abort, alloc: Global) -> Result<()> {
 const SIGNED: &[u8; 24] =
     b"\x00\x00\x00\x00\x00\x00\x18\x00\x00\x00\x00\x00\x00\x00\x00\x10\x01\x01\x02\x01\x56\x80\x0b\xdd";
 
-/// Tests whether that is read in this append file of a version; it may be refused for `Corruption`.
+/// Tests whether `SIGNED` is read as a batch of append file `seq` in a version. It isn't where it is refused as
+/// `Corruption`.
 fn is_read_in(alloc: Global, seq: u64, version: Version) -> Result<bool> {
     let id = FileId::new(LogQueue::Append, seq);
     let part = FilePart::new(id, version, 100, Vec::from_slice(alloc, SIGNED)?)?;
@@ -170,7 +175,7 @@ fn signed_batches_are_read_in_their_files(rt: &impl Abort, alloc: Global) -> Res
     Ok(())
 }
 
-/// Tests whether nothing is read at the start of these bytes, for `Corruption`.
+/// Tests whether the batch at the start of these bytes is refused as `Corruption`.
 fn is_refused(alloc: Global, bytes: &[u8]) -> Result<bool> {
     match counted(&part(alloc, bytes)?, 0) {
         Ok(_read) => Ok(false),
@@ -179,8 +184,8 @@ fn is_refused(alloc: Global, bytes: &[u8]) -> Result<bool> {
     }
 }
 
-/// Tests whether the first batch is refused with this byte's lowest bit flipped, or where the byte is in its entry
-/// block, the batch is read and the block refused.
+/// Flips the lowest bit of the byte at `at`, and tests whether the first batch is refused; or, if the byte is in its
+/// entry block, whether the batch is read and the block refused.
 fn is_flip_row(alloc: Global, at: usize) -> Result<bool> {
     let mut bytes = *BATCHES;
     if let Some(byte) = bytes.get_mut(at) {
@@ -194,7 +199,7 @@ fn is_flip_row(alloc: Global, at: usize) -> Result<bool> {
     Ok(is_read && is_block_refused(alloc, bytes)? && is_block_refused_in(&part(alloc, bytes)?)?)
 }
 
-/// Tests whether the entry block of the first batch is refused, for `Corruption`.
+/// Tests whether the entry block of the first batch in these bytes is refused as `Corruption`.
 fn is_block_refused(alloc: Global, bytes: &[u8]) -> Result<bool> {
     let block = bytes.get(16..23).unwrap_or(&[]);
     match LogBatch::decode_entries_block(alloc, block, BLOCK, CompressionType::None) {
@@ -204,7 +209,7 @@ fn is_block_refused(alloc: Global, bytes: &[u8]) -> Result<bool> {
     }
 }
 
-/// Tests the same of the block where it is lent.
+/// Tests whether the entry block of the first batch of a part is refused as `Corruption` when it is to be lent.
 fn is_block_refused_in(part: &FilePart) -> Result<bool> {
     match entries_block_in(part, BLOCK) {
         Ok(_lent) => Ok(false),
@@ -213,10 +218,11 @@ fn is_block_refused_in(part: &FilePart) -> Result<bool> {
     }
 }
 
-/// A place, and why no entry block is lent there.
+/// A place, and the error with which no entry block is lent there.
 type PlaceRow = (FileBlockHandle, &'static str);
 
-/// In another file, before the part, behind it, and with an end behind it; and with a checksum that isn't one.
+/// Places in another file, before the part, behind it, and ending behind it; and one whose last bytes aren't its
+/// checksum.
 static NO_BLOCKS: [PlaceRow; 6] = [
     (
         FileBlockHandle {
@@ -262,16 +268,17 @@ static NO_BLOCKS: [PlaceRow; 6] = [
     (FileBlockHandle { len: 4, ..BLOCK }, "Content too short 4"),
 ];
 
+/// Returns the rows of places at which there is no entry block.
 fn no_blocks() -> &'static [PlaceRow] {
     &NO_BLOCKS
 }
 
-/// Tests whether no entry block is lent at the place, for the reason of the row.
+/// Tests whether no entry block is lent at the place of a row, with its error.
 fn is_place_row(part: &FilePart, row: &PlaceRow) -> Result<bool> {
     is_refused_for(entries_block_in(part, row.0), row.1)
 }
 
-/// Tests whether an entry at this offset, with these many bytes, isn't found in three entry bytes, for this reason.
+/// Tests whether an entry of `len` bytes at an offset isn't found in three entry bytes, with the error `reason`.
 fn is_entry_row(alloc: Global, offset: u32, len: u32, reason: &str) -> Result<bool> {
     let entry = EntryIndex {
         index: 10,
@@ -287,6 +294,7 @@ fn entry_places(rt: HostRuntime) {
     assert!(rt; again!(places_are_refused(&rt, rt.alloc())).is_ok());
 }
 
+/// Tests that entry blocks and entries at wrong places are refused, each with its text.
 fn places_are_refused(rt: &impl Abort, alloc: Global) -> Result<()> {
     let part = part(alloc, BATCHES)?;
     for row in no_blocks() {
@@ -319,6 +327,7 @@ fn ends(rt: HostRuntime) {
     assert!(rt; again!(parts_end_at_the_last_offset(&rt, rt.alloc())).is_ok());
 }
 
+/// Tests that a part is refused if its end would be past the highest number.
 fn parts_end_at_the_last_offset(rt: &impl Abort, alloc: Global) -> Result<()> {
     let end = u64::MAX - 58;
     for &(offset, fits) in &[(end, true), (end + 1, false), (u64::MAX, false)] {
@@ -332,13 +341,15 @@ fn parts_end_at_the_last_offset(rt: &impl Abort, alloc: Global) -> Result<()> {
     Ok(())
 }
 
-/// Tests whether so many bytes are readable of so many, and there is this reason, none where it is empty.
+/// Tests whether the first `front` bytes of the first `len` bytes of `BATCHES` are readable, and the next batch is
+/// refused for `reason`, or not at all if that is empty.
 fn is_front(alloc: Global, len: usize, front: usize, reason: &str) -> Result<bool> {
     let bytes = BATCHES.get(..len).unwrap_or(&[]);
     is_readable_front(&part(alloc, bytes)?, front, reason)
 }
 
-/// Tests whether so many bytes of a part are readable, and there is this reason, none where it is empty.
+/// Tests whether the first `front` bytes of a part are readable, and the next batch is refused for `reason`, or not at
+/// all if that is empty.
 pub(crate) fn is_readable_front(part: &FilePart, front: usize, reason: &str) -> Result<bool> {
     let (readable, error) = readable_front(part);
     match error {

@@ -1,4 +1,4 @@
-//! Batches of items, as the Rust crate writes them.
+//! Tests batches of items, as the Rust crate writes them.
 
 ghost use Rattle.std.specs.Prelude.{◌≡◌};
 
@@ -7,7 +7,7 @@ use raft_trials::again;
 use std::alloc::Global;
 use std::process::Abort;
 
-/// How a batch is made.
+/// The way in which a batch is made.
 #[derive(Clone, Copy)]
 enum Made {
     Empty,
@@ -15,8 +15,8 @@ enum Made {
     Merged,
 }
 
-/// A batch, its approximate size, the index of its first entry, if it has any, and how many items it has; version and
-/// number of an append file, and its bytes there.
+/// A batch: how it is made, its approximate size, the index of its first entry, if it has one, how many items it has,
+/// and its bytes in the append file with a version and a number.
 type Row = (Made, usize, Option<u64>, usize, Version, u64, &'static [u8]);
 
 static ROWS: [Row; 7] = [
@@ -85,11 +85,12 @@ static ROWS: [Row; 7] = [
     ),
 ];
 
+/// Returns the rows of item batches.
 fn rows() -> &'static [Row] {
     &ROWS
 }
 
-/// Returns a put and a delete, as one batch.
+/// Returns a batch of a put and a delete.
 fn put_and_delete(alloc: Global) -> Result<LogItemBatch> {
     let mut batch = LogItemBatch::with_capacity(alloc, 2)?;
     let key = Vec::from_slice(alloc, b"put")?;
@@ -98,7 +99,7 @@ fn put_and_delete(alloc: Global) -> Result<LogItemBatch> {
     Ok(batch)
 }
 
-/// Returns an entry of one byte.
+/// Returns an entry of one byte with an index.
 pub(crate) fn entry(index: u64) -> EntryIndex
     ensures index { result.index ≡ index }
     ensures len { result.entry_len ≡ 1 }
@@ -110,7 +111,7 @@ pub(crate) fn entry(index: u64) -> EntryIndex
     }
 }
 
-/// Returns three entries of region 7 and, in a batch that was merged into theirs, two of region 8.
+/// Returns a batch with three entries of region 7, into which one with two entries of region 8 was merged.
 fn merged(alloc: Global) -> Result<LogItemBatch> {
     let mut batch = LogItemBatch::default(alloc);
     batch.add_entry_indexes(
@@ -123,6 +124,7 @@ fn merged(alloc: Global) -> Result<LogItemBatch> {
     Ok(batch)
 }
 
+/// Returns the batch that a row names.
 fn batch_of(alloc: Global, made: Made) -> Result<LogItemBatch> {
     match made {
         Made::Empty => Ok(LogItemBatch::default(alloc)),
@@ -131,7 +133,7 @@ fn batch_of(alloc: Global, made: Made) -> Result<LogItemBatch> {
     }
 }
 
-/// Returns the batch's bytes in a file of the append queue.
+/// Makes the bytes of a batch for append file `seq` in a version, and returns them.
 fn sealed(alloc: Global, batch: &mut LogItemBatch, seq: u64, version: Version) -> Result<Vec<u8>> {
     let context = LogFileContext::new(FileId::new(LogQueue::Append, seq), version);
     let mut buf = Vec::new(alloc);
@@ -140,7 +142,7 @@ fn sealed(alloc: Global, batch: &mut LogItemBatch, seq: u64, version: Version) -
     Ok(buf)
 }
 
-/// Tests whether a batch is seen as in the row, and written so, and hands so many items out.
+/// Tests whether the batch of a row has its size, its first index, its bytes and its number of items.
 fn is_row(alloc: Global, row: &Row) -> Result<bool> {
     let (made, approximate_size, first_index, items, version, seq, bytes) = *row;
     let mut batch = batch_of(alloc, made)?;
@@ -158,6 +160,7 @@ fn item_batches(rt: HostRuntime) {
     assert!(rt; again!(item_batches_are_as_in_the_rows(&rt, rt.alloc())).is_ok());
 }
 
+/// Tests each row.
 fn item_batches_are_as_in_the_rows(rt: &impl Abort, alloc: Global) -> Result<()> {
     for row in rows() {
         assert!(rt; is_row(alloc, row)?, "of {:?}", row.6);

@@ -1,4 +1,4 @@
-//! Items, and what they say, as they are written and read; and which of them are group markers.
+//! Tests items and their contents, which are written and read; and which of them are group markers.
 
 mod rows;
 
@@ -13,7 +13,7 @@ use std::alloc::Global;
 use std::io::ErrorKind;
 use std::process::Abort;
 
-/// Returns a change of a key of region 7.
+/// Returns an item that changes a key of region 7.
 fn key_value(alloc: Global, op_type: OpType, key: &[u8], value: Option<&[u8]>) -> Result<LogItem> {
     let key = Vec::from_slice(alloc, key)?;
     let value = match value {
@@ -23,7 +23,7 @@ fn key_value(alloc: Global, op_type: OpType, key: &[u8], value: Option<&[u8]>) -
     Ok(LogItem::new_kv(7, op_type, key, value))
 }
 
-/// Returns the entries of a row.
+/// Returns the entries of a row: of each its index, its offset and its length.
 fn entries_of(alloc: Global, row: &[(u64, u32, u32)]) -> Result<Vec<EntryIndex>> {
     let mut entries = Vec::new(alloc);
     for &(index, entry_offset, entry_len) in row {
@@ -37,7 +37,7 @@ fn entries_of(alloc: Global, row: &[(u64, u32, u32)]) -> Result<Vec<EntryIndex>>
     Ok(entries)
 }
 
-/// Returns an item of region 7 with this content.
+/// Returns an item of region 7 with a content.
 fn item_of(alloc: Global, content: Content) -> Result<LogItem> {
     Ok(match content {
         Content::Clean => LogItem::new_command(7, Command::Clean),
@@ -49,9 +49,9 @@ fn item_of(alloc: Global, content: Content) -> Result<LogItem> {
     })
 }
 
-/// Tests whether an item with this content is written behind two bytes as the bytes of the row, after those of region
-/// and type, and read of them, but for the value of a removal; or where the row has no bytes, whether nothing is
-/// written, of the content alone neither.
+/// Tests whether an item with the content of a row is written behind two bytes as region, type and the bytes of the
+/// row, and read from these again, but for the value of a removal; or, where the row has no bytes, whether both the
+/// item and the content alone are refused, and nothing is written.
 fn is_content_row(alloc: Global, row: &ContentRow) -> Result<bool> {
     let (content, bytes) = *row;
     let item = item_of(alloc, content)?;
@@ -71,7 +71,7 @@ fn is_content_row(alloc: Global, row: &ContentRow) -> Result<bool> {
     }
 }
 
-/// Writes a content by itself.
+/// Writes a content without region and type.
 fn encode_content(content: &LogItemContent, buf: &mut Vec<u8>) -> Result<()> {
     match content {
         LogItemContent::EntryIndexes(entries) => entries.encode(buf),
@@ -80,7 +80,8 @@ fn encode_content(content: &LogItemContent, buf: &mut Vec<u8>) -> Result<()> {
     }
 }
 
-/// Tests whether a content by itself is refused as an invalid argument, and the two bytes in the vector stay alone.
+/// Tests whether a content without region and type is refused as `InvalidArgument`, and nothing is written behind two
+/// bytes.
 fn is_unwritable(alloc: Global, content: &LogItemContent) -> Result<bool> {
     let mut buf = Vec::from_slice(alloc, b"ab")?;
     match encode_content(content, &mut buf) {
@@ -90,7 +91,7 @@ fn is_unwritable(alloc: Global, content: &LogItemContent) -> Result<bool> {
     }
 }
 
-/// Tests whether these are the bytes of an item, and no more.
+/// Tests whether an item is read from these bytes, and nothing is left.
 fn is_read(alloc: Global, item: &LogItem, bytes: &[u8]) -> Result<bool> {
     let mut rest = bytes;
     let mut size = 0;
@@ -98,7 +99,8 @@ fn is_read(alloc: Global, item: &LogItem, bytes: &[u8]) -> Result<bool> {
     Ok(read == *item && rest.is_empty())
 }
 
-/// Reads what stands at the start of bytes after so many entry bytes, a content as that of region 7.
+/// Reads an item, or a content as that of region 7, at the start of `buf`, and moves `buf` behind it. `size` is how
+/// many entry bytes come before its entries, and then how many come before those of the next item.
 fn decode(alloc: Global, form: Form, buf: &mut &[u8], size: &mut u32) -> Result<LogItem> {
     let content = match form {
         Form::Item => return LogItem::decode(alloc, buf, size),
@@ -112,7 +114,7 @@ fn decode(alloc: Global, form: Form, buf: &mut &[u8], size: &mut u32) -> Result<
     })
 }
 
-/// Tests whether an item, or its content alone, is written as these bytes.
+/// Tests whether an item, or its content alone if `form` says so, is written as these bytes.
 fn is_written(alloc: Global, form: Form, item: &LogItem, bytes: &[u8]) -> Result<bool> {
     let mut buf = Vec::new(alloc);
     match form {
@@ -122,7 +124,7 @@ fn is_written(alloc: Global, form: Form, item: &LogItem, bytes: &[u8]) -> Result
     Ok(buf.as_slice() == bytes)
 }
 
-/// Tests whether the clones of an item, its content and what that has are equal to them.
+/// Tests whether the clones of an item, of its content and of the parts of that are equal to what they are made of.
 fn is_cloned(item: &LogItem) -> Result<bool> {
     let is_content_cloned = match &item.content {
         LogItemContent::EntryIndexes(entries) => entries.clone()? == *entries,
@@ -132,6 +134,7 @@ fn is_cloned(item: &LogItem) -> Result<bool> {
     Ok(is_content_cloned && item.content.clone()? == item.content && item.clone()? == *item)
 }
 
+/// Tests whether an error is the one that a row expects.
 fn is_fault(read: Read, e: &Error) -> bool {
     match (read, e) {
         (Read::Unrecognized(text), Error::Corruption(found)) => found.as_str() == text,
@@ -143,7 +146,8 @@ fn is_fault(read: Read, e: &Error) -> bool {
     }
 }
 
-/// Tests whether this is read at the start of the bytes, and written as it was read, and cloned. What is refused stays.
+/// Tests whether what a row says is read at the start of its bytes, written as the same bytes, and cloned; or whether
+/// it is refused as the row says, and nothing is read.
 fn is_read_row(alloc: Global, row: &ReadRow) -> Result<bool> {
     let (form, bytes, read) = *row;
     let start = match form {
@@ -164,7 +168,8 @@ fn is_read_row(alloc: Global, row: &ReadRow) -> Result<bool> {
     }
 }
 
-/// Tests whether a change of the group markers' key is the group marker of the row, none, or refused so.
+/// Tests whether the change of the group markers' key in a row is parsed as the group marker of the row, as none, or is
+/// refused for its reason.
 fn is_marker_row(alloc: Global, row: &MarkerRow) -> Result<bool> {
     let (op_type, value, marker) = *row;
     let item = key_value(alloc, op_type, &ATOMIC_GROUP_KEY, value)?;
@@ -175,7 +180,7 @@ fn is_marker_row(alloc: Global, row: &MarkerRow) -> Result<bool> {
     }
 }
 
-/// Tests whether a put is read the length of whose value is spelled by two bytes, where one would do.
+/// Tests whether a put is read in which the length of the value takes two bytes, where one would be enough.
 fn is_longer_read(alloc: Global) -> Result<bool> {
     let mut rest = b"\x01\x01k\x82\x00vv".as_slice();
     let mut size = 0;
@@ -188,6 +193,7 @@ fn items(rt: HostRuntime) {
     assert!(rt; again!(items_are_as_in_the_rows(&rt, rt.alloc())).is_ok());
 }
 
+/// Tests each row of contents, of bytes that are read, and of group markers.
 fn items_are_as_in_the_rows(rt: &impl Abort, alloc: Global) -> Result<()> {
     for (number, row) in rows::contents().iter().enumerate() {
         assert!(rt; is_content_row(alloc, row)?, "content {number}");
@@ -202,7 +208,7 @@ fn items_are_as_in_the_rows(rt: &impl Abort, alloc: Global) -> Result<()> {
     Ok(())
 }
 
-/// Tests whether fronts of bytes that are shorter than the whole are refused, after one entry byte, and left.
+/// Tests whether each shorter prefix of `whole` is refused, and nothing is read.
 fn are_fronts_refused(alloc: Global, form: Form, whole: &[u8]) -> Result<bool> {
     for len in 0..whole.len() {
         if !is_refused_and_left(alloc, form, whole.get(..len).unwrap_or(whole))? {
@@ -212,8 +218,8 @@ fn are_fronts_refused(alloc: Global, form: Form, whole: &[u8]) -> Result<bool> {
     Ok(true)
 }
 
-/// Tests whether bytes are refused as corrupt, or since they end too early, and they and the number of entry bytes stay,
-/// where memory is refused too.
+/// Tests whether bytes are refused as corrupt or as ending too early, and neither they nor the number of entry bytes
+/// has changed, also where there is no memory.
 fn is_refused_and_left(alloc: Global, form: Form, bytes: &[u8]) -> Result<bool> {
     let mut rest = bytes;
     let mut size = 1;
@@ -228,7 +234,7 @@ fn is_refused_and_left(alloc: Global, form: Form, bytes: &[u8]) -> Result<bool> 
     }
 }
 
-/// Returns what is read of a front that lacks this.
+/// Returns how a prefix is refused that lacks what a letter of [`FrontsRow`] stands for.
 fn read_without(lacking: u8) -> Read {
     match lacking {
         b'i' => Read::Io,
@@ -237,7 +243,7 @@ fn read_without(lacking: u8) -> Read {
     }
 }
 
-/// Tests whether each shorter front is refused for what it lacks, and left.
+/// Tests whether each shorter prefix of the bytes of a row is refused for what it lacks, and nothing is read.
 fn is_fronts_row(alloc: Global, row: &FrontsRow) -> Result<bool> {
     let (form, whole, lacking) = *row;
     for (len, letter) in lacking.iter().enumerate() {
@@ -249,7 +255,7 @@ fn is_fronts_row(alloc: Global, row: &FrontsRow) -> Result<bool> {
     Ok(lacking.len() == whole.len())
 }
 
-/// Tests this of the bytes of an item, if it is written.
+/// Tests whether each shorter prefix of the bytes of an item, if it can be written, is refused.
 fn are_item_fronts_refused(alloc: Global, item: &LogItem) -> Result<bool> {
     let mut buf = Vec::new(alloc);
     match item.encode(&mut buf) {
@@ -259,7 +265,7 @@ fn are_item_fronts_refused(alloc: Global, item: &LogItem) -> Result<bool> {
     }
 }
 
-/// Tests this of the bytes that are read in a row, if they are.
+/// Tests whether each shorter prefix of the bytes that are read in a row, if they are, is refused.
 fn are_row_fronts_refused(alloc: Global, row: &ReadRow) -> Result<bool> {
     let (form, bytes, read) = *row;
     match read {
@@ -271,7 +277,7 @@ fn are_row_fronts_refused(alloc: Global, row: &ReadRow) -> Result<bool> {
     }
 }
 
-/// Tests this of the bytes of a change of the group markers' key.
+/// Tests whether each shorter prefix of the bytes of the change in a row is refused.
 fn are_marker_fronts_refused(alloc: Global, row: &MarkerRow) -> Result<bool> {
     let (op_type, value, _) = *row;
     are_item_fronts_refused(alloc, &key_value(alloc, op_type, &ATOMIC_GROUP_KEY, value)?)
@@ -282,6 +288,7 @@ fn shorter_fronts(rt: HostRuntime) {
     assert!(rt; again!(fronts_are_refused(&rt, rt.alloc())).is_ok());
 }
 
+/// Tests that shorter prefixes of the bytes of all rows are refused.
 fn fronts_are_refused(rt: &impl Abort, alloc: Global) -> Result<()> {
     for (number, row) in rows::contents().iter().enumerate() {
         let item = item_of(alloc, row.0)?;
@@ -300,7 +307,8 @@ fn fronts_are_refused(rt: &impl Abort, alloc: Global) -> Result<()> {
     Ok(())
 }
 
-/// Tests whether a byte is the op type that stands for it, or is refused by name.
+/// Tests whether a byte is read as it should be: 1 and 2 as the op types that are written as these bytes, any other
+/// byte not at all, with an error that names the byte.
 fn is_op_type_row(alloc: Global, byte: u8) -> Result<bool> {
     match OpType::from_u8(alloc, byte) {
         Ok(OpType::Put) => Ok(byte == 1 && OpType::Put.to_u8() == 1),
@@ -318,6 +326,7 @@ fn op_types(rt: HostRuntime) {
     assert!(rt; again!(one_and_two_are_op_types(&rt, rt.alloc())).is_ok());
 }
 
+/// Tests each byte as an op type.
 fn one_and_two_are_op_types(rt: &impl Abort, alloc: Global) -> Result<()> {
     for byte in 0..=u8::MAX {
         assert!(rt; is_op_type_row(alloc, byte)?, "{byte}");

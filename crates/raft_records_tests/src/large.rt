@@ -1,4 +1,4 @@
-//! A batch with many entry bytes and a long value, one with many items, and a part with long batches.
+//! Tests a batch with many entry bytes and a long value, one with many items, and a part with long batches.
 
 ghost use Rattle.std.specs.Prelude.{◌≡◌, OnOk};
 ghost use Rattle.raft_records.specs.LogBatch.{is_open};
@@ -12,19 +12,19 @@ use raft_trials::again;
 use std::alloc::Global;
 use std::process::Abort;
 
-/// How many entries there are.
+/// How many entries the large batch has.
 const ENTRIES: u64 = 5_000;
 
-/// How long each is.
+/// The length of each entry, in bytes.
 const LENGTH: usize = 200;
 
-/// How long the value is.
+/// The length of its value, in bytes.
 const VALUE: usize = 1 << 16;
 
-/// Where the entry bytes end, after the header.
+/// The offset of its item batch: behind the header, the entry bytes and their checksum.
 const ITEM_OFFSET: usize = 16 + 5_000 * LENGTH + 4;
 
-/// Adds the entries, from the index 1 on.
+/// Adds the entries to a batch, from index 1 on.
 fn add_entries(alloc: Global, batch: &mut LogBatch) -> Result<()>
     requires { batch.old.stage ≡ is_open }
     ensures { OnOk result (batch.new.stage ≡ is_open) }
@@ -46,7 +46,7 @@ fn add_entries(alloc: Global, batch: &mut LogBatch) -> Result<()>
     batch.add_raw_entries(7, indexes, texts)
 }
 
-/// Returns a part of version 2 with an open batch alone.
+/// Makes the bytes of an open batch, and returns them as a part of version 2.
 fn part_of(alloc: Global, mut batch: LogBatch) -> Result<FilePart> {
     if !batch.is_open() {
         return Err(Error::Failed);
@@ -58,7 +58,7 @@ fn part_of(alloc: Global, mut batch: LogBatch) -> Result<FilePart> {
     FilePart::new(file, Version::V2, 0, bytes)
 }
 
-/// Returns a part with the batch alone.
+/// Returns a part with the large batch alone.
 fn large_part(alloc: Global) -> Result<FilePart> {
     let mut batch = LogBatch::default(alloc);
     add_entries(alloc, &mut batch)?;
@@ -68,7 +68,7 @@ fn large_part(alloc: Global) -> Result<FilePart> {
     part_of(alloc, batch)
 }
 
-/// Tests whether these are so many bytes, all of them this one.
+/// Tests whether there are `len` bytes, all of them equal to `byte`.
 fn are_all(bytes: &[u8], len: usize, byte: u8) -> bool {
     for found in bytes {
         if *found != byte {
@@ -78,7 +78,7 @@ fn are_all(bytes: &[u8], len: usize, byte: u8) -> bool {
     bytes.len() == len
 }
 
-/// Tests whether each entry of the batch has its bytes.
+/// Tests whether each entry of the large batch in a part has its bytes.
 fn has_entry_bytes(alloc: Global, part: &FilePart) -> Result<bool> {
     let block = part.bytes().get(16..).unwrap_or(&[]);
     let place = FileBlockHandle {
@@ -97,7 +97,7 @@ fn has_entry_bytes(alloc: Global, part: &FilePart) -> Result<bool> {
     Ok(entries.len() == ITEM_OFFSET.saturating_sub(20) && index == ENTRIES)
 }
 
-/// Tests whether an item has the entries, the last of them at its place, or the value.
+/// Tests whether an item has all entries, the last of them at its place, or the value.
 fn is_whole(item: &LogItem) -> bool {
     match &item.content {
         LogItemContent::EntryIndexes(entries) => match entries.0.last() {
@@ -117,7 +117,7 @@ fn is_whole(item: &LogItem) -> bool {
     }
 }
 
-/// Tests whether the batch is read as it was made.
+/// Tests whether the large batch is read as it was made.
 fn is_read(alloc: Global) -> Result<bool> {
     let part = large_part(alloc)?;
     let Some((batch, end)) = next_batch(&part, 0)? else {
@@ -136,10 +136,10 @@ fn large_batches_are_read_again(rt: HostRuntime) {
     assert!(rt; matches!(again!(is_read(rt.alloc())), Ok(true)));
 }
 
-/// How many items the batch of many has.
+/// How many items the batch with many items has.
 const ITEMS: u64 = 10_000;
 
-/// Returns the batch in which as many regions are compacted, each to its id.
+/// Returns the batch with many items: each compacts a region, up to the number of the region.
 fn with_many_items(alloc: Global) -> Result<LogBatch> {
     let mut batch = LogBatch::default(alloc);
     for id in 0..ITEMS {
@@ -151,7 +151,7 @@ fn with_many_items(alloc: Global) -> Result<LogBatch> {
     Ok(batch)
 }
 
-/// Tests whether items compact the regions from 0 on, each to its id, and returns how many there are.
+/// Returns how many items there are, if they compact the regions from 0 on, each up to its number; else `None`.
 fn compacted(items: &[LogItem]) -> Option<u64> {
     let mut id = 0u64;
     for item in items {
@@ -165,7 +165,7 @@ fn compacted(items: &[LogItem]) -> Option<u64> {
     Some(id)
 }
 
-/// Tests whether the batch of many items is read as it was made.
+/// Tests whether the batch with many items is read as it was made.
 fn are_all_read(alloc: Global) -> Result<bool> {
     let part = part_of(alloc, with_many_items(alloc)?)?;
     let Some((batch, end)) = next_batch(&part, 0)? else {
@@ -179,13 +179,13 @@ fn many_items_are_read_again(rt: HostRuntime) {
     assert!(rt; matches!(again!(are_all_read(rt.alloc())), Ok(true)));
 }
 
-/// How long the value of each of three batches is.
+/// The length of the value of each of three long batches, in bytes.
 const LONG: usize = 700_000;
 
-/// How long these batches are: a header, and an item batch with a number of items, the item and a checksum.
+/// The length of a long batch: a header, and an item batch with the number of items, the item and a checksum.
 const BATCH: usize = 16 + 1 + 2 + 3 + 3 + LONG + 4;
 
-/// Appends the bytes of a batch in the file 12 that puts a value of so many bytes.
+/// Appends the bytes of a long batch, signed for file 12.
 fn append_long(alloc: Global, bytes: &mut Vec<u8>) -> Result<()> {
     let mut value = Vec::new(alloc);
     value.resize(LONG, 0xab)?;
@@ -195,7 +195,7 @@ fn append_long(alloc: Global, bytes: &mut Vec<u8>) -> Result<()> {
     Ok(())
 }
 
-/// Returns a part of the file 12 with three such batches, without its last bytes.
+/// Returns a part of file 12 with three long batches, without its last `missing` bytes.
 fn long_part(alloc: Global, missing: usize) -> Result<FilePart> {
     let mut bytes = Vec::new(alloc);
     for _ in 0..3 {
@@ -205,11 +205,13 @@ fn long_part(alloc: Global, missing: usize) -> Result<FilePart> {
     FilePart::new(FileId::new(LogQueue::Append, 12), Version::V2, 0, bytes)
 }
 
-/// Tests whether a part of three such batches, without its last bytes, is readable up to here, and why not behind.
+/// Tests whether a part of three long batches, without its last `missing` bytes, is readable up to `end`, and the batch
+/// there is refused for `reason`.
 fn is_readable_to(alloc: Global, missing: usize, end: usize, reason: &str) -> Result<bool> {
     is_readable_front(&long_part(alloc, missing)?, end, reason)
 }
 
+/// Tests how far a part of three long batches is readable without its last bytes.
 fn long_parts_are_readable(rt: &impl Abort, alloc: Global) -> Result<()> {
     for &(missing, end, reason) in &[
         (0, 3 * BATCH, ""),

@@ -1,4 +1,4 @@
-//! Batches of items and entry bytes, as the Rust crate makes them.
+//! Tests batches of items and entry bytes, as the Rust crate makes them.
 
 ghost use Rattle.std.specs.Prelude.{◌≡◌, [], IfOk};
 ghost use Rattle.raft_records.specs.LogBatch.{is_open};
@@ -17,7 +17,7 @@ use rows::Row;
 use std::alloc::Global;
 use std::process::Abort;
 
-/// A line of a log, which refuses to write itself where it has no text.
+/// A line of a log. It can't be encoded where it has no text.
 #[derive(Clone, Copy, PartialEq)]
 struct Line {
     index: u64,
@@ -40,7 +40,7 @@ impl Message for Line {
     }
 }
 
-/// Logs of lines.
+/// The type of entries that are lines.
 struct Lines;
 
 impl MessageExt for Lines {
@@ -53,12 +53,12 @@ impl MessageExt for Lines {
     }
 }
 
-/// Returns a line of a log.
+/// Returns a line with an index.
 const fn line_of(index: u64, text: &'static [u8]) -> Line {
     Line { index, text }
 }
 
-/// Returns a batch with a command.
+/// Returns a batch with a command for a region.
 fn with_command(alloc: Global, region_id: u64, command: Command) -> Result<LogBatch> {
     let mut batch = LogBatch::default(alloc);
     batch.add_command(region_id, command)?;
@@ -74,7 +74,7 @@ fn with_key_values(alloc: Global) -> Result<LogBatch> {
     Ok(batch)
 }
 
-/// Returns a batch with entries.
+/// Returns a batch with lines as the entries of a region.
 fn with_lines(alloc: Global, region_id: u64, lines: &[Line]) -> Result<LogBatch>
     ensures { IfOk result (λ batch. batch.stage ≡ is_open) }
 {
@@ -98,7 +98,7 @@ fn with_raw_entries(alloc: Global) -> Result<LogBatch>
     Ok(batch)
 }
 
-/// Returns a batch with these three entries, and one item of each other kind.
+/// Returns a batch with three entries, and one item of each other kind.
 fn with_one_of_each(alloc: Global) -> Result<LogBatch>
     ensures { IfOk result (λ batch. batch.stage ≡ is_open) }
 {
@@ -125,7 +125,7 @@ fn merged(alloc: Global) -> Result<LogBatch> {
     Ok(batch)
 }
 
-/// Returns a batch with this group marker, the first one of its group or the second.
+/// Returns a batch with a group marker of this status.
 fn with_marker(alloc: Global, status: AtomicGroupStatus) -> Result<LogBatch> {
     let mut builder = AtomicGroupBuilder::with_id(9);
     let mut batch = LogBatch::default(alloc);
@@ -141,12 +141,12 @@ fn with_marker(alloc: Global, status: AtomicGroupStatus) -> Result<LogBatch> {
     Ok(next)
 }
 
-/// Returns a file of the append queue.
+/// Returns append file `seq` in a version.
 fn context(seq: u64, version: Version) -> LogFileContext {
     LogFileContext::new(FileId::new(LogQueue::Append, seq), version)
 }
 
-/// Tests whether these are the bytes of the value in a file.
+/// Tests whether a value has these bytes in append file `seq` of a version: `front`, and then `seal`.
 fn is_written<T: ReactiveBytes>(
     value: &mut T,
     seq: u64,
@@ -161,8 +161,8 @@ fn is_written<T: ReactiveBytes>(
     bytes.len() == front.len() + seal.len() && bytes.starts_with(front) && bytes.ends_with(seal)
 }
 
-/// Reads a batch back from its bytes in a file, if its header fits them: where its items begin, its entry bytes, and its
-/// items or why they can't be read.
+/// Reads a batch back from its bytes in a file. Returns where its items begin, its entry bytes, and its items, or the
+/// error with which they can't be read; `None` where its header doesn't fit the bytes.
 fn read_back(
     alloc: Global,
     bytes: &[u8],
@@ -184,7 +184,8 @@ fn read_back(
     Ok(Some((offset, entries, items)))
 }
 
-/// Tests whether a sealed batch's header, entry bytes and item batch are read as in the row, in the same file.
+/// Tests whether a signed batch's header, entry bytes and item batch are read, as the row says, in the file that it is
+/// signed for.
 fn is_read_so(
     alloc: Global,
     batch: &LogBatch,
@@ -208,8 +209,7 @@ fn is_read_so(
     )
 }
 
-/// Tests whether an open batch has the row's approximate size, and then its bytes in five files, which are
-/// read there.
+/// Tests whether an open batch has the size of a row, and then its bytes in five files, from which it is read back.
 fn is_made(alloc: Global, batch: &mut LogBatch, row: &Row) -> Result<bool> {
     if batch.ready() || !batch.is_open() || batch.approximate_size() != row.size {
         return Ok(false);
@@ -235,6 +235,7 @@ fn rows_of_batches(rt: HostRuntime) {
     assert!(rt; again!(batches_are_made_and_read_as_in_the_rows(&rt, rt.alloc())).is_ok());
 }
 
+/// Tests the batch of each row.
 fn batches_are_made_and_read_as_in_the_rows(rt: &impl Abort, alloc: Global) -> Result<()> {
     for (number, row) in rows::rows().iter().enumerate() {
         let mut batch = batch_of(alloc, number)?;
@@ -243,7 +244,7 @@ fn batches_are_made_and_read_as_in_the_rows(rt: &impl Abort, alloc: Global) -> R
     Ok(())
 }
 
-/// Returns the open batch of a row.
+/// Returns the open batch of the row at position `number`.
 fn batch_of(alloc: Global, number: usize) -> Result<LogBatch> {
     match number {
         0 => Ok(LogBatch::default(alloc)),
@@ -260,7 +261,7 @@ fn batch_of(alloc: Global, number: usize) -> Result<LogBatch> {
     }
 }
 
-/// Returns what a call is refused for, nothing where it isn't; want of memory is handed on.
+/// Returns why a call was refused, in a word; an empty text where it wasn't. `Memory` is passed on.
 fn refusal_of(called: Result<()>) -> Result<&'static str> {
     match called {
         Ok(()) => Ok(""),
@@ -271,7 +272,7 @@ fn refusal_of(called: Result<()>) -> Result<&'static str> {
     }
 }
 
-/// Adds no entries to an open batch, by their bytes.
+/// Adds an empty list of entries, given as bytes, to an open batch.
 fn add_nothing(alloc: Global, batch: &mut LogBatch) -> Result<()> {
     let (indexes, texts) = (Vec::new(alloc), Vec::new(alloc));
     if !batch.is_open() || indexes.len() != texts.len() || !is_consecutive(&indexes) {
@@ -280,7 +281,7 @@ fn add_nothing(alloc: Global, batch: &mut LogBatch) -> Result<()> {
     batch.add_raw_entries(1, indexes, texts)
 }
 
-/// Makes one of ten calls, of which the last four are not refused.
+/// Makes the call with a number, one of ten, of which the last four aren't refused.
 fn attempt(alloc: Global, batch: &mut LogBatch, number: usize) -> Result<()> {
     if !batch.is_open() {
         return Ok(());
@@ -305,8 +306,8 @@ fn refused_additions(rt: HostRuntime) {
     assert!(rt; again!(refused_additions_leave_the_batch(&rt, rt.alloc())).is_ok());
 }
 
-/// Tests whether a call on a batch with a command is refused for this reason, nothing where it isn't, and leaves the
-/// batch then.
+/// Tests whether the call with a number, on a batch with a command, is refused for `refusal` and leaves the batch as it
+/// was; or isn't refused, if `refusal` is empty.
 fn is_refused_and_left(alloc: Global, number: usize, refusal: &str) -> Result<bool> {
     let mut batch = with_command(alloc, 8, Command::Clean)?;
     let before = batch.clone()?;
@@ -315,7 +316,7 @@ fn is_refused_and_left(alloc: Global, number: usize, refusal: &str) -> Result<bo
     Ok(refusal_of(called)? == refusal && (refusal.is_empty() || is_left))
 }
 
-/// Tests what each call is refused for, if it is, and the batch's approximate size after it.
+/// Tests for each call why it is refused, if it is, and which size the batch has then.
 fn refused_additions_leave_the_batch(rt: &impl Abort, alloc: Global) -> Result<()> {
     for &(number, refusal, size) in &[
         (0, "invalid argument", 0),
@@ -341,7 +342,8 @@ fn refused_additions_leave_the_batch(rt: &impl Abort, alloc: Global) -> Result<(
     Ok(())
 }
 
-/// Tests whether a batch whose bytes are asked for is then as its clone that was signed for the same file.
+/// Tests whether a batch whose bytes in a file are asked for is then equal to its clone that was signed for the same
+/// file.
 fn is_only_signed(alloc: Global) -> Result<bool> {
     let mut batch = with_one_of_each(alloc)?;
     batch.finish_populate()?;
@@ -366,15 +368,15 @@ fn asked_bytes_leave_the_batch(rt: HostRuntime) {
     assert!(rt; matches!(again!(is_only_signed(rt.alloc())), Ok(true)));
 }
 
-/// The bytes of a batch in the file 12 in which region 8 is cleaned.
+/// The bytes, in file 12, of a batch that cleans region 8.
 const BEFORE: &[u8] =
     b"\x00\x00\x00\x00\x00\x00\x18\x00\x00\x00\x00\x00\x00\x00\x00\x10\x01\x08\x02\x01\xd9\xbb\xda\xd2";
 
-/// Those of the batch with the entries 10 and 11 of region 7 behind that.
+/// The bytes, in file 12, of that batch with the entries 10 and 11 of region 7 behind the `Clean`.
 const BEHIND: &[u8] =
     b"\x00\x00\x00\x00\x00\x00\x25\x00\x00\x00\x00\x00\x00\x00\x00\x17\x61\x62\x63\xc2\x41\x24\x35\x02\x08\x02\x01\x07\x01\x02\x0a\x02\x03\xfb\x71\x31\x94";
 
-/// Tests whether an open batch has this size, and these bytes in the file 12 if it is finished. It stays open.
+/// Tests whether an open batch has this size, and whether a copy of it has these bytes in file 12.
 fn is_seen_so(batch: &LogBatch, size: usize, bytes: &[u8]) -> Result<bool> {
     let mut copy = batch.clone()?;
     if !copy.is_open() || copy.approximate_size() != size {
@@ -387,7 +389,8 @@ fn is_seen_so(batch: &LogBatch, size: usize, bytes: &[u8]) -> Result<bool> {
     Ok(len == bytes.len() && copy.as_bytes(&context(12, Version::V2)) == bytes)
 }
 
-/// Tests whether a list whose second message refuses to write itself leaves a batch that isn't empty, with its items.
+/// Tests whether a list whose second line can't be encoded is refused, and leaves an open batch with its items as it
+/// was.
 fn is_left_by_refusal(batch: &mut LogBatch) -> Result<bool> {
     let before = batch.clone()?;
     if !batch.is_open() {
@@ -398,8 +401,8 @@ fn is_left_by_refusal(batch: &mut LogBatch) -> Result<bool> {
     Ok(is_refused && *batch == before && batch.items() == before.items())
 }
 
-/// Tests whether such a batch is after the refusal as it was before, and after the next list as without the refusal; no
-/// entries then add nothing.
+/// Tests whether a batch has the bytes that it had before, after a list that was refused; and after the next list those
+/// that it would have without the refusal. An empty list then adds nothing.
 fn goes_on_after_refusal(alloc: Global) -> Result<bool> {
     let mut batch = LogBatch::default(alloc);
     batch.add_command(8, Command::Clean)?;
@@ -416,7 +419,7 @@ fn refused_messages_leave_the_batch(rt: HostRuntime) {
     assert!(rt; matches!(again!(goes_on_after_refusal(rt.alloc())), Ok(true)));
 }
 
-/// Tests whether a builder has the state of the last group marker that it gave.
+/// Tests whether the builder of a group has the status of the last group marker that it has added.
 fn has_states(alloc: Global) -> Result<bool> {
     let mut builder = AtomicGroupBuilder::with_id(9);
     let mut batch = LogBatch::default(alloc);
@@ -435,7 +438,7 @@ fn states_of_a_group(rt: HostRuntime) {
     assert!(rt; matches!(again!(has_states(rt.alloc())), Ok(true)));
 }
 
-/// Tests whether clones are equal to what they are made of, until an item is added to them.
+/// Tests whether clones of item batches are equal to what they are made of, until an item is added to them.
 fn clones_are_equal(alloc: Global) -> Result<bool> {
     let mut items = LogItemBatch::default(alloc);
     items.delete(1, Vec::new(alloc))?;
@@ -445,7 +448,7 @@ fn clones_are_equal(alloc: Global) -> Result<bool> {
     Ok(same && more != items)
 }
 
-/// Tests the same of log batches, until one is finished.
+/// Tests whether clones of log batches are equal to what they are made of, until the bytes of one are made.
 fn log_batches_are_equal(alloc: Global) -> Result<bool> {
     let mut batch = LogBatch::default(alloc);
     AtomicGroupBuilder::with_id(9).begin(&mut batch)?;
@@ -455,6 +458,7 @@ fn log_batches_are_equal(alloc: Global) -> Result<bool> {
     Ok(same && copy != batch)
 }
 
+/// Tests both kinds of batches.
 fn all_clones_are_equal(alloc: Global) -> Result<bool> {
     Ok(clones_are_equal(alloc)? && log_batches_are_equal(alloc)?)
 }

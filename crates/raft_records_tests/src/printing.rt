@@ -1,4 +1,4 @@
-//! A long text, whole; and readers and writers that are interrupted, or fail.
+//! Tests that a long text is printed whole, and readers and writers that are interrupted or fail.
 
 use raft_records::{
     Error, FileId, LogFileContext, LogQueue, Result, Version, batch_text, print_batch,
@@ -16,7 +16,7 @@ fn long_batch(alloc: Global) -> Result<Vec<u8>> {
     Ok(bytes)
 }
 
-/// Returns the text of that batch, if that is what is printed.
+/// Prints that batch, and returns the text, if it is the one of the batch.
 fn long_text(alloc: Global) -> Result<Option<String>> {
     let context = LogFileContext::new(FileId::new(LogQueue::Append, 0), Version::V1);
     let bytes = long_batch(alloc)?;
@@ -45,11 +45,11 @@ fn long_batches_are_printed(rt: HostRuntime) {
     );
 }
 
-/// Bytes that are read or written a few at a time, interrupted before each time, and not after so many times.
+/// A reader or a writer of bytes, a few at a time. Each second call is interrupted, and after some calls all fail.
 #[derive(Drop)]
 struct Halting {
     bytes: Vec<u8>,
-    /// How many of the bytes were read.
+    /// How many of the bytes were read so far.
     read: usize,
     times: usize,
     fails_behind: usize,
@@ -57,6 +57,7 @@ struct Halting {
 }
 
 impl Halting {
+    /// Returns a reader and writer of these bytes that fails after `fails_behind` calls.
     fn new(bytes: Vec<u8>, fails_behind: usize) -> Halting {
         Halting {
             bytes,
@@ -67,7 +68,7 @@ impl Halting {
         }
     }
 
-    /// Refuses each second call as interrupted, and those after so many.
+    /// Counts a call, or returns its error: each second one is interrupted, and after `fails_behind` calls all fail.
     fn go_on(&mut self) -> io::Result<()> {
         self.is_interrupted = !self.is_interrupted;
         if self.is_interrupted {
@@ -107,14 +108,14 @@ impl Write for Halting {
     }
 }
 
-/// A batch of 8 bytes, which are read at the third time, and nothing more at the fourth.
+/// A batch of 8 bytes. Three reads get all of them, and the fourth nothing more.
 const CLEAN: &[u8; 8] = b"\x01\x01\x02\x01\x5a\x80\x0b\xdd";
 
-/// Its lines, of 23 bytes, which are written at the eighth time.
+/// Its lines, of 23 bytes. Eight writes take all of them.
 const LINES: &str = "1 clean\nitems 1 rest 0\n";
 
-/// Returns what is written of the lines where the reader fails after so many reads and the writer after so many writes,
-/// and whether one of them fails and that is handed on.
+/// Prints the batch with a reader that fails after so many reads and a writer that fails after so many writes. Returns
+/// what is written, and whether the error of one of them is passed on.
 fn printed(alloc: Global, reads: usize, writes: usize) -> Result<(Vec<u8>, bool)> {
     let context = LogFileContext::new(FileId::new(LogQueue::Append, 12), Version::V1);
     let mut reader = Halting::new(Vec::from_slice(alloc, CLEAN)?, reads);
@@ -127,13 +128,13 @@ fn printed(alloc: Global, reads: usize, writes: usize) -> Result<(Vec<u8>, bool)
     }
 }
 
-/// Tests whether so many bytes of the lines are written, all of them without a failure.
+/// Tests whether the first `len` bytes of the lines are written, and there is an error unless these are all.
 fn are_printed(alloc: Global, reads: usize, writes: usize, len: usize) -> Result<bool> {
     let (written, is_refused) = printed(alloc, reads, writes)?;
     Ok(LINES.as_bytes().get(..len) == Some(written.as_slice()) && is_refused == (len < LINES.len()))
 }
 
-/// Tests that nothing is written where a read fails, and what the writes before have taken where a write does.
+/// Tests that nothing is written where a read fails, and that what earlier writes took is written where a write fails.
 fn failures_are_handed_on(alloc: Global) -> Result<bool> {
     for reads in 0..4 {
         if !are_printed(alloc, reads, 8, 0)? {

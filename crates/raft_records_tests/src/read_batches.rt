@@ -1,4 +1,4 @@
-//! Batches as they are read, one in place of another, whole and damaged.
+//! Tests batches that are read in place of one another, whole and damaged.
 
 use crate::file_parts::{FILE, part};
 use raft_records::{
@@ -13,11 +13,11 @@ use std::process::Abort;
 pub(crate) const BATCHES: &[u8; 138] =
     b"\x00\x00\x00\x00\x00\x00`\x00\x00\x00\x00\x00\x00\x00\x00\x1cabcdefghP*\xef\xae\x09\x07\x01\x02\x0a\x02\x03\x01\x02\x01\x07\x03\x01\x01k\x02vv\x02\x02\x02\xac\x02\x07\x03\x02\x01d\x80\x80\x80\x80\x80\x20\x01\x02\x80\x80\x80\x80\x20\x03\x08\x03\x02\x03\x05\x09\x01\x00\xff\xff\xff\xff\xff\xff\xff\xff\xff\x01\x03\x01\x00\x00\xfd\x8a\x1f\x19\x00\x00\x00\x00\x00\x00*\x00\x00\x00\x00\x00\x00\x00\x00\x16xy\x99(\xe6\x8f\x02\x07\x01\x02\x0c\x01\x02\x08\x03\x01\x04long\x00g\xfd\xfb\x92";
 
-/// How long the first of them is.
+/// The length of the first of these batches, in bytes.
 pub(crate) const FIRST: usize = 96;
 
-/// Reads the batch at `at` in place of the one that is held, and returns where the next one begins; nothing at the
-/// end, and past it.
+/// Reads the batch at byte `at` of a part in place of the one that `batch` has. Returns where the next batch begins;
+/// `None` at the end of the part and behind it.
 fn read_at<'a>(batch: &mut ReadBatch<'a>, part: &'a FilePart, at: usize) -> Result<Option<usize>> {
     if at > part.bytes().len() {
         return Ok(None);
@@ -26,12 +26,13 @@ fn read_at<'a>(batch: &mut ReadBatch<'a>, part: &'a FilePart, at: usize) -> Resu
     batch.read_next(&context, part.offset(), part.bytes(), at)
 }
 
+/// Tests whether a batch has no items, and no spans of them.
 fn has_no_items(batch: &ReadBatch<'_>) -> bool {
     let (_, items, spans) = batch.parts();
     items.is_empty() && spans.is_empty()
 }
 
-/// Tests whether a batch has these many items, those of the batch that stands at `at`, or none at the end.
+/// Tests whether a batch has `count` items, those of the batch at byte `at` of a part, or none at the end of the part.
 fn has_items_at(
     alloc: Global,
     batch: &ReadBatch<'_>,
@@ -50,7 +51,7 @@ fn has_items_at(
     }
 }
 
-/// Tests whether a batch is the second one.
+/// Tests whether a batch is the second one of `BATCHES`.
 fn is_second(batch: &ReadBatch<'_>) -> bool {
     let (place, items, spans) = batch.parts();
     let own_place = FileBlockHandle {
@@ -85,6 +86,7 @@ fn read_batches(rt: HostRuntime) {
     assert!(rt; again!(batches_are_read_in_place_of_one_another(&rt, rt.alloc())).is_ok());
 }
 
+/// Tests that each batch is read into the memory of the one before it, in any order.
 fn batches_are_read_in_place_of_one_another(rt: &impl Abort, alloc: Global) -> Result<()> {
     let part = part(alloc, BATCHES)?;
     let mut batch = ReadBatch::new(alloc, FILE);
@@ -106,8 +108,8 @@ fn damaged_read_batches(rt: HostRuntime) {
     assert!(rt; again!(damaged_batches_hold_no_items(&rt, rt.alloc())).is_ok());
 }
 
-/// Tests that after a batch that was read, no items are held of one with a flipped bit, wherever it is but in its entry
-/// block.
+/// Tests that a batch with a flipped bit, anywhere but in its entry block, leaves no items when it is read in place of
+/// another one.
 fn damaged_batches_hold_no_items(rt: &impl Abort, alloc: Global) -> Result<()> {
     for at in (FIRST..FIRST + 16).chain(FIRST + 22..138) {
         assert!(rt; is_flip_refused(alloc, at)?, "at {at}");
@@ -115,8 +117,8 @@ fn damaged_batches_hold_no_items(rt: &impl Abort, alloc: Global) -> Result<()> {
     Ok(())
 }
 
-/// Tests whether the second batch is refused with this byte's lowest bit flipped, and the first one read before and
-/// again.
+/// Flips the lowest bit of the byte at `at`, and tests whether the second batch is refused and leaves no items, and the
+/// first one is read before and again.
 fn is_flip_refused(alloc: Global, at: usize) -> Result<bool> {
     let mut bytes = *BATCHES;
     if let Some(byte) = bytes.get_mut(at) {

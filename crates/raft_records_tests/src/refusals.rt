@@ -1,5 +1,6 @@
-//! What is no header, no entry block and no item batch. The words for it are those of raft-engine 0.4.2, but for entry
-//! blocks that are cut short; and but for compression type 1, which it knows, and a few more faults, so are the rows.
+//! Tests bytes that are no header, no entry block or no item batch. The texts of the errors are those of raft-engine
+//! 0.4.2, but for entry blocks that are cut short. So are the rows, but for compression type 1, which it knows, and a
+//! few others.
 
 use raft_records::{
     CompressionType, Error, FileBlockHandle, FileId, LogBatch, LogFileContext, LogItemBatch,
@@ -19,26 +20,26 @@ const PLACE: FileBlockHandle = FileBlockHandle {
     len: 0,
 };
 
-/// As what bytes are read.
+/// The form in which bytes are read.
 #[derive(Clone, Copy)]
 enum Form {
     Header,
-    /// As an entry block of so many bytes.
+    /// An entry block of so many bytes.
     Block(usize),
-    /// As an item batch in this version of an append file, and the file's number.
+    /// An item batch of an append file in a version, with the number of the file.
     Items(Version, u64),
 }
 
-/// As what bytes are read, the bytes, and the entry bytes that are read of them, none of an item batch without items;
-/// or why they are refused. No text stands for `Codec`.
+/// The form in which bytes are read, the bytes, and the entry bytes that are read from them, none for an item batch
+/// without items; or the text of the error. An empty text stands for `Codec`.
 type Row = (
     Form,
     &'static [u8],
     std::result::Result<&'static [u8], &'static str>,
 );
 
-/// More than one thing is wrong in the last three rows of headers. The last four batches, which are sealed, say that
-/// they have more than they have: 2^40 items and none, 2^63 and one, 2^40 entries and none, 2^63 and two.
+/// In the last three rows of headers more than one thing is wrong. The last four batches have a right checksum, and
+/// claim to have more than they have: 2^40 items (none), 2^63 items (one), 2^40 entries (none), 2^63 entries (two).
 static ROWS: [Row; 50] = [
     (Form::Header, b"", Err("Log batch header too short: 0")),
     (
@@ -264,11 +265,12 @@ static ROWS: [Row; 50] = [
     ),
 ];
 
+/// Returns the rows of bytes.
 fn rows() -> &'static [Row] {
     &ROWS
 }
 
-/// Tests whether there is a refusal as corrupt with this text, or as `Codec` where there is no text.
+/// Tests whether a result is `Corruption` with this text, or `Codec` if the text is empty.
 pub(crate) fn is_refused_for<T: Drop>(answer: Result<T>, text: &str) -> Result<bool> {
     match answer {
         Ok(_read) => Ok(false),
@@ -278,7 +280,7 @@ pub(crate) fn is_refused_for<T: Drop>(answer: Result<T>, text: &str) -> Result<b
     }
 }
 
-/// Returns the entry bytes that are read as this form, none of a header.
+/// Reads the start of `buf` in a form, and returns the entry bytes; none for a header.
 fn decode(alloc: Global, form: Form, buf: &mut &[u8]) -> Result<Vec<u8>> {
     match form {
         Form::Header => {
@@ -293,7 +295,7 @@ fn decode(alloc: Global, form: Form, buf: &mut &[u8]) -> Result<Vec<u8>> {
     }
 }
 
-/// Reads an item batch, which is refused as `Failed` where it has items.
+/// Reads an item batch, and returns no bytes; `Failed` where it has items.
 fn decode_no_items(alloc: Global, buf: &mut &[u8], version: Version, seq: u64) -> Result<Vec<u8>> {
     let file = LogFileContext::new(FileId::new(LogQueue::Append, seq), version);
     let batch = LogItemBatch::decode(alloc, buf, PLACE, CompressionType::None, &file)?;
@@ -303,7 +305,7 @@ fn decode_no_items(alloc: Global, buf: &mut &[u8], version: Version, seq: u64) -
     Ok(Vec::new(alloc))
 }
 
-/// Tests whether bytes are read as in the row, or refused so and left.
+/// Tests whether the bytes of a row are read as it says, or refused as it says, and nothing is read.
 fn is_row(alloc: Global, row: &Row) -> Result<bool> {
     let (form, bytes, owed) = *row;
     let mut buf = bytes;
@@ -319,6 +321,7 @@ fn refusals(rt: HostRuntime) {
     assert!(rt; again!(bytes_are_read_or_refused_and_left(&rt, rt.alloc())).is_ok());
 }
 
+/// Tests each row.
 fn bytes_are_read_or_refused_and_left(rt: &impl Abort, alloc: Global) -> Result<()> {
     for row in rows() {
         assert!(rt; is_row(alloc, row)?, "at {:?}", row.1);

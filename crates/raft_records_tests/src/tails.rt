@@ -1,4 +1,4 @@
-//! What stands where the reading of a file stops.
+//! Tests what is found where a file can't be read any further.
 
 use crate::file_parts::FILE;
 use crate::read_batches::{BATCHES, FIRST};
@@ -9,16 +9,16 @@ use raft_trials::again;
 use std::alloc::Global;
 use std::process::Abort;
 
-/// Bytes of file 12, and what stands from one of them on.
+/// Bytes of file 12, and what is found from one of them on.
 struct Row {
     version: Version,
     bytes: &'static [u8],
     from: usize,
-    /// Where the first batch of the file stands.
+    /// Where the first batch of this file begins, if there is one.
     sound: Option<usize>,
-    /// Where the first batch of another file stands, and the number of that file.
+    /// Where the first batch begins that is signed for another file, and the number of that file, if there is one.
     elsewhere: Option<(usize, FileSeq)>,
-    /// Whether all of it can be what is left of one batch.
+    /// Whether all bytes from there on can be what is left of a single batch.
     broken: bool,
 }
 
@@ -196,16 +196,17 @@ static ROWS: [Row; 20] = [
     },
 ];
 
+/// Returns the rows of tails.
 fn rows() -> &'static [Row] {
     &ROWS
 }
 
-/// Returns these bytes of the file, from 100 on.
+/// Returns these bytes as the part of file 12 from offset 100 on.
 fn part(alloc: Global, version: Version, bytes: &[u8]) -> Result<FilePart> {
     FilePart::new(FILE, version, 100, Vec::from_slice(alloc, bytes)?)
 }
 
-/// Tests whether what stands at a byte and to the end is broken off.
+/// Tests whether the bytes from `at` on can be what is left of a single batch.
 fn is_broken(part: &FilePart, at: usize) -> Result<bool> {
     if at > part.bytes().len() {
         return Ok(false);
@@ -213,6 +214,8 @@ fn is_broken(part: &FilePart, at: usize) -> Result<bool> {
     is_broken_off(part, at)
 }
 
+/// Tests whether the next sound batch, the next one that is signed for another file, and whether the tail can be a
+/// part of one batch, are as in a row.
 fn is_row(alloc: Global, row: &Row) -> Result<bool> {
     let part = part(alloc, row.version, row.bytes)?;
     let found = (
@@ -227,6 +230,7 @@ fn stops(rt: HostRuntime) {
     assert!(rt; again!(stops_are_told_apart(&rt, rt.alloc())).is_ok());
 }
 
+/// Tests each row.
 fn stops_are_told_apart(rt: &impl Abort, alloc: Global) -> Result<()> {
     for row in rows() {
         let from = row.from;
@@ -240,8 +244,8 @@ fn parts_of_batches(rt: HostRuntime) {
     assert!(rt; again!(parts_are_broken_off(&rt, rt.alloc())).is_ok());
 }
 
-/// Tests that each part of a batch of items of all kinds is broken off, and that the whole one isn't, also where it gives a
-/// length that passes the end.
+/// Tests that each shorter prefix of a batch with items of all kinds can be what is left of one batch, and that the
+/// whole batch can't, also where its header gives a length that passes the end.
 fn parts_are_broken_off(rt: &impl Abort, alloc: Global) -> Result<()> {
     for len in 0..=FIRST {
         assert!(rt;
@@ -256,7 +260,8 @@ fn parts_are_broken_off(rt: &impl Abort, alloc: Global) -> Result<()> {
     Ok(())
 }
 
-/// Tests whether so many bytes are broken off, where these bits of the length are others.
+/// Tests whether the first `len` bytes of `BATCHES`, with some bits of the first length flipped, can be what is left of
+/// a single batch.
 fn is_broken_front(alloc: Global, len: usize, bits: u8) -> Result<bool> {
     let mut bytes = Vec::from_slice(alloc, BATCHES)?;
     if let Some(byte) = bytes.get_mut(6) {

@@ -1,4 +1,4 @@
-//! How a run of a program over log files ends: its status, the hint at its words, the word of a refusal.
+//! How a run of a program over log files ends: its status, the hint at its words, and the word for a refusal.
 
 ghost use Rattle.std.specs.Prelude.{◌≡◌, ◌≢◌};
 ghost use Rattle.raft_recover.specs.Common.{error_kind, refusal_word};
@@ -7,7 +7,7 @@ use raft_base::Error;
 use std::io;
 use std::io::{ErrorKind, Write};
 
-/// The status that a run ends with.
+/// The status with which a process ends.
 #[derive(Clone, Copy, PartialEq, Eq, Debug)]
 pub(crate) enum Status {
     /// What was asked for is done, and nothing that was read is damaged.
@@ -18,17 +18,17 @@ pub(crate) enum Status {
     Misused = 2,
 }
 
-/// What a program prints where it doesn't do what its words say.
+/// What a program prints if it doesn't do what it is asked for.
 pub(crate) struct Program {
-    /// The name in front of a refusal.
+    /// The name that is printed before a refusal.
     pub(crate) name: &'static str,
-    /// The hint at the words that are understood.
+    /// The hint at the words that the program understands.
     pub(crate) usage: &'static str,
 }
 
 impl Program {
-    /// Prints the hint at the words that the program understands on `err`, and returns the status 2, also if
-    /// it can't be printed.
+    /// Prints the hint at the words that the program understands on `err`. Returns the status 2, also if it
+    /// can't be printed.
     pub(crate) fn misused<E: Write>(&self, err: &mut E) -> u8
         ensures { result ≡ 2 }
     {
@@ -36,8 +36,8 @@ impl Program {
         Status::Misused as u8
     }
 
-    /// Prints `NAME: refused: WORD` on `err`, with the word for `error` ([`refusal`]), and returns the status
-    /// 1, also if it can't be printed.
+    /// Prints `NAME: refused: WORD` on `err`, with the word for `error` ([`refusal`]). Returns the status 1,
+    /// also if it can't be printed.
     pub(crate) fn refused<E: Write>(&self, error: &Error, err: &mut E) -> u8
         ensures { result ≡ 1 }
     {
@@ -47,8 +47,9 @@ impl Program {
         Status::Refused as u8
     }
 
-    /// Says on `err` why the words of a command line can't be had, and returns the status: 1 for want of
-    /// memory, which is told as a refusal; else 2, with the hint at the words.
+    /// Reports on `err` that the words of a command line couldn't be read, and returns the status. If `error`
+    /// is lack of memory, it prints that as a refusal, and returns 1; else it prints the hint at the words,
+    /// and returns 2.
     pub(crate) fn without_words<E: Write>(&self, error: &io::Error, err: &mut E) -> u8
         ensures memory { error_kind error.now ≡ ErrorKind.OutOfMemory → result ≡ 1 }
         ensures misused { error_kind error.now ≢ ErrorKind.OutOfMemory → result ≡ 2 }

@@ -1,4 +1,4 @@
-//! From files, read in pieces, to the tables of all regions.
+//! Recovers the tables of all regions from files that are read in pieces.
 
 ghost use Rattle.std.specs.Prelude.{◌≡◌, ◌≢◌, ◌⊎◌, ◌^◌, ◌<◌, ◌≤◌, IfOk, IfErr, OnOk};
 ghost use Rattle.raft_recover.specs.Common.{IsFilesPrintFailure, IsFilesRefusal, IsQueueStop, IsRecoveredFrom, Keeps, PrintsFiles, Sound, bytes_of_sizes};
@@ -12,14 +12,15 @@ use std::alloc::Global;
 use std::io::Write;
 use std::thread::Threads;
 
-/// Recovers the tables of the files of a queue, as [`recover`](crate::recover) does of their bytes. 1 to 256
-/// workers read them, each some neighboring files, piece by piece, so that each has no more than a piece and
-/// the longest batch in memory.
+/// Recovers the tables of `files` of `queue`, with their cleaned regions and live counts, as
+/// [`recover`](crate::recover) does from bytes. The files are all of `version`, and are read from `source`.
+/// `workers` workers, 1 to 256, read them, each some neighboring files, piece by piece, so that each has no
+/// more than a piece and the longest batch in memory.
 ///
 /// # Errors
 ///
-/// Those of [`replay_files`](raft_reading::replay_files), and `Failed` if the files name 2^63 entries, key
-/// values and deletions together, or more.
+/// Those of [`replay_files`](raft_reading::replay_files); `Failed` if the files name 2^63 or more entries,
+/// key values and deletions of keys together.
 pub fn recover_files<R: Threads + Sync, S: ReadFiles>(
     rt: &R,
     alloc: Global,
@@ -41,7 +42,8 @@ pub fn recover_files<R: Threads + Sync, S: ReadFiles>(
     context.finish()
 }
 
-/// Prints the tables that `files` of `queue` give: the lines of [`print_recovered`].
+/// Recovers the tables of `files` of `queue`, as [`recover_files`] does, and prints them in the lines of
+/// [`print_recovered`].
 ///
 /// # Errors
 ///

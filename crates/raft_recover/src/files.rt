@@ -1,4 +1,4 @@
-//! Files as segments.
+//! Whole files as segments.
 
 ghost use Rattle.std.specs.Prelude.{◌≡◌, ◌↔◌, ◌<◌, ◌^◌, List, IfOk, IfErr, length, map};
 ghost use Rattle.raft_recover.specs.Common.{LogQueue, Version, Event, IsSmall, SegmentsHold, SegmentsAreOf, AreWholeFiles, FilesHold, bytes_of_files, NumberedBytes, file_shown};
@@ -7,12 +7,12 @@ use raft_base::{Error, FileId, FileSeq, LogQueue, Result, Version};
 use raft_records::FilePart;
 use raft_replay::Segment;
 
-/// Returns a segment for each of `files` of `queue`, of one part with all its bytes, which aren't copied.
-/// What is read of the segments is what is read of the files.
+/// Returns a segment for each of `files` of `queue`, in order. It has one part, with all bytes of the file,
+/// which aren't copied. Reading the segments gives what reading the files gives.
 ///
 /// # Errors
 ///
-/// `Memory` alone.
+/// `Memory` alone. The files are dropped then.
 pub fn file_segments(
     queue: LogQueue,
     version: Version,
@@ -35,8 +35,9 @@ pub fn file_segments(
     Ok(segments)
 }
 
-/// States that files of fewer than 2^63 bytes together have a small history, since batches don't name more
-/// entries, key values and deletions together than they have bytes. This is a law: it computes nothing.
+/// States that files of fewer than 2^63 bytes together have a history with fewer than 2^63 entries, key
+/// values and deletions of keys together, since batches don't name more of these than they have bytes. This
+/// is a law: it computes nothing.
 pub fn files_hold_few_records()
     ensures { (queue : LogQueue) (version : Version) (files : List NumberedBytes) (h : List Event)
         → FilesHold queue version files h → bytes_of_files files < 2 ^ 63 → IsSmall h }

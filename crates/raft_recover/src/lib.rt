@@ -1,4 +1,4 @@
-//! Recovery of tables from log files, on 1 to 256 threads, and the program over it.
+//! Recovers tables from log files, on 1 to 256 threads. The programs that print them are here too.
 #![tactic(auto)]
 
 mod ending;

@@ -1,4 +1,4 @@
-//! The files that the words of a command line name.
+//! The files that the words of a command line name, read in pieces.
 
 ghost use Rattle.std.specs.Prelude.{◌⊎◌, ℕ, List, IfErr, IfOk, IfSome, OnOk, map};
 ghost use Rattle.raft_recover.specs.Common.{AreSizesOf, AsksRecovery, IsFilesFault, IsNamed, IsRecoveryFrontPrinted, IsRecoveryPrinted, Keeps, NamedGives, PrintsFiles, asks_for, path_shown};
@@ -17,7 +17,9 @@ use std::thread::Threads;
 /// Files by their numbers, which rise, and their paths.
 #[derive(Drop)]
 pub(crate) struct NamedFiles<'a, D: SharedFiles> {
+    /// What reads the files.
     disk: &'a D,
+    /// The number and the path of each file. The numbers rise.
     paths: &'a [(FileSeq, &'a str)],
 }
 
@@ -41,7 +43,7 @@ impl<D: SharedFiles> ReadFiles for NamedFiles<'_, D> {
     }
 }
 
-/// Returns the path of the file numbered `seq`, or `None` if there is none. The numbers of `paths` rise.
+/// Returns the path of the file numbered `seq`, or `None` if there is none. The numbers in `paths` must rise.
 fn path_of<'a>(paths: &[(FileSeq, &'a str)], seq: FileSeq) -> Option<&'a str>
     ensures { IfSome result (λ path. IsNamed (map path_shown paths.now) seq path.now) }
 {
@@ -51,12 +53,12 @@ fn path_of<'a>(paths: &[(FileSeq, &'a str)], seq: FileSeq) -> Option<&'a str>
     }
 }
 
-/// Returns the number and the length in bytes of each file that `paths` names. Returns `None` if one has no
-/// length, as a pipe, or the numbers don't rise, so that two files might have one number.
+/// Returns the number and the length in bytes of each file that `paths` names. Returns `None` if one of them
+/// has no length, as a pipe, or the numbers don't rise, so that two files might have one number.
 ///
 /// # Errors
 ///
-/// `Io` if the length of a file can't be had; `Memory`.
+/// `Io` if the length of a file can't be read; `Memory`.
 pub(crate) fn sizes_of<D: SharedFiles>(
     disk: &D,
     alloc: Global,
@@ -78,7 +80,8 @@ pub(crate) fn sizes_of<D: SharedFiles>(
     Ok(Some(sizes))
 }
 
-/// Prints the tables of the files that `ask` names, whose lengths are `sizes`. Workers read them in pieces.
+/// Recovers the tables of the files that `ask` names, whose lengths are `sizes`, and prints them on `out`.
+/// Workers read the files in pieces.
 ///
 /// # Errors
 ///

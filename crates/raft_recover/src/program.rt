@@ -1,4 +1,5 @@
-//! What the program `raftlog` does, over any reader and writers.
+//! The program `raftlog batch` and `raftlog recover`, over any reader and writers. It reads each file as a
+//! whole.
 
 ghost use Rattle.std.specs.Prelude.{◌≡◌, ◌≢◌, ◌≤◌, ◌↔◌, ◌⊎◌, ℕ, List, OnOk, IfErr, map, string_bytes};
 ghost use Rattle.raft_recover.specs.Common.{Keeps, error_kind, AsksNothing, IsAsked, IsPrinted, IsFrontPrinted};
@@ -13,6 +14,7 @@ use std::rt::{Env, Files};
 use std::thread::Threads;
 use std::{env, io};
 
+/// The name of the program, and the hint at its words.
 pub(crate) const RAFTLOG: Program = Program {
     name: "raftlog",
     usage: "\
@@ -30,10 +32,11 @@ recover prints the tables that log files give
 ",
 };
 
-/// Does what the words of a command line ask for, and returns the status to end with: 0 if it is done, 1 if
-/// it is refused, 2 if the words ask for nothing. A refusal, and a hint at the words, are a line on `err`; if
-/// that can't be written, the status is the same. Each file is read as a whole;
-/// [`run_in_pieces`](crate::run_in_pieces) needs less memory.
+/// Does what `words`, those of a command line, ask for, and returns the status with which to end the process:
+/// 0 if it is done, 1 if it is refused, 2 if the words ask for nothing. `batch` reads from `input`, and what
+/// is asked for is printed on `out`. A refusal, and a hint at the words, are printed on `err`; if that fails,
+/// the status is the same. Each file is read as a whole; [`run_in_pieces`](crate::run_in_pieces) needs less
+/// memory.
 pub fn run<S: Files + AllocGlobal + Threads + Sync, R: Read, W: Write, E: Write>(
     rt: &S,
     words: &[String],
@@ -63,11 +66,11 @@ pub fn run<S: Files + AllocGlobal + Threads + Sync, R: Read, W: Write, E: Write>
     }
 }
 
-/// Returns the words of the command line behind the program's name.
+/// Returns the words of the process's command line after the program's name.
 ///
 /// # Errors
 ///
-/// `OutOfMemory` for want of memory; `InvalidData` for a word that isn't UTF-8.
+/// `OutOfMemory` for lack of memory; `InvalidData` for a word that isn't UTF-8.
 pub fn command_words<S: Env + AllocGlobal>(rt: &S) -> io::Result<Vec<String>> {
     let mut words = Vec::new(rt.alloc());
     for word in env::args(rt)?.skip(1) {
@@ -76,8 +79,10 @@ pub fn command_words<S: Env + AllocGlobal>(rt: &S) -> io::Result<Vec<String>> {
     Ok(words)
 }
 
-/// Says on `err` why the words of a command line can't be had, and returns the status to end with: 1 for want
-/// of memory, which is told as any other refusal; 2 for a word that isn't UTF-8, with a hint at the words.
+/// Reports on `err` that the words of the command line couldn't be read, and returns the status with which to
+/// end the process. `error` is that of [`command_words`]. If it is lack of memory, it is printed as a
+/// refusal, and 1 is returned; else, as for a word that isn't UTF-8, a hint at the words is printed, and 2 is
+/// returned.
 pub fn run_without_words<E: Write>(error: &io::Error, err: &mut E) -> u8
     ensures memory { error_kind error.now ≡ ErrorKind.OutOfMemory → result ≡ 1 }
     ensures misused { error_kind error.now ≢ ErrorKind.OutOfMemory → result ≡ 2 }
@@ -85,7 +90,7 @@ pub fn run_without_words<E: Write>(error: &io::Error, err: &mut E) -> u8
     RAFTLOG.without_words(error, err)
 }
 
-/// Prints what `request` asks for. Files are read as a whole.
+/// Prints what `request` asks for on `out`. Files are read as a whole.
 ///
 /// # Errors
 ///

@@ -1,4 +1,4 @@
-//! What the program `raftlog` does where it reads files in pieces.
+//! The program `raftlog batch` and `raftlog recover`, which reads files in pieces.
 
 ghost use Rattle.std.specs.Prelude.{◌≡◌, ◌≤◌, ◌↔◌, ◌⊎◌, ℕ, List, OnOk, IfErr, map, string_bytes};
 ghost use Rattle.raft_recover.specs.Common.{Keeps, AsksNothing, AsksRecovery, IsAsked, IsPrinted, IsFrontPrinted, IsRecoveryFrontPrinted, IsRecoveryPrinted, asks_for};
@@ -15,10 +15,13 @@ use std::io::{Read, Write};
 use std::rt::Files;
 use std::thread::Threads;
 
-/// Does what [`run`](crate::run) does, but workers read the files in pieces: each has no more than a piece of
-/// 4 MiB, or a longer batch, in memory. If a file can't be read at an offset, as a pipe, or the numbers of
-/// the files don't rise, all are read as [`run`](crate::run) reads them. A file that ends before the length
-/// that it had at first is refused as `io`.
+/// Does what `words`, those of a command line, ask for, as [`run`](crate::run) does, but workers read the
+/// files in pieces: each has no more than a piece of 4 MiB, or a longer batch, in memory. If a file can't be
+/// read at an offset, as a pipe, or the numbers of the files don't rise, all are read as a whole. A file that
+/// ends before the length that it had at first is refused as `io`.
+///
+/// Returns the status with which to end the process: 0 if it is done, 1 if it is refused, 2 if the words ask
+/// for nothing.
 pub fn run_in_pieces<
     S: SharedFiles + Files + AllocGlobal + Threads + Sync,
     R: Read,
@@ -47,7 +50,7 @@ pub fn run_in_pieces<
     }
 }
 
-/// Prints what `request` asks for. Files are read in pieces, if they can be.
+/// Prints what `request` asks for on `out`. Files are read in pieces, if they can be.
 ///
 /// # Errors
 ///
@@ -73,7 +76,8 @@ fn answer<S: SharedFiles + Files + AllocGlobal + Threads + Sync, R: Read, W: Wri
     }
 }
 
-/// Prints the tables of the files that `ask` names. They are read as a whole if they can't be read in pieces.
+/// Prints the tables of the files that `ask` names on `out`. They are read as a whole if they can't be read
+/// in pieces.
 ///
 /// # Errors
 ///

@@ -1,4 +1,4 @@
-//! The tables of all regions as text.
+//! The tables of all regions as lines of text.
 
 ghost use Rattle.std.specs.Prelude.{◌≡◌, ◌++◌, IfOk, IfErr, OnOk, map, string_bytes, IsPermutation, flat_map};
 ghost use Rattle.raft_recover.specs.Common.{IsNonDecreasingBy, Keeps, IsIoError, range_text, seq_text, table_line, cleaned_line, live_line, IsTextOfTables, PrintsTables, PrintsFrontOfTables};
@@ -10,7 +10,8 @@ use raft_table::{GlobalStats, MemTable};
 use std::alloc::Global;
 use std::io::Write;
 
-/// Prints the tables of `accessor` as [`recovered_text`] has them.
+/// Prints the tables of `accessor`, its cleaned regions and its live counts, in the lines of
+/// [`recovered_text`].
 ///
 /// # Errors
 ///
@@ -33,9 +34,10 @@ pub fn print_recovered<W: Write>(
     write_whole(writer, text.as_bytes())
 }
 
-/// Returns the text of the tables of `accessor`: a line for each by rising region, as `7 entries 10..12 keys
-/// 1 append 3 rewrite -`, with the lowest number of a file that it needs in each queue; then the cleaned
-/// regions, as `cleaned 4 9`; then the live counts of the append and the rewrite queue, as `live 3 0`. A `-`
+/// Returns the text of the tables of `accessor`. It has a line for each table, the region with the least id
+/// first, as `7 entries 10..12 keys 1 append 3 rewrite -`: the range of the indexes (here 10 and 11), the
+/// number of keys, and the lowest number of a file that the table needs in each queue. Then come the cleaned
+/// regions, as `cleaned 4 9`, and the live counts of the append and the rewrite queue, as `live 3 0`. A `-`
 /// means that there is none.
 ///
 /// # Errors
@@ -66,11 +68,11 @@ fn sort_by_region(tables: &mut Vec<&MemTable>)
     );
 }
 
-/// Appends a line for each of `tables`.
+/// Appends a line for each of `tables` to `text`, in order.
 ///
 /// # Errors
 ///
-/// `AllocError` if there is no memory for them. Some of the text may have been appended then.
+/// `AllocError` if there is no memory. Some of the text may have been appended then.
 fn append_tables(tables: &[&MemTable], text: &mut String) -> AllocResult<()>
     ensures { OnOk result (string_bytes text.new
         ≡ string_bytes text.old ++ flat_map table_line (map (λ t. t.now) tables.now)) }
@@ -81,12 +83,12 @@ fn append_tables(tables: &[&MemTable], text: &mut String) -> AllocResult<()>
     Ok(())
 }
 
-/// Appends the line of `table`: its region, the range of its indexes, the number of its keys, and the lowest
-/// number of a file that it needs in each queue, as `7 entries 10..12 keys 1 append 3 rewrite -`.
+/// Appends the line of `table` to `text`: its region, the range of its indexes, the number of its keys, and
+/// the lowest number of a file that it needs in each queue, as `7 entries 10..12 keys 1 append 3 rewrite -`.
 ///
 /// # Errors
 ///
-/// `AllocError` if there is no memory for it. Some of the text may have been appended then.
+/// `AllocError` if there is no memory. Some of the text may have been appended then.
 #[doc(hidden)]
 pub fn append_table(table: &MemTable, text: &mut String) -> AllocResult<()>
     ensures { OnOk result (string_bytes text.new ≡ string_bytes text.old ++ table_line table.now) }
@@ -100,11 +102,12 @@ pub fn append_table(table: &MemTable, text: &mut String) -> AllocResult<()>
     text.push('\n')
 }
 
-/// Appends the range of the indexes of `table`, as `10..12` for 10 and 11, or `-` without entries.
+/// Appends the range of the indexes of `table` to `text`, as `10..12` for 10 and 11, or `-` if it has no
+/// entries.
 ///
 /// # Errors
 ///
-/// `AllocError` if there is no memory for it. Some of the text may have been appended then.
+/// `AllocError` if there is no memory. Some of the text may have been appended then.
 fn append_range(table: &MemTable, text: &mut String) -> AllocResult<()>
     ensures { OnOk result (string_bytes text.new ≡ string_bytes text.old ++ range_text
         table.now.entries) }
@@ -117,11 +120,11 @@ fn append_range(table: &MemTable, text: &mut String) -> AllocResult<()>
     write!(text, "{first}..{end}")
 }
 
-/// Appends the file number `seq`, or `-` if there is none.
+/// Appends the file number `seq` to `text`, or `-` for `None`.
 ///
 /// # Errors
 ///
-/// `AllocError` if there is no memory for it. Some of the text may have been appended then.
+/// `AllocError` if there is no memory. Some of the text may have been appended then.
 fn append_seq(seq: Option<FileSeq>, text: &mut String) -> AllocResult<()>
     ensures { OnOk result (string_bytes text.new ≡ string_bytes text.old ++ seq_text seq) }
 {
@@ -131,11 +134,12 @@ fn append_seq(seq: Option<FileSeq>, text: &mut String) -> AllocResult<()>
     }
 }
 
-/// Appends the line of the cleaned `regions`, in order, as `cleaned 4 9`, or `cleaned -` if there are none.
+/// Appends the line of the cleaned `regions` to `text`, in order, as `cleaned 4 9`, or `cleaned -` if there
+/// are none.
 ///
 /// # Errors
 ///
-/// `AllocError` if there is no memory for it. Some of the text may have been appended then.
+/// `AllocError` if there is no memory. Some of the text may have been appended then.
 fn append_cleaned(regions: &[u64], text: &mut String) -> AllocResult<()>
     ensures { OnOk result (string_bytes text.new ≡ string_bytes text.old ++ cleaned_line
         regions.now) }
@@ -150,11 +154,11 @@ fn append_cleaned(regions: &[u64], text: &mut String) -> AllocResult<()>
     text.push('\n')
 }
 
-/// Appends the line of the live counts, of the append queue and of the rewrite queue, as `live 3 0`.
+/// Appends the line of the live counts to `text`, that of the append queue first, as `live 3 0`.
 ///
 /// # Errors
 ///
-/// `AllocError` if there is no memory for it. Some of the text may have been appended then.
+/// `AllocError` if there is no memory. Some of the text may have been appended then.
 fn append_live(stats: &GlobalStats, text: &mut String) -> AllocResult<()>
     ensures { OnOk result (string_bytes text.new ≡ string_bytes text.old ++ live_line stats.now) }
 {

@@ -1,4 +1,4 @@
-//! From the bytes of files to the tables of all regions.
+//! Recovers the tables of all regions from the bytes of log files.
 
 ghost use Rattle.std.specs.Prelude.{◌≡◌, ◌≢◌, ◌↔◌, ℕ, ◌⊎◌, ◌^◌, ◌<◌, ◌≤◌, length, IfOk, IfErr, OnOk, List, map};
 ghost use Rattle.raft_recover.specs.Common.{Keeps, IsSync, IsInvalidArgument, Append, Rewrite, Event, Apart, IsOneReading, IsSmall, Sound, Tables, AreRewrittenFrom, HaveSameRecords, HasRead, HasReadExactly, IsReplayed, SegmentsHold};
@@ -16,13 +16,13 @@ use std::alloc::Global;
 use std::io::Write;
 use std::thread::{Threads, join};
 
-/// The least length of a share in bytes, about: for fewer a further piece costs more than its worker saves.
+/// About how many bytes a share has at least. For fewer, a further piece costs more than its worker saves.
 const LEAST_SHARE: usize = 1 << 20;
 
-/// Recovers the tables of all regions, their cleaned regions and live counts: those of reading the batches of
-/// all segments, of one queue, in order. They are read by 1 to 256 workers. However the batches are divided
-/// into segments, it makes at most one share for each worker, all of about the same number of bytes; each
-/// worker takes the next share that is left (see [`equal_shares`]).
+/// Recovers the tables of all regions, with their cleaned regions and live counts: those that reading the
+/// batches of all segments of `queue` in order gives. 1 to 256 workers read them. However the batches are
+/// divided into segments, it makes at most one share for each worker, all of about the same number of bytes;
+/// each worker takes the next share that is left (see [`equal_shares`]).
 ///
 /// What is proved of it: for every list of segments of the queue, for every number of workers and whatever
 /// turns they take, an `Ok` has what one reading of all batches in order gives, and an `Err` other than
@@ -33,12 +33,13 @@ const LEAST_SHARE: usize = 1 << 20;
 /// # Errors
 ///
 /// `InvalidArgument` for another number of workers, for a part of another queue and for 2^62 segments or
-/// more; then whatever a reading returns: `Corruption`, `Codec`, or `Io` for an item that ends before its
-/// type, if a part isn't a sequence of readable batches or the batches in order can't be read. `Memory`.
+/// more; then what a reading returns: `Corruption`, `Codec`, or `Io` for an item that ends before its type,
+/// if a part isn't a sequence of readable batches or the batches in order can't be read; `Memory`.
+///
 /// Whatever the number of workers and their turns, the error is that of the first batch in order that is
 /// refused, and its text begins with the place of that batch, as
-/// [`replay_segment`](raft_replay::replay_segment) says: if workers fail, in a reading or a merge, the
-/// segments are read once more by one thread, up to that batch.
+/// [`replay_segment`](raft_replay::replay_segment) says. If workers fail for another reason than lack of
+/// memory, in reading or in a merge, one thread reads the segments once more, up to that batch.
 pub fn recover<R: Threads + Sync>(
     rt: &R,
     alloc: Global,
@@ -62,15 +63,15 @@ pub fn recover<R: Threads + Sync>(
     context.finish()
 }
 
-/// Recovers the tables of both queues: those of the append queue over those of the rewrite queue, as
-/// [`MemTableRecoverContext::merge_append_context`] puts them. The segments of each queue are read as by
-/// [`recover`]. With two workers or more both queues are read at once, and the workers are shared out by
-/// bytes.
+/// Recovers the tables of both queues: those of the append queue put over those of the rewrite queue, as
+/// [`MemTableRecoverContext::merge_append_context`] does it. The segments of each queue are read as by
+/// [`recover`]. With two workers or more both queues are read at the same time, and the workers are divided
+/// between them by bytes.
 ///
-/// What is proved of it: an `Ok` has what one reading of each queue's batches in order gives, put over each
-/// other, and an `Err` other than `Memory` comes only if one of the two readings is refused. If the append
-/// queue still has all its batches, and each rewritten record is one that it had, the records are those that
-/// the append queue gives alone (clause `whole`). Premises: those of [`recover`] for each queue.
+/// What is proved of it: an `Ok` has what one reading of each queue's batches in order gives, the one put
+/// over the other, and an `Err` other than `Memory` comes only if one of the two readings is refused. If the
+/// append queue still has all its batches, and each rewritten record is one that it had, the records are
+/// those that the append queue gives alone (clause `whole`). Premises: those of [`recover`] for each queue.
 ///
 /// # Errors
 ///
@@ -108,8 +109,8 @@ pub fn recover_both<R: Threads + Sync>(
     both.finish()
 }
 
-/// Reads both queues as [`recover_both`] does. Returns the context of the rewrite queue and that of the
-/// append queue, which aren't put over each other yet.
+/// Reads the segments of both queues as [`recover_both`] does. Returns the context of the rewrite queue and
+/// that of the append queue, which isn't put over the other yet.
 ///
 /// # Errors
 ///
@@ -139,12 +140,12 @@ pub fn replay_both<R: Threads + Sync>(
     both_replayed(rt, alloc, rewrite, append, workers)
 }
 
-/// Reads the segments `rewrite` and `append` of both queues: at once with two `workers` or more, one after
-/// the other with one. Returns the context of the rewrite queue and that of the append queue.
+/// Reads the segments `rewrite` and `append` of both queues: at the same time with two `workers` or more, one
+/// queue after the other with one. Returns the context of the rewrite queue and that of the append queue.
 ///
 /// # Errors
 ///
-/// Those of [`recover`] for either queue; those of the rewrite queue first.
+/// Those of [`recover`] for either queue. If both are refused, the error is that of the rewrite queue.
 fn both_replayed<R: Threads + Sync>(
     rt: &R,
     alloc: Global,
@@ -182,8 +183,9 @@ fn both_replayed<R: Threads + Sync>(
     Ok((both, appended))
 }
 
-/// Returns how many of `workers` read the first of two queues, which have `first` and `second` bytes: as many
-/// as its share of all bytes, but at least one, and not all of them. There are two workers or more.
+/// Returns how many of `workers` workers are to read the first of two queues, which have `first` and `second`
+/// bytes: as many as its part of all bytes, but at least one, and not all of them. There must be two workers
+/// or more.
 #[doc(hidden)]
 pub fn part_of_workers(workers: usize, first: usize, second: usize) -> usize
     requires { 2 ≤ workers }
@@ -193,8 +195,7 @@ pub fn part_of_workers(workers: usize, first: usize, second: usize) -> usize
     (first / each).clamp(1, workers - 1)
 }
 
-/// Returns the context of `segments`, those of `queue`, which `workers` workers read as shares of about one
-/// length.
+/// Reads `segments` of `queue` by `workers` workers, as shares of about one length, and returns the context.
 ///
 /// # Errors
 ///
@@ -213,9 +214,10 @@ fn replayed<R: Threads + Sync>(
     replayed_as(rt, alloc, segments, shares.as_slice(), queue, workers)
 }
 
-/// Returns the context of a queue's segments, which workers read as `shares`. If these are refused, other
-/// than for want of memory, the segments are read once more, in order, so that the error is that of the first
-/// batch in order that is refused.
+/// Reads the segments of a queue by `workers` workers, divided into `shares`, and returns the context.
+/// `shares` have the same batches as `segments`. If they are refused for another reason than lack of memory,
+/// `segments` are read once more, in order, so that the error is that of the first batch in order that is
+/// refused.
 ///
 /// # Errors
 ///
@@ -240,7 +242,7 @@ fn replayed_as<R: Threads + Sync>(
     }
 }
 
-/// Returns the context of `segments`, which are read one after another on the caller's thread.
+/// Reads `segments` one after another on the caller's thread, and returns the context.
 ///
 /// # Errors
 ///
@@ -255,8 +257,8 @@ fn replayed_in_turn(alloc: Global, segments: &[Segment]) -> Result<MemTableRecov
     Ok(context)
 }
 
-/// Recovers the tables as [`recover`] does, but reads the segments as they are: each worker takes the next
-/// one that is left.
+/// Recovers the tables of all regions, with their cleaned regions and live counts, as [`recover`] does, but
+/// doesn't divide the segments anew: each worker takes the next segment that is left.
 ///
 /// # Errors
 ///
@@ -284,8 +286,9 @@ pub fn recover_segments<R: Threads + Sync>(
     context.finish()
 }
 
-/// Prints the tables that `files` of `queue`, given with their numbers and bytes, give: what `raftlog
-/// recover` does once it has read them. The lines are those of [`print_recovered`].
+/// Recovers the tables of `files` of `queue`, which have the numbers and the bytes that are given, and prints
+/// them. This is what `raftlog recover` does once it has read the files. The lines are those of
+/// [`print_recovered`].
 ///
 /// # Errors
 ///

@@ -1,4 +1,4 @@
-//! What the words of a command line ask for.
+//! What the words of a command line ask for, and the files that they name.
 
 ghost use Rattle.std.specs.Prelude.{◌≡◌, ℕ, List, [], ◌∷◌, ◌++◌, IfOk, IfErr, IfSome, IfNone, map, string_bytes};
 ghost use Rattle.raft_recover.specs.Common.{AllByRecursion, LogFileContext, LogQueue, Version, queue_word, version_word, IsNumberWord, NamesContext, NamesPath, IsPathWord, ArePathsNamed, AreFilesOf, IsFilesFault, AskedRecovery, AsksBatch};
@@ -12,25 +12,28 @@ use std::rt::Files;
 /// What the words of a command line ask for.
 #[derive(Drop)]
 pub enum Request<'a> {
-    /// The lines of the item batch in the input, which is of this file.
+    /// To print the items of the item batch in the input, which was signed for this file.
     Batch(LogFileContext),
-    /// The lines of the tables that files give.
+    /// To print the tables that files give.
     Recover(RecoverWords<'a>),
 }
 
-/// What the words say that ask for the tables of files of a queue.
+/// What the words of a command line say that ask for the tables of files.
 #[derive(Drop)]
 pub struct RecoverWords<'a> {
+    /// The queue of all files.
     pub queue: LogQueue,
+    /// The format version of all files.
     pub version: Version,
+    /// How many threads may read them. It isn't checked yet.
     pub workers: usize,
     /// The number and the path of each file.
     pub paths: Vec<(FileSeq, &'a str)>,
 }
 
 impl<'a> Request<'a> {
-    /// Returns what `words`, those of a command line, ask for, or `None` if the program does nothing of the
-    /// kind.
+    /// Returns what the words of a command line ask for, or `None` if `words` are none that `raftlog`
+    /// understands.
     ///
     /// # Errors
     ///
@@ -51,8 +54,8 @@ impl<'a> Request<'a> {
     }
 }
 
-/// Returns the file whose item batch the words `batch <queue> <seq> <version>` ask to print, or `None` if
-/// `words` are others.
+/// Returns the file that the words `batch <queue> <seq> <version>` name, whose item batch is to be printed.
+/// Returns `None` for other words.
 fn batch_request(words: &[String]) -> Option<LogFileContext>
     ensures asked { IfSome result (AsksBatch (map string_bytes words.now)) }
     ensures refused { IfNone result
@@ -67,7 +70,7 @@ fn batch_request(words: &[String]) -> Option<LogFileContext>
     context_named(queue.as_str(), seq.as_str(), version.as_str())
 }
 
-/// Returns the file that the words `queue`, `seq` and `version` name, or `None` if one of them isn't
+/// Returns the file whose queue, number and version the three words name, or `None` if one of them isn't
 /// understood.
 fn context_named(queue: &str, seq: &str, version: &str) -> Option<LogFileContext>
     ensures named { IfSome result (NamesContext queue.now seq.now version.now) }
@@ -85,7 +88,7 @@ fn context_named(queue: &str, seq: &str, version: &str) -> Option<LogFileContext
 ///
 /// # Errors
 ///
-/// `Memory` alone, and only if they ask for one.
+/// `Memory` alone, and only if the words ask for one.
 fn recovery_request<'a>(alloc: Global, words: &'a [String]) -> Result<Option<RecoverWords<'a>>>
     ensures asked { IfOk result (λ r. IfSome r (λ recovery.
         AsksRecovery (map string_bytes words.now) (asks_for recovery))) }
@@ -120,8 +123,8 @@ fn recovery_request<'a>(alloc: Global, words: &'a [String]) -> Result<Option<Rec
     }))
 }
 
-/// Returns the numbers and paths of the files that `words`, such as `3=logs/3.raftlog`, name, or `None` if
-/// one names no file.
+/// Returns the numbers and paths of the files that `words` name, such as `3=logs/3.raftlog`, or `None` if one
+/// of them names no file.
 ///
 /// # Errors
 ///
@@ -144,8 +147,8 @@ pub(crate) fn paths_named(alloc: Global, words: &[String]) -> Result<Option<Vec<
     Ok(Some(paths?))
 }
 
-/// Appends `path` to those so far, unless there was no memory for one of them: the words behind it are then
-/// only looked at.
+/// Returns `paths` with `path` after them. If there was no memory for an earlier path, it returns that error
+/// again: so all words are looked at first, and words that name no file are reported before lack of memory.
 ///
 /// # Errors
 ///
@@ -166,7 +169,7 @@ fn with_path<'a>(
     Ok(paths)
 }
 
-/// Returns the number and the path of the file that `word`, as `SEQ=PATH`, names, or `None` for any other
+/// Returns the number and the path of the file that `word` names, as `SEQ=PATH`. Returns `None` for any other
 /// word.
 fn path_named(word: &str) -> Option<(FileSeq, &str)>
     ensures named { IfSome result (λ file. NamesPath word.now file.0 file.1.now) }
@@ -176,8 +179,8 @@ fn path_named(word: &str) -> Option<(FileSeq, &str)>
     Some((number_named(seq)?, path))
 }
 
-/// Reads the files that `named` has with their numbers and paths, one after another. Returns the number and
-/// all bytes of each.
+/// Reads the files whose numbers and paths are in `named`, one after another. Returns the number and all
+/// bytes of each.
 ///
 /// # Errors
 ///
@@ -222,8 +225,8 @@ pub(crate) fn version_named(word: &str) -> Option<Version>
     }
 }
 
-/// Returns the number that `word` spells in decimal digits, without a sign, or `None` for any other word,
-/// also if the number is above 2^64 - 1.
+/// Returns the number that `word` spells in decimal digits, without a sign. Returns `None` for any other
+/// word, and for a number above 2^64 - 1.
 fn number_named(word: &str) -> Option<u64>
     ensures named { IfSome result (IsNumberWord word.now) }
     ensures refused { IfNone result ((n : ℕ) → IsNumberWord word.now n → ⊥) }

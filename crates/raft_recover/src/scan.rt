@@ -1,4 +1,4 @@
-//! Scans of damaged files, batch by batch.
+//! Scans of files, which may be damaged, batch by batch.
 
 ghost use Rattle.std.specs.Prelude.{◌≡◌, ◌+◌, ◌-◌, ◌^◌, ◌<◌, ◌≤◌, ◌++◌, ◌&&◌, ◌≢◌, ℕ, List, length, drop, IfOk, IfErr, OnOk, string_bytes};
 ghost use Rattle.raft_recover.specs.Common.{IsBatchAt, IsNextFault, HasNoFront, signature_in, IsReadable, IsBlockState, block_place, IsFound, EndsWithin, next_after, is_undamaged, place_words, block_word, reason_text, finding_line};
@@ -16,32 +16,38 @@ const HEADER_LEN: usize = 16;
 /// Whether a batch has an entry block, and whether that ends in its checksum.
 #[derive(Clone, Copy, PartialEq, Eq, Debug)]
 pub enum BlockState {
-    /// There is none.
+    /// It has no entry block.
     Absent,
-    /// Its checksum holds.
+    /// The entry block ends in its checksum.
     Whole,
-    /// Its checksum doesn't hold.
+    /// The entry block doesn't end in its checksum.
     Broken,
 }
 
-/// What a scan finds at a byte of a part.
+/// What a scan finds at a position of a part.
 #[derive(Debug, Drop)]
 pub enum Finding {
-    /// A batch that can be read: its length in bytes, how many items it has, and its entry block.
+    /// A batch that can be read.
     Batch {
+        /// How many bytes it has.
         len: usize,
+        /// How many items it has.
         items: usize,
+        /// Its entry block.
         block: BlockState,
     },
-    /// No batch that can be read: why, and the length that a header there says, if it leads on.
+    /// No batch that can be read.
     Damage {
+        /// Why not.
         reason: Error,
+        /// The length that a header there gives for its batch, if the part has as many bytes.
         len: Option<usize>,
     },
 }
 
 impl Finding {
-    /// Tests whether a batch was found that can be read, and its entry block, if it has one, is whole.
+    /// Tests whether a batch was found that can be read, and its entry block, if it has one, ends in its
+    /// checksum.
     fn is_undamaged(&self) -> bool
         ensures { result ≡ is_undamaged self.now }
     {
@@ -51,9 +57,9 @@ impl Finding {
         }
     }
 
-    /// Returns the position at which a scan goes on behind what it found at position `at`: behind a batch
-    /// and, with `past_damage`, behind damage with a header that says its length. Returns `None` if the scan
-    /// ends.
+    /// Returns the position at which a scan goes on after it found this at position `at`: after a batch and,
+    /// with `past_damage`, after damage with a header that gives its length. Returns `None` if the scan ends
+    /// there.
     fn next_after(self, at: usize, past_damage: bool) -> Option<usize>
         requires { EndsWithin (2 ^ 64 - 1) at self }
         ensures { result ≡ next_after past_damage at self }
@@ -66,11 +72,11 @@ impl Finding {
     }
 }
 
-/// Appends what a scan of a part finds: a line for each batch with its file, its offset, its length, the
-/// number of its items and the state of its entry block, as `append file 3 offset 0 length 34 items 1 entries
-/// whole`, and a line where no batch can be read, with the reason. The scan ends there or, with
-/// `past_damage`, goes on where a header says that the next batch begins. At the end of the part a line says
-/// so. Returns whether everything can be read.
+/// Scans a part batch by batch, and appends lines on what it finds to `text`. For each batch a line has its
+/// file, its offset, its length, the number of its items and the state of its entry block, as
+/// `append file 3 offset 0 length 34 items 1 entries whole`. Where no batch can be read, a line has the
+/// reason. The scan ends there or, with `past_damage`, goes on where a header says that the next batch
+/// begins. At the end of the part a line says so. Returns whether everything can be read.
 ///
 /// # Errors
 ///
@@ -101,14 +107,14 @@ pub fn append_scan(
     Ok(undamaged)
 }
 
-/// Returns whether `first` and `second` are both true. (Unlike `&&`, it always computes the second one.)
+/// Tests whether `first` and `second` are both true. Unlike with `&&`, the second is always computed.
 pub(crate) fn both(first: bool, second: bool) -> bool
     ensures { result ≡ first && second }
 {
     first && second
 }
 
-/// Returns what is at position `at` of a part, before its end.
+/// Returns what stands at position `at` of a part. The position is before the end of the part.
 ///
 /// # Errors
 ///
@@ -125,8 +131,8 @@ fn found_at(alloc: Global, part: &FilePart, at: usize) -> Result<Finding>
     }
 }
 
-/// Returns the finding for `batch`, which can be read at position `at` of `part`. `next` is the position behind it; only the
-/// contract needs it.
+/// Returns the finding for `batch`, which can be read at position `at` of `part`. `next` is the position
+/// after it; only the contract needs it.
 fn batch_at(alloc: Global, part: &FilePart, at: usize, batch: &LogItemBatch, next: usize) -> Finding
     requires { IsBatchAt part.now at batch.now next }
     ensures { IsFound part.now at result }
@@ -142,7 +148,7 @@ fn batch_at(alloc: Global, part: &FilePart, at: usize, batch: &LogItemBatch, nex
     }
 }
 
-/// Returns the finding for position `at` of a part at which no batch can be read, for this reason.
+/// Returns the finding for position `at` of a part, where no batch can be read for this `reason`.
 ///
 /// # Errors
 ///
@@ -167,8 +173,8 @@ fn damage_found(alloc: Global, part: &FilePart, at: usize, reason: Error) -> Res
     }
 }
 
-/// Returns whether the batch at position `at` has an entry block, and whether its checksum holds. The items
-/// begin `items_at` bytes behind `at`.
+/// Returns whether the batch at position `at` of a part has an entry block, and whether that ends in its
+/// checksum. The items begin `items_at` bytes after `at`.
 fn block_state(part: &FilePart, at: usize, items_at: usize) -> BlockState
     requires header { 16 ≤ items_at }
     requires inside { at + items_at ≤ length part.now.bytes }
@@ -188,11 +194,11 @@ fn block_state(part: &FilePart, at: usize, items_at: usize) -> BlockState
     }
 }
 
-/// Appends the line of what was found at position `at` of a part.
+/// Appends the line of what was found at position `at` of a part to `text`.
 ///
 /// # Errors
 ///
-/// `AllocError` if there is no memory for it. Some of the text may have been appended then.
+/// `AllocError` if there is no memory. Some of the text may have been appended then.
 fn append_finding(part: &FilePart, at: usize, found: &Finding, text: &mut String) -> AllocResult<()>
     requires { at ≤ length part.now.bytes }
     ensures { OnOk result
@@ -212,11 +218,11 @@ fn append_finding(part: &FilePart, at: usize, found: &Finding, text: &mut String
     }
 }
 
-/// Appends the line for the end of `part`, as `append file 3 offset 1024 end`.
+/// Appends the line for the end of `part` to `text`, as `append file 3 offset 1024 end`.
 ///
 /// # Errors
 ///
-/// `AllocError` if there is no memory for it. Some of the text may have been appended then.
+/// `AllocError` if there is no memory. Some of the text may have been appended then.
 fn append_end(part: &FilePart, text: &mut String) -> AllocResult<()>
     ensures { OnOk result (string_bytes text.new ≡ string_bytes text.old ++ end_line part.now) }
 {
@@ -224,12 +230,12 @@ fn append_end(part: &FilePart, text: &mut String) -> AllocResult<()>
     text.push_str(" end\n")
 }
 
-/// Appends the queue, the number of the file, and the offset in the file of position `at` of a part, as
-/// `append file 3 offset 1024`.
+/// Appends the queue, the number of the file, and the offset in the file of position `at` of a part to
+/// `text`, as `append file 3 offset 1024`.
 ///
 /// # Errors
 ///
-/// `AllocError` if there is no memory for it. Some of the text may have been appended then.
+/// `AllocError` if there is no memory. Some of the text may have been appended then.
 fn append_place(part: &FilePart, at: usize, text: &mut String) -> AllocResult<()>
     requires { at ≤ length part.now.bytes }
     ensures { OnOk result

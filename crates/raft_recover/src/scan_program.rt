@@ -1,4 +1,4 @@
-//! What the program `raft_scan` does, over any writers.
+//! The program `raft_scan`, over any writers.
 
 ghost use Rattle.std.specs.Prelude.{◌≡◌, ◌≢◌, ◌≤◌, ◌↔◌, ◌⊎◌, ◌++◌, true, false, List, ℕ, IfOk, IfErr, OnErr, IfSome, IfNone, map, string_bytes};
 ghost use Rattle.raft_recover.specs.Common.{Keeps, error_kind, AskedScan, NamesFiles, AsksScan, AsksNoScan, AreScanned, IsScanPrinted, IsScanFrontPrinted, scan_asked, file_shown};
@@ -13,28 +13,32 @@ use std::io;
 use std::io::{ErrorKind, Write};
 use std::rt::Files;
 
-/// The word in front by which a scan goes on past a batch that can't be read.
+/// The first word of a command line by which a scan goes on past a batch that can't be read.
 const PAST_DAMAGE: &str = "--past-damage";
 
+/// The name of the program, and the hint at its words.
 const SCAN: Program = Program {
     name: "raft_scan",
     usage: "usage: raft_scan [--past-damage] <queue> <version> <seq>=<path>..\n",
 };
 
-/// What the words say that ask for a scan of files of a queue.
+/// What the words of a command line say that ask for a scan of files.
 #[derive(Drop)]
 pub struct ScanWords<'a> {
     /// Whether the scan goes on past a batch that can't be read.
     pub past_damage: bool,
+    /// The queue of all files.
     pub queue: LogQueue,
+    /// The format version of all files.
     pub version: Version,
     /// The number and the path of each file.
     pub paths: Vec<(FileSeq, &'a str)>,
 }
 
-/// Prints what scans of the files find that the words of a command line name, and returns the status to end
-/// with: 0 if everything can be read, 1 if something can't, 2 if the words ask for no scan. A refusal, and a
-/// hint at the words, are a line on `err`; if that can't be written, the status is the same.
+/// Scans the files that `words`, those of a command line, name, and prints what is found on `out`. Returns
+/// the status with which to end the process: 0 if everything can be read, 1 if something can't, 2 if the
+/// words ask for no scan. A refusal, and a hint at the words, are printed on `err`; if that fails, the status
+/// is the same.
 pub fn run_scan<S: Files + AllocGlobal, W: Write, E: Write>(
     rt: &S,
     words: &[String],
@@ -63,8 +67,9 @@ pub fn run_scan<S: Files + AllocGlobal, W: Write, E: Write>(
     }
 }
 
-/// Says on `err` why the words of a command line can't be had, and returns the status to end with: 1 for want
-/// of memory, 2 for a word that isn't UTF-8, with a hint at the words.
+/// Reports on `err` that the words of the command line couldn't be read, and returns the status with which to
+/// end the process. If `error` is lack of memory, it prints that as a refusal, and returns 1; else, as for a
+/// word that isn't UTF-8, it prints a hint at the words, and returns 2.
 pub fn scan_without_words<E: Write>(error: &io::Error, err: &mut E) -> u8
     ensures memory { error_kind error.now ≡ ErrorKind.OutOfMemory → result ≡ 1 }
     ensures misused { error_kind error.now ≢ ErrorKind.OutOfMemory → result ≡ 2 }
@@ -77,7 +82,7 @@ pub fn scan_without_words<E: Write>(error: &io::Error, err: &mut E) -> u8
 ///
 /// # Errors
 ///
-/// `Memory` alone, and only if they ask for one.
+/// `Memory` alone, and only if the words ask for one.
 fn scan_request<'a>(alloc: Global, words: &'a [String]) -> Result<Option<ScanWords<'a>>>
     ensures asked { IfOk result (λ r. IfSome r (λ scan.
         AsksScan (map string_bytes words.now) (scan_asked scan))) }
@@ -95,11 +100,11 @@ fn scan_request<'a>(alloc: Global, words: &'a [String]) -> Result<Option<ScanWor
 }
 
 /// Returns the scan of the files that the words `<queue> <version> <seq>=<path>..` name, or `None` for other
-/// words. With `past` it goes on past damage.
+/// words. `past` says whether it goes on past damage.
 ///
 /// # Errors
 ///
-/// `Memory` alone, and only if they name files.
+/// `Memory` alone, and only if the words name files.
 fn files_request(alloc: Global, past: bool, words: &[String]) -> Result<Option<ScanWords<'_>>>
     ensures asked { IfOk result (λ r. IfSome r (λ scan. (scan.past_damage ≡ past)
         × NamesFiles (map string_bytes words.now) (scan_asked scan))) }
@@ -129,7 +134,8 @@ fn files_request(alloc: Global, past: bool, words: &[String]) -> Result<Option<S
     }))
 }
 
-/// Reads the files of `scan`, and prints what scans of them find. Returns whether everything can be read.
+/// Reads the files of `scan`, scans them, and prints what is found on `out`. Returns whether everything can
+/// be read.
 ///
 /// # Errors
 ///
@@ -150,8 +156,9 @@ fn print<S: Files + AllocGlobal, W: Write>(rt: &S, scan: ScanWords<'_>, out: &mu
     Ok(undamaged)
 }
 
-/// Appends what scans of `files` find, one after another, as `scan` asks for them. Returns whether everything
-/// can be read.
+/// Appends the lines of scans of `files`, which have the numbers and the bytes that are given, one after
+/// another, to `text`. `scan` says of which queue and version they are, and whether to go on past damage.
+/// Returns whether everything can be read.
 ///
 /// # Errors
 ///

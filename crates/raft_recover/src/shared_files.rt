@@ -1,4 +1,4 @@
-//! Files by their paths, which workers read at the same time.
+//! The trait of files by their paths, which workers read at the same time.
 
 ghost use Rattle.std.specs.Prelude.{ℕ, List, IfErr, OnOk};
 ghost use Rattle.raft_recover.specs.Common.{IoError, IsAppended};
@@ -6,10 +6,10 @@ ghost use Rattle.raft_recover.specs.Common.{IoError, IsAppended};
 use std::io::{Read, Seek, SeekFrom};
 use std::{fs, io};
 
-/// Files by their paths, whose bytes are read by any number of threads at once.
+/// Files by their paths, which any number of threads read at the same time.
 ///
-/// As [`ReadFiles`](raft_reading::ReadFiles) it promises nothing of the bytes of a file on a disk but that reads gave
-/// them; an implementor that knows more says so by `gives`.
+/// Like [`ReadFiles`](raft_reading::ReadFiles) it promises nothing of the bytes of a file on a disk but that
+/// reads gave them; an implementor that knows more says so by `gives`.
 pub trait SharedFiles: Sync {
     /// A read of the file at this path, from this offset on, may give these bytes: any, if nothing else is said.
     ghost gives: { Self → List ℕ → ℕ → List ℕ → Type 0 } = { λ _ _ _ _. Unit {0} };
@@ -22,7 +22,7 @@ pub trait SharedFiles: Sync {
     ///
     /// # Errors
     ///
-    /// Those of the file, also if it may not be read.
+    /// Those of the system, also if the file may not be read.
     fn file_len(&self, path: &str) -> io::Result<Option<u64>>;
 
     /// Appends `len` bytes of the file at `path`, from `offset` on, to `bytes`, or fewer if the file ends
@@ -30,21 +30,21 @@ pub trait SharedFiles: Sync {
     ///
     /// # Errors
     ///
-    /// Those of the file. Some of the bytes may have been appended then.
+    /// Those of the system. Some of the bytes may have been appended then.
     fn read_file(&self, path: &str, offset: u64, len: usize, bytes: &mut Vec<u8>) -> io::Result<()>
         ensures ok { OnOk result (IsAppended (gives self.now path.now offset) bytes.old.items
             bytes.new.items) }
         ensures err { IfErr result (may_fail self.now path.now offset) };
 }
 
-/// Regular files are read at an offset, and opened for each read: so any number of files needs few that are open.
+/// Reads regular files at an offset. A file is opened for each read, so few files are open at a time.
 impl SharedFiles for HostRuntime {
-    /// Returns the length of the regular file at `path` in bytes, or `None` for anything else. The file is
-    /// opened for that, so that it is known that it may be read.
+    /// Returns the length of the regular file at `path` in bytes, or `None` for anything else, as a pipe. The
+    /// file is opened, so that it is known that it may be read.
     ///
     /// # Errors
     ///
-    /// Those of the system.
+    /// Those of the system, also if the file may not be read.
     fn file_len(&self, path: &str) -> io::Result<Option<u64>> {
         if !fs::metadata(self, path)?.is_file() {
             return Ok(None);
@@ -52,8 +52,8 @@ impl SharedFiles for HostRuntime {
         Ok(Some(fs::open(self, path)?.metadata()?.len()))
     }
 
-    /// Opens the file at `path`, and appends `len` bytes from `offset` on to `bytes`, or fewer if it ends
-    /// before.
+    /// Appends `len` bytes of the file at `path`, from `offset` on, to `bytes`, or fewer if the file ends
+    /// before. The file is opened for that, and closed again.
     ///
     /// # Errors
     ///

@@ -1,4 +1,4 @@
-//! Segments as equal shares: neighbors put together and large parts cut, by bytes.
+//! Divides segments into shares of about equal length: neighboring parts are put together, and long ones cut.
 
 ghost use Rattle.std.specs.Prelude.{◌≡◌, ◌↔◌, ◌<◌, ◌≤◌, ◌++◌, List, IfOk, IfErr, OnOk, length};
 ghost use Rattle.raft_recover.specs.Common.{LogQueue, Event, Part, AreCutInTurn, SegmentsHold, SegmentsAreOf, parts_within, AreDivided};
@@ -9,13 +9,14 @@ use raft_replay::{Segment, cut_part};
 use std::alloc::Global;
 use std::mem;
 
-/// How many parts a part is cut into for each share that it fills, so that shares end near where they should.
+/// How many parts a long part is cut into for each share that it fills, so that shares end near where they
+/// should.
 const PARTS_PER_SHARE: usize = 4;
 
-/// Divides the parts of segments into at most `count` segments, the *shares*, of about one length, `least`
-/// bytes or more if there are as many. Neighboring parts are put together, and a part that is longer than a
-/// share is cut between batches. The parts of the shares, one after another, have the bytes of those of the
-/// segments, each at its offset in its file, and what is read of them is the same. No byte is copied.
+/// Divides the parts of segments into at most `count` segments, the *shares*, of about the same number of
+/// bytes, `least` or more if there are as many. Neighboring parts are put together, and a part that is longer
+/// than a share is cut between batches. The parts of the shares, one after another, have the bytes of those
+/// of the segments, each at its offset in its file, and reading them gives the same. No byte is copied.
 ///
 /// # Errors
 ///
@@ -41,6 +42,7 @@ pub fn equal_shares(
 }
 
 /// Returns how many bytes all parts hold, capped at 2^64 - 1.
+/// The parts are those of all `segments`.
 pub(crate) fn bytes_of(segments: &[Segment]) -> usize {
     let mut bytes = 0usize;
     for segment in segments {
@@ -51,7 +53,7 @@ pub(crate) fn bytes_of(segments: &[Segment]) -> usize {
     bytes
 }
 
-/// Returns the parts of all segments, in order; those of `share` bytes or more are cut between batches.
+/// Returns the parts of all segments, in order. Those of `share` bytes or more are cut between batches.
 ///
 /// # Errors
 ///
@@ -68,7 +70,7 @@ fn short_parts(alloc: Global, segments: &[Segment], share: usize) -> Result<Vec<
     Ok(parts)
 }
 
-/// Appends the parts of a segment to `to`; those of `share` bytes or more are cut between batches.
+/// Appends the parts of the segment `from` to `to`. Those of `share` bytes or more are cut between batches.
 ///
 /// # Errors
 ///
@@ -87,11 +89,11 @@ fn append_short(alloc: Global, from: &Segment, share: usize, to: &mut Vec<FilePa
 }
 
 /// Puts each part into the share in which its middle lies, where each of `count` shares has `share` bytes.
-/// Returns the shares that have parts, but at least one.
+/// Returns the shares that have parts, in order, but at least one, which may be empty.
 ///
 /// # Errors
 ///
-/// `Memory` alone.
+/// `Memory` alone. The parts are dropped then.
 fn shares_of(parts: Vec<FilePart>, share: usize, count: usize) -> Result<Vec<Segment>>
     requires { (0 < share) × (0 < count) }
     ensures same { IfOk result (λ shares. parts_within shares.items ≡ parts.items) }
@@ -115,12 +117,12 @@ fn shares_of(parts: Vec<FilePart>, share: usize, count: usize) -> Result<Vec<Seg
     Ok(shares)
 }
 
-/// If `ends`, moves the share `last` to `shares`, and begins a new one; but not if it is empty, or is the
-/// last one of `count`.
+/// Moves the share `last` to `shares`, and begins a new one in its place, if `ends` is set. Does nothing if
+/// `last` is empty, or is the last one of `count`.
 ///
 /// # Errors
 ///
-/// `Memory` alone. The share is lost then.
+/// `Memory` alone. The share is dropped then.
 fn end_share(shares: &mut Vec<Segment>, last: &mut Segment, ends: bool, count: usize) -> Result<()>
     ensures same { OnOk result (parts_within shares.new.items ++ last.new.items ≡ parts_within
         shares.old.items ++ last.old.items) }

@@ -1,4 +1,4 @@
-//! Workers divided between two queues, and thousands of files as shares.
+//! Tests how workers are divided between two queues, and thousands of files among shares.
 
 use raft_base::{FileSeq, LogQueue, Result, Version};
 use raft_recover::files::file_segments;
@@ -9,7 +9,7 @@ use std::alloc::Global;
 
 const MIB: usize = 1 << 20;
 
-/// How many workers there are, how many bytes each of two queues has, and how many workers read the first.
+/// How many workers there are, how many bytes each of two queues has, and how many of the workers read the first queue.
 static PARTS: [(usize, usize, usize, usize); 9] = [
     (2, MIB, 100 * MIB, 1),
     (2, 100 * MIB, MIB, 1),
@@ -22,6 +22,7 @@ static PARTS: [(usize, usize, usize, usize); 9] = [
     (4, 0, 0, 1),
 ];
 
+/// Returns the rows of workers and bytes.
 fn parts() -> &'static [(usize, usize, usize, usize)] {
     &PARTS
 }
@@ -36,9 +37,10 @@ fn the_longer_queue_has_more_workers(rt: HostRuntime) {
     }
 }
 
-/// How many files there are, of three bytes each that no batch begins with.
+/// How many files there are. Each has three bytes, with which no batch begins.
 const FILES: u64 = 5_000;
 
+/// Returns the files.
 fn files_of(alloc: Global) -> Result<Vec<(FileSeq, Vec<u8>)>> {
     let mut files = Vec::new(alloc);
     for seq in 0..FILES {
@@ -47,7 +49,7 @@ fn files_of(alloc: Global) -> Result<Vec<(FileSeq, Vec<u8>)>> {
     Ok(files)
 }
 
-/// Tests whether each of four shares has a fourth of the files, in order.
+/// Tests whether the files are divided into four shares, each with a fourth of them, in order.
 fn are_divided(alloc: Global) -> Result<bool> {
     let segments = file_segments(LogQueue::Append, Version::V1, files_of(alloc)?)?;
     let shares = equal_shares(alloc, segments.as_slice(), 4, 1)?;

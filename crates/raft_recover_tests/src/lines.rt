@@ -1,4 +1,4 @@
-//! The lines of tables.
+//! Tests the lines that tables are printed as.
 
 use raft_memtable::{
     EntryIndex, Error, FileBlockHandle, FileId, LogQueue, MemTableAccessor, Result, TableChange,
@@ -31,14 +31,14 @@ fn entry(index: u64, seq: u64) -> EntryIndex {
     }
 }
 
-/// Gives a region a run of two entries.
+/// Appends two entries to a region.
 fn append(alloc: Global, accessor: &mut MemTableAccessor, region: u64) -> Result<()> {
     let run = vec![in alloc; entry(10, 12), entry(11, 13)]?;
     accessor.change(region, TableChange::Append(run))?;
     Ok(())
 }
 
-/// Gives a region a key.
+/// Puts a key of a region.
 fn put(alloc: Global, accessor: &mut MemTableAccessor, region: u64) -> Result<()> {
     let put = TableChange::Put {
         key: vec![in alloc; 1]?,
@@ -61,7 +61,7 @@ fn tables(alloc: Global) -> Result<MemTableAccessor> {
     Ok(accessor)
 }
 
-/// A writer that is interrupted before each write, takes a few bytes at a time, and fails after so many writes.
+/// A writer that takes a few bytes at a time. It is interrupted before each write, and fails after some writes.
 #[derive(Drop)]
 struct Halting {
     written: Vec<u8>,
@@ -90,8 +90,8 @@ impl Write for Halting {
     }
 }
 
-/// Returns what is written of the lines, by how many writes, and whether the writer's failure after so many is handed
-/// on.
+/// Prints the lines to a writer that fails after so many writes. Returns what is written, by how many writes, and
+/// whether the writer's error is passed on.
 fn printed(
     alloc: Global,
     accessor: &MemTableAccessor,
@@ -110,8 +110,8 @@ fn printed(
     }
 }
 
-/// Tests whether the lines are written by so many writes, and where one of them fails those before it have a front of
-/// them.
+/// Tests whether the lines are written, and, with a writer that fails after fewer writes, a prefix of them is, and its
+/// error is passed on.
 fn is_handed_on(alloc: Global) -> Result<bool> {
     let accessor = tables(alloc)?;
     let count = LINES.len().div_ceil(7);

@@ -1,4 +1,4 @@
-//! Tickets, plans, given schedules and workers, over a machine that keeps a list of batches.
+//! Tests tickets, plans, given schedules and workers, with a machine that keeps a list of batches.
 
 mod brackets;
 mod cut_parts;
@@ -24,7 +24,7 @@ use std::time::Clock;
 const CLEAN: &[u8; 24] =
     b"\x00\x00\x00\x00\x00\x00\x18\x00\x00\x00\x00\x00\x00\x00\x00\x10\x01\x01\x02\x01\x5a\x80\x0b\xdd";
 
-/// Returns a segment of one batch, in this file.
+/// Returns a segment of one batch, in file `seq` of a queue.
 fn segment(alloc: Global, queue: LogQueue, seq: u64) -> Result<Segment> {
     let id = FileId::new(queue, seq);
     let part = FilePart::new(id, Version::V1, 0, Vec::from_slice(alloc, CLEAN)?)?;
@@ -33,7 +33,7 @@ fn segment(alloc: Global, queue: LogQueue, seq: u64) -> Result<Segment> {
     Ok(segment)
 }
 
-/// Returns segments of one batch each, in files with these numbers from 0 on.
+/// Returns `count` segments of one batch each, in append files numbered from 0 on.
 fn segments(alloc: Global, count: u64) -> Result<Vec<Segment>> {
     let mut segments = Vec::new(alloc);
     for seq in 0..count {
@@ -42,7 +42,7 @@ fn segments(alloc: Global, count: u64) -> Result<Vec<Segment>> {
     Ok(segments)
 }
 
-/// Tests whether the list has the batches of this many segments, in order.
+/// Tests whether a list has the batches of [`segments`], in order.
 fn has_all(list: &List, count: u64) -> bool {
     let mut seq = 0;
     for kept in &list.kept {
@@ -54,7 +54,7 @@ fn has_all(list: &List, count: u64) -> bool {
     seq == count
 }
 
-/// Tests whether nothing is drawn where there are no numbers, by one step.
+/// Tests whether nothing is drawn where there are no tickets, and one step finds that out.
 fn draws_nothing(alloc: Global) -> Result<bool> {
     let (tickets, mut seats) = Tickets::open(alloc, 0, 1)?;
     let Some(mut seat) = seats.pop() else {
@@ -65,7 +65,7 @@ fn draws_nothing(alloc: Global) -> Result<bool> {
     Ok(none.is_none() && tickets.close(seats) == 1)
 }
 
-/// Returns whether two seats draw three numbers in turn, each once, and how many steps that took.
+/// Returns whether two seats draw three tickets in turn, each once, and how many steps that took.
 fn draws(alloc: Global) -> Result<(bool, usize)> {
     let (tickets, mut seats) = Tickets::open(alloc, 3, 2)?;
     let (Some(mut second), Some(mut first)) = (seats.pop(), seats.pop()) else {
@@ -106,7 +106,7 @@ fn pieces_are_counted(rt: HostRuntime) {
     }
 }
 
-/// Returns the plan of two plans.
+/// Returns the plan that merges what two plans give.
 pub(crate) fn join(alloc: Global, left: Plan, right: Plan) -> Result<Plan> {
     Ok(Plan::Join(Box::new(alloc, left)?, Box::new(alloc, right)?))
 }
@@ -118,7 +118,7 @@ fn pairs(alloc: Global) -> Result<Plan> {
     join(alloc, left, right)
 }
 
-/// Returns the plan that merges so many pieces one by one, from the right.
+/// Returns the plan that merges so many pieces one by one, from the last one on.
 pub(crate) fn from_right(alloc: Global, pieces: usize) -> Result<Plan> {
     let mut plan = Plan::One;
     for _ in 1..pieces {
@@ -127,7 +127,7 @@ pub(crate) fn from_right(alloc: Global, pieces: usize) -> Result<Plan> {
     Ok(plan)
 }
 
-/// Returns the batches of segments that some workers draw so.
+/// Returns the batches of segments that workers draw as `draws` says, and a plan merges.
 fn scheduled(
     alloc: Global,
     segments: &[Segment],
@@ -146,7 +146,7 @@ fn scheduled(
     )
 }
 
-/// Returns segments of their own: the first has one batch, and each one more than the one before it.
+/// Returns `count` segments: the first has one batch, and each other one batch more than the one before it.
 fn rising(alloc: Global, count: u64) -> Result<Vec<Segment>> {
     let mut segments = Vec::new(alloc);
     for seq in 0..count {
@@ -160,7 +160,7 @@ fn rising(alloc: Global, count: u64) -> Result<Vec<Segment>> {
     Ok(segments)
 }
 
-/// Returns the batches of segments, in one reading.
+/// Returns the batches of segments as one machine reads them, in order.
 fn one_reading(alloc: Global, segments: &[Segment]) -> Result<List> {
     let mut list = Lists.new_target(alloc)?;
     for segment in segments {
@@ -169,8 +169,8 @@ fn one_reading(alloc: Global, segments: &[Segment]) -> Result<List> {
     Ok(list)
 }
 
-/// Tests whether this many segments, drawn by two workers as if they were five, have the batches of one reading, so
-/// many.
+/// Tests whether `count` segments, drawn by two workers in a schedule for five, have the same batches as one reading,
+/// and `batches` of them.
 fn is_read(alloc: Global, count: u64, batches: usize, plan: &Plan) -> Result<bool> {
     let segments = rising(alloc, count)?;
     let list = scheduled(alloc, segments.as_slice(), 2, &[0, 1, 1, 0, 1], plan)?;
@@ -178,7 +178,7 @@ fn is_read(alloc: Global, count: u64, batches: usize, plan: &Plan) -> Result<boo
     Ok(list.kept.len() == batches && list.is_as(&one))
 }
 
-/// Tests that five segments drawn by two workers make four pieces, merged by pairs and one by one.
+/// Tests whether five segments that two workers draw make four pieces, which are merged in pairs, and one by one.
 fn schedules(alloc: Global) -> Result<bool> {
     let pairs = pairs(alloc)?;
     Ok(
@@ -188,8 +188,8 @@ fn schedules(alloc: Global) -> Result<bool> {
     )
 }
 
-/// How many workers there are, who of them draws each of five segments, which a plan merges in three pieces, and why that
-/// is refused; no text where it is read.
+/// How many workers there are, which of them draws each of five segments, and why that is refused with a plan for three
+/// pieces; an empty text where it isn't.
 const SCHEDULES: [(usize, &[usize], &str); 8] = [
     (2, &[0, 1, 1, 0, 0], ""),
     (256, &[0, 1, 1, 0, 0], ""),
@@ -214,7 +214,8 @@ const SCHEDULES: [(usize, &[usize], &str); 8] = [
     ),
 ];
 
-/// Tests whether a schedule of so many segments and three pieces is refused so, or read where there is no text.
+/// Tests whether a schedule of `number` segments, with a plan for three pieces, is refused with this text, or read, if
+/// it is empty.
 fn is_told(
     alloc: Global,
     number: u64,
@@ -231,7 +232,8 @@ fn is_told(
     }
 }
 
-/// Tests whether each schedule is refused as it is to be, or read; without segments too, where any plan fits.
+/// Tests whether each schedule is refused or read as its row says; and whether any plan fits where there are no
+/// segments.
 fn misfits(alloc: Global) -> Result<bool> {
     for &(workers, draws, text) in &SCHEDULES {
         if !is_told(alloc, 5, workers, draws, text)? {
@@ -254,10 +256,10 @@ fn schedules_give_one_reading(rt: HostRuntime) {
     assert!(rt; matches!(again!(schedules(rt.alloc())), Ok(true)));
 }
 
-/// Writes down which segments it was told, and how many.
+/// A gate that notes which segments were passed, and how many.
 #[derive(Drop)]
 struct ToldGate {
-    /// The bits of the segments below 64, and of those above.
+    /// A bit for each segment below 64 that was passed; `high` has those from 64 on.
     low: AtomicU64,
     high: AtomicU64,
     count: AtomicU64,
@@ -276,7 +278,7 @@ impl Gate for ToldGate {
 }
 
 impl ToldGate {
-    /// Tests whether it was told the segments from 0 to 99, each once.
+    /// Tests whether the segments 0 to 99 were passed, each once.
     fn was_told_hundred(&self) -> bool {
         self.low.load(Ordering::SeqCst) == u64::MAX
             && self.high.load(Ordering::SeqCst) == (1 << 36) - 1
@@ -284,7 +286,7 @@ impl ToldGate {
     }
 }
 
-/// Tests whether a hundred segments are read by so many workers, who tell the gate each of them once.
+/// Tests whether so many workers read a hundred segments, and pass each once.
 fn by_workers<R: Threads + Sync>(rt: &R, alloc: Global, workers: usize) -> Result<bool> {
     let hundred = segments(alloc, 100)?;
     let gate = ToldGate {
@@ -308,7 +310,8 @@ fn workers_give_one_reading(rt: HostRuntime) {
     }
 }
 
-/// Tests whether two workers pass the workers' gate, which holds one segment up until all were passed.
+/// Tests whether two workers read three segments with a gate that holds one segment back until all were passed. `held`
+/// is the range of the segments that it holds back.
 fn passes<R: Threads + Clock + Send + Sync + Copy + Drop>(
     rt: &R,
     alloc: Global,
@@ -336,8 +339,8 @@ fn no_worker_waits_for_another(rt: HostRuntime) {
     }
 }
 
-/// Merges four machines of a batch each by pairs. Returns whether all batches are there, in order, and how many merges saw
-/// that two had begun.
+/// Merges four machines of a batch each in pairs. Returns whether all batches are there, in order, and how many merges
+/// saw that two had begun.
 fn merges<R: Threads + Clock + Send + Sync + Copy + Drop>(
     rt: &R,
     alloc: Global,
@@ -353,9 +356,9 @@ fn merges<R: Threads + Clock + Send + Sync + Copy + Drop>(
     Ok((has_all(&merged.list, 4), gate.seen.load(Ordering::SeqCst)))
 }
 
-/// Lets four workers replay four segments. Returns whether all batches are there, in order, and together how many of the four
-/// passes saw them all made, how many of the four replays saw that their segment was passed, and how many of the three merges
-/// saw that two had begun.
+/// Has four workers replay four segments. Returns whether all batches are there, in order; and the sum of how many of
+/// the four passes saw that all were passed, how many of the four replays saw that their segment was passed, and how
+/// many of the three merges saw that two had begun.
 fn works<R: Threads + Clock + Send + Sync + Copy + Drop>(
     rt: &R,
     alloc: Global,

@@ -1,4 +1,4 @@
-//! Whole recoveries: files in, lines out, on any number of workers and however the files are cut.
+//! Tests whole recoveries, from files to lines, by any number of workers and however the files are cut.
 
 mod batches;
 mod both;
@@ -29,13 +29,13 @@ use std::alloc::Global;
 use std::thread::Threads;
 use truncations::truncations;
 
-/// Returns the bytes that digits in base 16 spell.
+/// Returns the bytes of digits in base 16.
 fn bytes_of(alloc: Global, digits: &str) -> Result<Vec<u8>> {
     hex::decode(alloc, digits).map_err(|_| Error::Memory)
 }
 
-/// Returns the bytes of a batch in a file of a version, whose number is below 256: digits in base 16 spell it in
-/// version 1, and in version 2 the number is in its checksum.
+/// Returns the bytes of a batch in file `seq` of a version. `digits` are its bytes in version 1, in base 16; in version
+/// 2 it is signed for the file, whose number has to be below 256.
 fn signed(alloc: Global, version: Version, seq: FileSeq, digits: &str) -> Result<Vec<u8>> {
     let mut bytes = bytes_of(alloc, digits)?;
     let checksum = bytes.len().saturating_sub(4);
@@ -47,7 +47,8 @@ fn signed(alloc: Global, version: Version, seq: FileSeq, digits: &str) -> Result
     Ok(bytes)
 }
 
-/// Returns batches as segments of one batch a part, cut after those whose bits are set.
+/// Returns batches as segments, with a part for each batch. A segment ends behind each batch whose bit in `cuts` is
+/// set.
 fn cut(
     alloc: Global,
     queue: LogQueue,
@@ -86,7 +87,7 @@ fn push_part(
     Ok(())
 }
 
-/// Returns in how many ways so many batches can be cut.
+/// Returns in how many ways so many batches can be cut into segments.
 fn cuttings(batches: usize) -> u64 {
     let mut cuttings = 1u64;
     for _ in 1..batches {
@@ -95,7 +96,7 @@ fn cuttings(batches: usize) -> u64 {
     cuttings
 }
 
-/// In which versions batches are read at each cutting, and by how many workers.
+/// The versions in which batches are read at each cutting, and by how many workers.
 const READINGS: [(Version, usize); 5] = [
     (Version::V1, 1),
     (Version::V1, 2),
@@ -104,8 +105,8 @@ const READINGS: [(Version, usize); 5] = [
     (Version::V2, 256),
 ];
 
-/// Tests whether a row's batches have what it owes, or are refused, at each cutting, and as equal shares. These are the
-/// same at all cuttings.
+/// Tests whether the batches of a row give what it expects, or are refused, at each cutting, and as equal shares, which
+/// are the same at all cuttings.
 fn at_each_cutting<R: Threads + Sync>(rt: &R, alloc: Global, row: &Row) -> Result<bool> {
     for cuts in 0..cuttings(row.batches.len()) {
         for &(version, workers) in &READINGS {
@@ -123,7 +124,7 @@ fn at_each_cutting<R: Threads + Sync>(rt: &R, alloc: Global, row: &Row) -> Resul
     Ok(true)
 }
 
-/// Tests whether segments have what a row owes, or are refused, on so many workers.
+/// Tests whether segments give what a row expects, or are refused, with so many workers.
 fn have<R: Threads + Sync>(
     rt: &R,
     alloc: Global,
@@ -138,7 +139,7 @@ fn have<R: Threads + Sync>(
     }
 }
 
-/// Tests whether segments have what a row owes, or are refused, on so many workers: read as they are, and as equal
+/// Tests whether segments give what a row expects, or are refused, with so many workers: read as they are, and as equal
 /// shares.
 fn both_have<R: Threads + Sync>(
     rt: &R,
@@ -170,7 +171,7 @@ fn no_cut_shows_in_front_of_one_more_batch(rt: HostRuntime) {
     }
 }
 
-/// Returns files of a version, each with all its batches.
+/// Returns the files of a version, each as its number and the bytes of all its batches.
 fn whole_files(
     alloc: Global,
     version: Version,
@@ -191,8 +192,8 @@ fn whole_files(
     Ok(files)
 }
 
-/// Tests whether a row's lines are printed of its files. Files as small as these are one share, which one worker
-/// reads.
+/// Tests whether the lines of a row are printed for its files. Files as small as these are a single share, which one
+/// worker reads.
 fn prints<R: Threads + Sync>(
     rt: &R,
     alloc: Global,
@@ -213,8 +214,8 @@ fn prints<R: Threads + Sync>(
     }
 }
 
-/// Tests whether a row's files, a segment each or cut into up to so many shares, have what it owes, read by as many
-/// workers, and its lines are printed.
+/// Tests whether the files of a row, as a segment each and cut into up to `workers` shares, give what it expects with
+/// as many workers, and its lines are printed.
 fn files_have<R: Threads + Sync>(
     rt: &R,
     alloc: Global,
@@ -230,7 +231,7 @@ fn files_have<R: Threads + Sync>(
     )
 }
 
-/// In which versions files are read, and by how many workers.
+/// The versions in which files are read, and by how many workers.
 const FILE_READINGS: [(Version, usize); 12] = [
     (Version::V1, 1),
     (Version::V1, 2),
@@ -246,7 +247,7 @@ const FILE_READINGS: [(Version, usize); 12] = [
     (Version::V2, 256),
 ];
 
-/// Tests shares of up to 256, of which there are no more than batches: parts of both versions are cut inside a file.
+/// Tests up to 256 shares, of which there are never more than batches: parts of both versions are cut within a file.
 #[test]
 fn files_have_their_tables(rt: HostRuntime) {
     for list in [rows(), truncations(), histories()] {

@@ -1,4 +1,4 @@
-//! Whole runs: the status, what is printed, and what stands on the error stream.
+//! Tests whole runs of the program: the status, what is printed, and the error stream.
 
 use raft_base::Result;
 use raft_recover::{SharedFiles, run, run_in_pieces, run_without_words};
@@ -15,7 +15,7 @@ const CORRUPTION: &str = "raftlog: refused: corruption\n";
 
 const WORKERS: &str = "raftlog: refused: invalid-argument\n";
 
-/// Words, the input in base 16, the status, what is printed, and how the error stream begins.
+/// The arguments, the input in base 16, the status, what is printed, and how the error stream begins.
 type Row = (&'static str, &'static str, u8, &'static str, &'static str);
 
 static ROWS: [Row; 36] = [
@@ -129,7 +129,7 @@ static ROWS: [Row; 36] = [
     ("recover append 1 1 x=absent", "", 2, "", "usage: raftlog"),
 ];
 
-/// How the files are read that words name.
+/// The way in which files are read that the arguments name.
 #[derive(Clone, Copy, Debug)]
 enum Way {
     Whole,
@@ -138,7 +138,7 @@ enum Way {
 
 const WAYS: [Way; 2] = [Way::Whole, Way::InPieces];
 
-/// What a run left.
+/// What came of a run.
 #[derive(Drop)]
 struct Answer {
     status: u8,
@@ -147,6 +147,8 @@ struct Answer {
 }
 
 impl Answer {
+    /// Tests whether a run has ended with this status, has printed `out`, and errors that begin with `err`, or none if
+    /// that is empty.
     fn is(&self, status: u8, out: &str, err: &str) -> bool {
         self.status == status
             && self.out.as_slice() == out.as_bytes()
@@ -154,13 +156,13 @@ impl Answer {
             && self.err.is_empty() == err.is_empty()
     }
 
-    /// Tests whether an allocation was refused. Inside a reader or a writer that is an io error.
+    /// Tests whether the run found no memory. Within a reader or a writer that shows as an io error.
     fn found_no_memory(&self) -> bool {
         self.is(1, "", "raftlog: refused: memory\n") || self.is(1, "", "raftlog: refused: io\n")
     }
 }
 
-/// Returns the words of a line and, after them, others that may have spaces.
+/// Returns the words of a line, and behind them others, which may have spaces.
 fn words_of(alloc: Global, line: &str, others: &[&str]) -> Result<Vec<String>> {
     let mut words = Vec::new(alloc);
     for word in line.split_whitespace() {
@@ -172,6 +174,8 @@ fn words_of(alloc: Global, line: &str, others: &[&str]) -> Result<Vec<String>> {
     Ok(words)
 }
 
+/// Runs the program with the words of a line and others, over an input in base 16; `None` where there is no memory for
+/// these.
 fn run_on<S: SharedFiles + Files + AllocGlobal + Threads + Sync>(
     rt: &S,
     way: Way,
@@ -185,7 +189,7 @@ fn run_on<S: SharedFiles + Files + AllocGlobal + Threads + Sync>(
     answer_of(rt, way, words.as_slice(), &mut input)
 }
 
-/// Returns the answer to these words.
+/// Runs the program with these arguments, and returns what came of it.
 fn answer_of<S: SharedFiles + Files + AllocGlobal + Threads + Sync, R: Read>(
     rt: &S,
     way: Way,
@@ -201,7 +205,8 @@ fn answer_of<S: SharedFiles + Files + AllocGlobal + Threads + Sync, R: Read>(
     Some(Answer { status, out, err })
 }
 
-/// Tests whether this is the answer to words. Where an allocation is refused they run again, and have to find memory.
+/// Tests whether a run with these arguments gives what a row says. Where it finds no memory it is made again, and has
+/// to find some.
 fn is_answered<S: SharedFiles + Files + AllocGlobal + Threads + Sync>(
     rt: &S,
     way: Way,
@@ -218,6 +223,7 @@ fn is_answered<S: SharedFiles + Files + AllocGlobal + Threads + Sync>(
     answer.is_some_and(|answer| answer.is(status, out, err))
 }
 
+/// Returns the rows of runs.
 fn rows() -> &'static [Row] {
     &ROWS
 }
@@ -231,7 +237,7 @@ fn words_are_answered(rt: HostRuntime) {
     }
 }
 
-/// A reader that gives a byte and then fails.
+/// A reader that returns one byte, and then fails.
 #[derive(Drop)]
 struct Torn {
     read: bool,
@@ -271,8 +277,8 @@ fn failing_streams(rt: HostRuntime) {
     }
 }
 
-/// Tests whether a run whose input fails is refused so. Where an allocation is refused it runs again, and has to find
-/// memory.
+/// Tests whether a run whose input fails is refused with that error. Where it finds no memory it is made again, and has
+/// to find some.
 fn is_torn<S: SharedFiles + Files + AllocGlobal + Threads + Sync>(
     rt: &S,
     words: &[String],
@@ -287,7 +293,8 @@ fn is_torn<S: SharedFiles + Files + AllocGlobal + Threads + Sync>(
     answer.is_some_and(|answer| answer.is(1, "", "raftlog: refused: io\n"))
 }
 
-/// Tests whether words that can't be read for such an error end a run so.
+/// Tests whether arguments that can't be read, with an error of a kind, end a run with this status and this text on the
+/// error stream.
 fn ends_without_words(alloc: Global, kind: ErrorKind, status: u8, err: &str) -> Result<bool> {
     let mut said = Vec::with_capacity(alloc, 1024)?;
     let ended = run_without_words(&io::Error::from(kind), &mut said);
@@ -324,8 +331,8 @@ const CLEAN: &str = "00000000000018000000000000000010010102015a800bdd";
 
 const BOTH_LINES: &str = "7 entries 10..12 keys 0 append 12 rewrite -\ncleaned 1\nlive 2 0\n";
 
-/// Where files are, and their batches. One path has a `=` in it; two begin or end with a space, and there is no file at
-/// the path without it.
+/// The paths of files, and their batches in base 16. One path has a `=`; two begin or end with a space, and there is no
+/// file at the path without the space.
 const FILES: [(&str, &str); 4] = [
     ("two_entries.log", TWO_ENTRIES),
     ("clean=1.log", CLEAN),
@@ -333,8 +340,8 @@ const FILES: [(&str, &str); 4] = [
     ("spaced.log ", CLEAN),
 ];
 
-/// Words for files, how many bytes each file has at most, the status, what is printed, and
-/// how the error stream begins.
+/// Arguments that name files, how many bytes each file has at most, the status, what is printed, and how the error
+/// stream begins.
 type FileRow = (
     &'static [&'static str],
     usize,
@@ -372,7 +379,7 @@ const FILE_ROWS: [FileRow; 8] = [
     ),
 ];
 
-/// Returns the answer to words for files that hold the first bytes of their batches.
+/// Writes files with the first bytes of their batches, runs the program, and returns what came of it.
 fn run_on_files<S: SharedFiles + Files + AllocGlobal + Threads + Sync>(
     rt: &S,
     way: Way,
@@ -390,15 +397,15 @@ fn run_on_files<S: SharedFiles + Files + AllocGlobal + Threads + Sync>(
     answer
 }
 
-/// Writes the first bytes of those that digits in base 16 spell.
+/// Writes a file with the first `length` of the bytes that `digits` are in base 16.
 fn write<S: Files + AllocGlobal>(rt: &S, path: &str, digits: &str, length: usize) -> Option<()> {
     let mut bytes = hex::decode(rt.alloc(), digits).ok()?;
     bytes.truncate(length);
     fs::write(rt, path, bytes.as_slice()).ok()
 }
 
-/// Tests whether this is the answer to words for files. Where an allocation is refused they run again, and have to find
-/// memory.
+/// Tests whether a run over files gives what a row says. Where it finds no memory it is made again, and has to find
+/// some.
 fn files_are_answered<S: SharedFiles + Files + AllocGlobal + Threads + Sync>(
     rt: &S,
     way: Way,
@@ -416,7 +423,7 @@ fn files_are_answered<S: SharedFiles + Files + AllocGlobal + Threads + Sync>(
     answer.is_some_and(|answer| answer.is(status, out, err))
 }
 
-/// Runs each row with one worker and with two.
+/// Tests each row with one worker and with two.
 #[test]
 fn files_are_read_at_their_paths(rt: HostRuntime) {
     for &line in &["recover append 1 1", "recover append 1 2"] {

@@ -1,4 +1,4 @@
-//! Files as equal shares.
+//! Tests files that are divided into equal shares.
 
 use raft_base::{EntryIndex, Error, FileSeq, LogQueue, Result, Version};
 use raft_records::{FilePart, LogItemContent, entries_block_in, entry_bytes, next_batch};
@@ -13,8 +13,8 @@ use std::process::Abort;
 const CLEAN: &[u8; 24] =
     b"\x00\x00\x00\x00\x00\x00\x18\x00\x00\x00\x00\x00\x00\x00\x00\x10\x01\x01\x02\x01\x5a\x80\x0b\xdd";
 
-/// How many files of four batches each there are, how many shares are asked for, of how many bytes at least,
-/// and how many bytes are in each.
+/// How many files of four batches each there are, how many shares are wanted, of how many bytes at least, and how many
+/// bytes each share has.
 type Row = (u64, usize, usize, &'static [usize]);
 
 static ROWS: [Row; 9] = [
@@ -29,11 +29,12 @@ static ROWS: [Row; 9] = [
     (5, 256, 1 << 20, &[480]),
 ];
 
+/// Returns the rows of shares.
 fn rows() -> &'static [Row] {
     &ROWS
 }
 
-/// Returns a file of four batches.
+/// Returns the bytes of a file of four batches.
 fn file_bytes(alloc: Global) -> Result<Vec<u8>> {
     let mut bytes = Vec::new(alloc);
     for _ in 0..4 {
@@ -42,6 +43,7 @@ fn file_bytes(alloc: Global) -> Result<Vec<u8>> {
     Ok(bytes)
 }
 
+/// Returns so many files, each of the same four batches.
 fn files_of(alloc: Global, count: u64) -> Result<Vec<(FileSeq, Vec<u8>)>> {
     let mut files = Vec::new(alloc);
     for seq in 0..count {
@@ -50,7 +52,7 @@ fn files_of(alloc: Global, count: u64) -> Result<Vec<(FileSeq, Vec<u8>)>> {
     Ok(files)
 }
 
-/// Returns how many bytes are in each share of so many files of a version.
+/// Returns how many bytes each share has of so many files of a version.
 fn share_bytes(
     alloc: Global,
     version: Version,
@@ -78,6 +80,7 @@ fn shares_are_of_one_length(rt: HostRuntime) -> Result<()> {
     again!(all_shares(&rt, rt.alloc()))
 }
 
+/// Tests each row in both versions.
 fn all_shares(rt: &impl Abort, alloc: Global) -> Result<()> {
     for &(files, count, least, bytes) in rows() {
         for &version in &[Version::V1, Version::V2] {
@@ -92,7 +95,7 @@ fn all_shares(rt: &impl Abort, alloc: Global) -> Result<()> {
 const ENTRIES: &[u8; 37] =
     b"\x00\x00\x00\x00\x00\x00\x25\x00\x00\x00\x00\x00\x00\x00\x00\x18xxxx\x77\x64\x15\x6c\x01\x01\x01\x04\x05\x01\x02\x03\x04\x70\xe2\xa6\x5f";
 
-/// Returns a file of three batches with entries, as so many shares.
+/// Divides a file of three batches with entries into so many shares.
 fn entry_shares(alloc: Global, count: usize) -> Result<Vec<Segment>> {
     let mut bytes = Vec::new(alloc);
     for _ in 0..3 {
@@ -103,7 +106,7 @@ fn entry_shares(alloc: Global, count: usize) -> Result<Vec<Segment>> {
     equal_shares(alloc, segments.as_slice(), count.max(1), 1)
 }
 
-/// Counts the entries of the batch at a byte of a part that are read back from their place, and returns where the next
+/// Returns how many entries of the batch at byte `at` of a part can be read back from their places, and where the next
 /// batch begins.
 fn read_back(alloc: Global, part: &FilePart, at: usize) -> Result<(u64, usize)> {
     let Some((batch, next)) = next_batch(part, at.min(part.bytes().len()))? else {
@@ -118,7 +121,7 @@ fn read_back(alloc: Global, part: &FilePart, at: usize) -> Result<(u64, usize)> 
     Ok((count, next))
 }
 
-/// Counts the entries whose bytes in the part are `x`.
+/// Returns how many of the entries have the byte `x` in the part.
 fn same_entries(alloc: Global, part: &FilePart, entries: &[EntryIndex]) -> Result<u64> {
     let mut count = 0u64;
     for entry in entries {
@@ -133,7 +136,7 @@ fn same_entries(alloc: Global, part: &FilePart, entries: &[EntryIndex]) -> Resul
     Ok(count)
 }
 
-/// Counts the entries of all shares that are read back from the part that has their batch.
+/// Returns how many entries of all shares can be read back from the part that has their batch.
 fn entries_read_back(alloc: Global, shares: &[Segment]) -> Result<u64> {
     let mut count = 0u64;
     for share in shares {
@@ -149,7 +152,7 @@ fn entries_read_back(alloc: Global, shares: &[Segment]) -> Result<u64> {
     Ok(count)
 }
 
-/// Tests that each of the twelve entries is read back, from one part and from parts that are cut.
+/// Tests that each of the twelve entries can be read back, from a single part and from parts that are cut.
 #[test]
 fn shares_have_the_entries(rt: HostRuntime) {
     for &count in &[1usize, 2, 3] {
@@ -161,7 +164,7 @@ fn shares_have_the_entries(rt: HostRuntime) {
     }
 }
 
-/// Returns how many entries are read back from so many shares, and how many shares there are.
+/// Divides the file into `count` shares. Returns how many entries can be read back, and how many shares there are.
 fn shares_read_back(alloc: Global, count: usize) -> Result<(u64, usize)> {
     let shares = entry_shares(alloc, count)?;
     Ok((entries_read_back(alloc, shares.as_slice())?, shares.len()))

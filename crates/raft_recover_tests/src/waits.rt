@@ -1,4 +1,4 @@
-//! A workers' gate and a machine that wait for one another's threads.
+//! A gate of workers and a machine whose calls wait for one another on different threads.
 
 use crate::machines::list_machine::List;
 use raft_base::{Factory, FileId, LogQueue, Result};
@@ -10,23 +10,23 @@ use std::sync::Arc;
 use std::sync::atomic::{AtomicU64, Ordering};
 use std::time::Clock;
 
-/// Returns the bit of a number below 64.
+/// Returns the bit that stands for a number below 64.
 fn bit(number: u64) -> u64 {
     1 << (number % 64)
 }
 
-/// Holds some segments up until all were passed.
+/// A gate that holds some segments back until all were passed.
 #[derive(Drop)]
 pub(crate) struct WaitGate<R: Drop> {
     rt: R,
-    /// The first segment that is held up, and the one past the last.
+    /// The first segment that is held back, and the one past the last.
     held: (usize, usize),
     /// The bits of all segments.
     all: u64,
-    /// The bits of those that were passed.
+    /// The bits of the segments that were passed.
     pub(crate) passed: Arc<AtomicU64, Global>,
     begun: Arc<AtomicU64, Global>,
-    /// How many passes, replays and merges saw what they have to see.
+    /// How many passes, replays and merges saw what they had to see.
     pub(crate) seen: Arc<AtomicU64, Global>,
 }
 
@@ -59,7 +59,7 @@ impl<R: Clock + Send + Sync + Drop> Gate for WaitGate<R> {
     }
 }
 
-/// Makes machines that see the gate's passes.
+/// Makes machines that see which segments the gate has passed.
 impl<R: Clock + Send + Sync + Copy + Drop> Factory<Waits<R>> for WaitGate<R> {
     ghost use Rattle.std.specs.Prelude.{◌≡◌, []};
 
@@ -80,8 +80,8 @@ impl<R: Clock + Send + Sync + Copy + Drop> Factory<Waits<R>> for WaitGate<R> {
     }
 }
 
-/// A machine that keeps a list of batches, whose replays look whether the segment of the file's number was passed, and whose
-/// merges wait until two have begun.
+/// A machine that keeps a list of batches. Its replays check whether the segment with the file's number was passed, and
+/// its merges wait until two have begun.
 #[derive(Drop)]
 pub(crate) struct Waits<R: Drop> {
     rt: R,

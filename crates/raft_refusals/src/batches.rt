@@ -1,4 +1,4 @@
-//! Batches that are filled, put together, grouped, made into bytes and signed.
+//! Batches that are filled, merged, marked as a group, made into bytes and signed.
 
 use crate::calls::Call;
 use crate::found::{Found, call_twice, is_refused};
@@ -8,7 +8,8 @@ use raft_records::{
     LogQueue, Result, Version,
 };
 
-/// Steps, and the version and the number of the append file that they are signed for.
+/// The calls of the row `batches`: steps, and the version and the number of the append file for which the
+/// batch is signed.
 pub(crate) static BATCHES: [Call; 6] = [
     Call::Batch(&[Step::Clean(1)], Version::V1, 12),
     Call::Batch(&[Step::Clean(1)], Version::V2, 12),
@@ -33,8 +34,8 @@ pub(crate) static BATCHES: [Call; 6] = [
 ];
 
 /// Makes a batch of `steps`, signs it for the append file numbered `seq` of this `version`, and adds lines
-/// with its approximate size, its length and its bytes. What each call leaves if it returns `Memory` is noted
-/// in `found`.
+/// with its approximate size, its length and its bytes. Notes in `found` whether each call that returns
+/// `Memory` has left what it must leave.
 ///
 /// # Errors
 ///
@@ -53,7 +54,7 @@ pub(crate) fn encode_steps(
     seal_and_retry(found, &mut batch, &file)
 }
 
-/// Adds `step` to `batch`. If that returns `Memory`, it notes in `found` whether the batch is unchanged, and
+/// Adds `step` to `batch`. If that returns `Memory`, notes in `found` whether the batch is unchanged, and
 /// tries once more.
 ///
 /// # Errors
@@ -65,8 +66,8 @@ fn add_and_retry(found: &mut Found, batch: &mut LogBatch, step: Step) -> Result<
 }
 
 /// Makes the bytes of `batch`, signs them for `file`, and adds lines with its approximate size, its length
-/// and its bytes, in hexadecimal digits. If the bytes can't be made for want of memory, it notes in `found`
-/// whether the batch is unchanged, and tries once more.
+/// and its bytes, in hexadecimal digits. If making them returns `Memory`, notes in `found` whether the batch
+/// is unchanged, and tries once more.
 ///
 /// # Errors
 ///
@@ -84,8 +85,8 @@ fn seal_and_retry(found: &mut Found, batch: &mut LogBatch, file: &LogFileContext
     found.append_hex_line(batch.encoded_bytes())
 }
 
-/// Makes the bytes of an open batch, and returns how many they are: [`LogBatch::finish_populate`], which may
-/// be called for open batches alone.
+/// Makes the bytes of `batch`, which must be open, by [`LogBatch::finish_populate`]. Returns how many they
+/// are.
 ///
 /// # Errors
 ///
@@ -114,8 +115,8 @@ pub(crate) fn merge_two_batches(found: &mut Found) -> Result<()> {
     seal_and_retry(found, &mut behind, &file)
 }
 
-/// Moves the items of `behind` to the end of `batch`. If that returns `Memory`, it notes in `found` whether
-/// both are unchanged.
+/// Moves the items of `behind` to the end of `batch`. If that returns `Memory`, notes in `found` whether both
+/// are unchanged.
 ///
 /// # Errors
 ///
@@ -135,7 +136,7 @@ fn merge_batch_behind(
     answer
 }
 
-/// Adds lines with the bytes of three batches: the `Begin`, a `Middle` and the `End` of a group.
+/// Adds lines with the bytes of three batches: with the `Begin`, a `Middle` and the `End` of a group.
 ///
 /// # Errors
 ///
@@ -151,8 +152,8 @@ pub(crate) fn mark_group(found: &mut Found) -> Result<()> {
     Ok(())
 }
 
-/// Adds the group marker to `batch` that comes next in the group of `builder`: its `Begin`, then a `Middle`,
-/// then its `End`. If that returns `Memory`, it notes in `found` whether batch and builder are unchanged.
+/// Adds the next marker of the group of `builder` to `batch`: its `Begin`, then a `Middle`, then its `End`.
+/// If that returns `Memory`, notes in `found` whether batch and builder are unchanged.
 ///
 /// # Errors
 ///

@@ -1,4 +1,4 @@
-//! Rows of calls that leave nothing behind: the next one makes what it needs anew.
+//! Rows of calls that leave nothing behind: each call makes what it needs anew.
 
 use crate::batches::BATCHES;
 use crate::found::Found;
@@ -15,48 +15,55 @@ use crate::{batches, contexts, item_batches, items, merges, parts, recoveries, t
 use raft_records::{FileSeq, Result, Version};
 use std::thread::Threads;
 
+/// A call of such a row, with its arguments.
 #[derive(Clone, Copy)]
 pub(crate) enum Call {
-    /// Bytes are read in a form, and written again.
+    /// Bytes are read as a value of a form, which is written again.
     Read(Form, &'static [u8]),
-    /// An item batch is read from the append file of a version and a number.
+    /// An item batch is read, as one of the append file of a version and a number.
     ReadBatch(&'static [u8], Version, FileSeq),
     /// Steps are added to a batch, which is signed for the append file of a version and a number.
     Batch(&'static [Step], Version, FileSeq),
-    /// A batch is read from a part with this many bytes of `BYTES`, at this position.
+    /// A batch is read from a part with the first so many bytes of `BYTES`, at a position.
     Next(usize, usize),
-    /// A header is read from this many bytes of `BYTES`.
+    /// A header is read from the first so many bytes of `BYTES`.
     Header(usize),
     /// The entry bytes of a block of this length are read.
     Block(usize),
     /// A part of a version is cut and cloned.
     Cut(Version),
-    /// A table is changed, from an empty one on.
+    /// Changes are made of an empty table.
     Change(&'static [tables::Change]),
-    /// Items are written, from no tables on.
+    /// Items are written, beginning without tables.
     Write(&'static [writes::Call]),
-    /// Tables that were written are merged into older ones, as those of the append queue or as the newer neighbors.
+    /// The tables that the second list of calls makes are merged into those of the first one: as those of the
+    /// append queue if the flag is set, else as the newer neighbors.
     MergeTables(&'static [writes::Call], &'static [writes::Call], bool),
-    /// The changes of a newer table are merged into those of an older one, as those of the append queue or as the newer
-    /// neighbor.
+    /// The table that the second list of changes makes is merged into that of the first one: as one of the
+    /// append queue if the flag is set, else as the newer neighbor.
     MergeDirectly(&'static [tables::Change], &'static [tables::Change], bool),
-    /// The contexts of a history are merged, one for each batch.
+    /// Each batch of a history is read by a context of its own, and the contexts are merged.
     Merge(History),
-    /// A history of the append queue is put over one of the rewrite queue.
+    /// The second list of batches, of the append queue, is put over the first one, of the rewrite queue.
     Overlay(&'static [Batch], &'static [Batch]),
-    /// What the context of 20 batches holds is counted.
+    /// What a context holds after 20 batches is counted.
     CountPuts,
     /// What the context of a history holds is counted.
     Count(History),
+    /// Tickets are opened and closed.
     Tickets,
-    /// The pieces are counted that this many segments make if these workers draw them.
+    /// The pieces are counted that so many segments make if these workers draw them.
     CountPieces(usize, &'static [usize]),
+    /// A history is recovered in a way.
     Recover(History, How),
+    /// Bytes are printed as an item batch.
     PrintBatch(&'static [u8]),
+    /// The tables of a file with these bytes are printed.
     PrintFile(&'static [u8]),
 }
 
-/// Returns the calls of the row named `row`, such as `items` or `batches`, or none if no row has that name.
+/// Returns the calls of the row named `row`, such as `items` or `batches`. Returns none if no row of this
+/// file has that name.
 fn calls_of(row: &str) -> &'static [Call] {
     match row {
         "items" => &ITEMS,
@@ -83,8 +90,8 @@ fn calls_of(row: &str) -> &'static [Call] {
     }
 }
 
-/// Makes the calls of the row named `row`, and adds lines with what each gives, or with the word for its
-/// error. If no row has that name, a line says so.
+/// Makes the calls of the row named `row`. For each it adds lines with what it gives, or with the word for
+/// its error, to `found`. If no row has that name, it adds a line that says so.
 ///
 /// # Errors
 ///
@@ -106,7 +113,7 @@ pub(crate) fn make_all_calls<R: Threads + Sync>(
     Ok(())
 }
 
-/// Makes one `call`, and adds lines with what it gives.
+/// Makes `call`, and adds lines with what it gives to `found`.
 ///
 /// # Errors
 ///

@@ -1,4 +1,4 @@
-//! Contexts that read batches, are merged and put over one another.
+//! Contexts that read batches, are merged, and are put over one another.
 
 use crate::found::Found;
 use crate::histories::{Batch, History, batch_segments, part_of};
@@ -19,7 +19,7 @@ pub(crate) fn merge_history(found: &mut Found, history: History) -> Result<()> {
     print_context(found, context)
 }
 
-/// Ends `context`, and adds the lines of its tables, as [`print_tables`] does.
+/// Finishes `context`, and adds the lines of its tables, as [`print_tables`] does.
 ///
 /// # Errors
 ///
@@ -29,7 +29,7 @@ fn print_context(found: &mut Found, context: MemTableRecoverContext) -> Result<(
     print_tables(found, &tables)
 }
 
-/// Returns the context of `batches` of `queue`, each of which is read by a context of its own.
+/// Reads each of `batches` of `queue` with a context of its own, and returns these contexts merged.
 ///
 /// # Errors
 ///
@@ -44,7 +44,7 @@ fn merge_batches(
 }
 
 /// Reads each of `segments` with a context of its own, and returns these contexts merged, from the first one
-/// on. If a merge is refused, it notes in `found` whether the context is failed.
+/// on. If a merge is refused, notes in `found` whether the context is failed.
 ///
 /// # Errors
 ///
@@ -77,8 +77,8 @@ fn read_segment(found: &mut Found, segment: &Segment) -> Result<MemTableRecoverC
     Ok(context)
 }
 
-/// Reads the first batch of `part` into `context`; a part without bytes has none. If the batch is refused, it
-/// notes in `found` whether the context is failed.
+/// Replays the first batch of `part` into `context`. Does nothing if the part has no bytes. If the batch is
+/// refused, notes in `found` whether the context is failed.
 ///
 /// # Errors
 ///
@@ -96,8 +96,8 @@ fn replay_first_batch(
     answer
 }
 
-/// Notes in `found`, if `answer` is an error, whether further calls of `context` return `Failed`: a `replay`
-/// and a `kept`.
+/// Notes in `found` whether `context` is failed, so that a further `replay` and a `kept` return `Failed`.
+/// Does nothing unless `answer`, the result of its last call, is an error.
 fn note_failed_context(
     found: &mut Found,
     context: &mut MemTableRecoverContext,
@@ -112,9 +112,9 @@ fn note_failed_context(
     found.note_state(matches!(again, Err(Error::Failed)) && matches!(kept, Err(Error::Failed)));
 }
 
-/// Reads the histories `rewritten` and `appended`, puts the context of the append queue over that of the
-/// rewrite queue, and adds the lines of the tables that this gives. If that is refused, it notes in `found`
-/// whether the context is failed.
+/// Reads the batches `rewritten` of the rewrite queue and `appended` of the append queue, puts the context of
+/// the append queue over that of the rewrite queue, and adds the lines of the tables that this gives. If that
+/// is refused, notes in `found` whether the context is failed.
 ///
 /// # Errors
 ///

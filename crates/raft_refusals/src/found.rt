@@ -1,4 +1,4 @@
-//! What a row finds.
+//! What the calls of a row give, and what refused calls leave.
 
 ghost use Rattle.std.specs.Prelude.{◌≡◌};
 
@@ -6,14 +6,16 @@ use raft_records::{Error, Result};
 use raft_recover::refusal;
 use std::alloc::Global;
 
-/// The lines of a row, and what a refusal left.
+/// The lines of a row, and whether refused calls have left what they must leave.
 #[derive(Drop)]
 pub(crate) struct Found {
+    /// The allocator of all that the row makes.
     pub(crate) alloc: Global,
+    /// The lines so far, which are printed at the end.
     pub(crate) lines: Vec<u8>,
     /// False once a refused call has left something else than it must leave.
     pub(crate) stands: bool,
-    /// Whether a call that was made again found no memory either.
+    /// Whether a call that was made again returned `Memory` once more.
     pub(crate) is_in_vain: bool,
 }
 
@@ -28,7 +30,7 @@ impl Found {
         }
     }
 
-    /// Appends `text` and a line feed.
+    /// Appends a line with `text`.
     ///
     /// # Errors
     ///
@@ -52,19 +54,19 @@ impl Found {
         self.append_line(digits.as_str())
     }
 
-    /// Notes whether a refused call has left what it must leave: `stands` is the result of that test. One
-    /// `false` counts for the whole row.
+    /// Notes whether a refused call has left what it must leave, which `stands` says. One `false` counts for
+    /// the whole row.
     pub(crate) fn note_state(&mut self, stands: bool) {
         if !stands {
             self.stands = false;
         }
     }
 
-    /// Appends a line with the word for `error`.
+    /// Appends a line with the word for `error` ([`refusal_word`]).
     ///
     /// # Errors
     ///
-    /// `Memory` if `error` is that: it ends the row, and isn't told in a line.
+    /// `Memory` if `error` is that, which ends the row without a line; or if there is none for the line.
     pub(crate) fn add_refusal(&mut self, error: Error) -> Result<()> {
         if matches!(error, Error::Memory) {
             return Err(error);
@@ -72,8 +74,8 @@ impl Found {
         self.append_line(refusal_word(&error))
     }
 
-    /// Returns `answer`, the result of a call that was made again because the first try found no memory.
-    /// Notes if there was none again.
+    /// Returns `answer`, the result of a call that was made again since the first one returned `Memory`.
+    /// Notes if it is `Memory` once more.
     ///
     /// # Errors
     ///
@@ -103,7 +105,7 @@ macro_rules! call_twice {
 
 pub(crate) use call_twice;
 
-/// Tests whether `answer`, that of a call, is `Memory`.
+/// Tests whether `answer`, the result of a call, is `Memory`.
 pub(crate) fn is_refused<T>(answer: &Result<T>) -> bool {
     matches!(answer, Err(Error::Memory))
 }
@@ -116,8 +118,8 @@ pub(crate) fn answer_word<T>(answer: &Result<T>) -> &'static str {
     }
 }
 
-/// Returns the word that the lines have for `error`: `compacted` and `not-found` for entries that aren't
-/// there, else the word that `raftlog` prints, such as `corruption`.
+/// Returns the word for `error` in the lines: `compacted` and `not-found` for entries that aren't there, else
+/// the word that `raftlog` prints, such as `corruption`.
 fn refusal_word(error: &Error) -> &'static str {
     match error {
         Error::EntryCompacted => "compacted",

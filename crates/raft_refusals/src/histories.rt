@@ -1,4 +1,4 @@
-//! Histories of both queues, as segments.
+//! Histories of both queues, and their batches as segments.
 
 use crate::calls::Call;
 use crate::steps::{Step, sealed_batch};
@@ -12,14 +12,16 @@ use std::alloc::Global;
 /// A batch: the number of its file and its steps. Number 0 stands for a segment without batches.
 pub(crate) type Batch = (FileSeq, &'static [Step]);
 
-/// Batches of a queue, in order.
+/// The batches of a queue, in order.
 #[derive(Clone, Copy)]
 pub(crate) struct History {
+    /// The queue.
     pub(crate) queue: LogQueue,
+    /// Its batches.
     pub(crate) batches: &'static [Batch],
 }
 
-/// Two regions, a compaction, a deleted key, a region that is cleaned and comes again.
+/// A history of two regions, with a compaction, a deleted key, and a region that is cleaned and comes again.
 pub(crate) const APPENDED: History = History {
     queue: LogQueue::Append,
     batches: &[
@@ -34,7 +36,7 @@ pub(crate) const APPENDED: History = History {
     ],
 };
 
-/// A group over three batches, and two that aren't whole.
+/// A history of the rewrite queue, with a group of three batches, and two that aren't whole.
 pub(crate) const REWRITTEN: History = History {
     queue: LogQueue::Rewrite,
     batches: &[
@@ -49,7 +51,8 @@ pub(crate) const REWRITTEN: History = History {
     ],
 };
 
-/// Two runs, a segment without batches, a compaction of the first region and a key of a second one.
+/// A history of five segments: two runs, a segment without batches, a compaction of the first region, and a
+/// key of a second one.
 pub(crate) const FIVE: History = History {
     queue: LogQueue::Append,
     batches: &[
@@ -61,12 +64,13 @@ pub(crate) const FIVE: History = History {
     ],
 };
 
-/// No segment.
+/// A history without segments.
 pub(crate) const NONE: History = History {
     queue: LogQueue::Append,
     batches: &[],
 };
 
+/// The calls of the row `contexts`.
 pub(crate) static CONTEXTS: [Call; 13] = [
     Call::Merge(History {
         queue: LogQueue::Append,
@@ -165,9 +169,10 @@ pub(crate) static CONTEXTS: [Call; 13] = [
     }),
 ];
 
-/// Two longer histories.
+/// The calls of the row `long-contexts`, with two longer histories.
 pub(crate) static LONG_CONTEXTS: [Call; 2] = [Call::Merge(APPENDED), Call::Merge(REWRITTEN)];
 
+/// The calls of the row `overlays`.
 pub(crate) static OVERLAYS: [Call; 5] = [
     Call::Overlay(
         &[(1, &[Step::Run(1, 10, 20), Step::Put(1, b"j", b"v")])],
@@ -201,7 +206,8 @@ pub(crate) static OVERLAYS: [Call; 5] = [
     ),
 ];
 
-/// A context of 20 batches that put one key, and one with groups that aren't whole.
+/// The calls of the row `kept`: a context of 20 batches that put one key, and one with groups that aren't
+/// whole.
 pub(crate) static KEPT: [Call; 2] = [Call::CountPuts, Call::Count(REWRITTEN)];
 
 /// Returns a segment for each of `batches`, with one part that has the batch alone. A batch with the file
@@ -232,7 +238,7 @@ pub(crate) fn batch_segments(
 ///
 /// # Errors
 ///
-/// Those of [`sealed_batch`]; `InvalidArgument` if the bytes would end behind 2^64 - 1; `Memory`.
+/// Those of [`sealed_batch`]; `InvalidArgument` if the bytes would end after offset 2^64 - 1; `Memory`.
 pub(crate) fn part_of(
     alloc: Global,
     file: FileId,

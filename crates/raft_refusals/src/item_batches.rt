@@ -1,4 +1,4 @@
-//! Batches of items without entry bytes.
+//! Item batches: lists of items, without entry bytes.
 
 ghost use Rattle.std.specs.Prelude.{◌≡◌};
 
@@ -11,18 +11,24 @@ use raft_records::{
 };
 use std::alloc::Global;
 
+/// A change of an item batch. Where no region is named, it is region 1.
 #[derive(Clone, Copy)]
 enum Change {
+    /// A compaction to an index is added.
     Command(u64),
+    /// A put of a key and a value is added.
     Put(&'static [u8], &'static [u8]),
+    /// A put of a key and a message is added.
     PutMessage(&'static [u8], &'static [u8]),
+    /// A deletion of a key is added.
     Delete(&'static [u8]),
     /// Two items of another batch are moved after the batch's own.
     Merge,
-    /// Two entries of a region, the first index, and the lengths.
+    /// Two entries of a region are added, with the first index and the two lengths.
     Entries(u64, u64, (u16, u16)),
 }
 
+/// The changes that the row `item-batches` makes.
 static CHANGES: [Change; 5] = [
     Change::Command(7),
     Change::Put(b"put", b"put_v"),
@@ -31,7 +37,8 @@ static CHANGES: [Change; 5] = [
     Change::Merge,
 ];
 
-/// The last entry has the greatest index that an entry can have.
+/// The changes that the row `item-batch-entries` makes. The last entry has the greatest index that an entry
+/// can have.
 static ENTRIES: [Change; 5] = [
     Change::Entries(7, 10, (2, 1)),
     Change::Entries(300, 1, (5, 0)),
@@ -41,7 +48,7 @@ static ENTRIES: [Change; 5] = [
 ];
 
 /// Adds a line with the bytes of an item batch without items, and one with those after all of `CHANGES` were
-/// made.
+/// made, in hexadecimal digits.
 ///
 /// # Errors
 ///
@@ -55,8 +62,8 @@ pub(crate) fn encode_both_batches(found: &mut Found) -> Result<()> {
     encode_and_retry(found, &mut batch)
 }
 
-/// Adds a line with the bytes of an item batch with five items of entries. For the first and the fifth of
-/// them the batch needs more memory for its list of items.
+/// Adds a line with the bytes of an item batch with five items of entries, in hexadecimal digits. For the
+/// first and the fifth of them the batch needs more memory for its list of items.
 ///
 /// # Errors
 ///
@@ -69,8 +76,8 @@ pub(crate) fn add_entries(found: &mut Found) -> Result<()> {
     encode_and_retry(found, &mut batch)
 }
 
-/// Makes `change` of `batch`. If that returns `Memory`, it notes in `found` whether the batch is unchanged,
-/// and tries once more.
+/// Makes `change` of `batch`. If that returns `Memory`, notes in `found` whether the batch is unchanged, and
+/// tries once more.
 ///
 /// # Errors
 ///
@@ -85,7 +92,7 @@ fn change_and_retry(found: &mut Found, batch: &mut LogItemBatch, change: Change)
 ///
 /// # Errors
 ///
-/// Those of the call of the batch.
+/// Those of the batch's call.
 fn change_batch(alloc: Global, batch: &mut LogItemBatch, change: Change) -> Result<()> {
     match change {
         Change::Command(index) => batch.add_command(1, Command::Compact { index }),
@@ -102,7 +109,7 @@ fn change_batch(alloc: Global, batch: &mut LogItemBatch, change: Change) -> Resu
     }
 }
 
-/// Returns an entry with this index and a length of `entry_len` bytes, and no place.
+/// Returns an entry with this `index`, of `entry_len` bytes, which has no place.
 fn entry_of_len(index: u64, entry_len: u32) -> EntryIndex
     ensures index { result.index ≡ index }
     ensures len { result.entry_len ≡ entry_len }
@@ -114,7 +121,7 @@ fn entry_of_len(index: u64, entry_len: u32) -> EntryIndex
     }
 }
 
-/// Adds an item with two entries of `region`, at the indexes `first` and `first + 1`, of these lengths in
+/// Adds an item with two entries of `region`, at the indexes `first` and `first + 1`, of these `lengths` in
 /// bytes.
 ///
 /// # Errors
@@ -139,7 +146,7 @@ fn add_two_entries(
     batch.add_entry_indexes(region, entries)
 }
 
-/// Adds a put of `value` under `key` of region 1.
+/// Adds a put of `value` under `key` of region 1 to `batch`.
 ///
 /// # Errors
 ///
@@ -149,8 +156,8 @@ fn put_value(alloc: Global, batch: &mut LogItemBatch, key: &[u8], value: &[u8]) 
     batch.put(1, Vec::from_slice(alloc, key)?, value)
 }
 
-/// Moves two commands, of the regions 2 and 3, from another batch to the end of `batch`. A batch with entry
-/// bytes stays as it is.
+/// Moves two commands, of the regions 2 and 3, from another batch to the end of `batch`. Does nothing if
+/// `batch` has entry bytes.
 ///
 /// # Errors
 ///
@@ -165,8 +172,8 @@ fn merge_commands(alloc: Global, batch: &mut LogItemBatch) -> Result<()> {
     batch.merge(&mut behind)
 }
 
-/// Adds a line with `21`, the byte that the bytes of `batch` are appended to, and these. If the batch can't
-/// be encoded for want of memory, it notes in `found` whether that byte is still alone, and tries once more.
+/// Appends the bytes of `batch` to the byte 0x21, and adds a line with all in hexadecimal digits. If encoding
+/// returns `Memory`, notes in `found` whether that byte is still alone, and tries once more.
 ///
 /// # Errors
 ///
@@ -177,6 +184,7 @@ fn encode_and_retry(found: &mut Found, batch: &mut LogItemBatch) -> Result<()> {
     found.append_hex_line(out.as_slice())
 }
 
+/// The calls of the row `item-batch-bytes`.
 pub(crate) static ITEM_BATCHES: [Call; 7] = [
     Call::ReadBatch(b"\x00\x81\xef\x02\xd2", Version::V2, 12),
     Call::ReadBatch(b"\x00\x81\xef\x02\xd2", Version::V2, 13),
@@ -191,9 +199,9 @@ pub(crate) static ITEM_BATCHES: [Call; 7] = [
     Call::ReadBatch(b"\x8d\xef\x02\xd2", Version::V1, 12),
 ];
 
-/// Reads `bytes` as an item batch of the append file numbered `seq`, and adds a line with the number of its
-/// items and of the bytes behind the last one, as `items 1 rest 0`. If that returns `Memory`, it notes in
-/// `found` whether the slice is unchanged.
+/// Reads `bytes` as an item batch of the append file numbered `seq`, in this `version`. Adds a line with the
+/// number of its items and of the bytes after the last one, as `items 1 rest 0`. If that returns `Memory`,
+/// notes in `found` whether the slice is unchanged.
 ///
 /// # Errors
 ///

@@ -1,4 +1,4 @@
-//! Items, and what they say, that are read and written again.
+//! Items, and parts of items, that are read and written again.
 
 use crate::calls::Call;
 use crate::found::{Found, is_refused};
@@ -8,9 +8,13 @@ use std::alloc::Global;
 /// As what bytes are read.
 #[derive(Clone, Copy)]
 pub(crate) enum Form {
+    /// A command.
     Command,
+    /// A change of a key.
     KeyValue,
+    /// The indexes of entries.
     Entries,
+    /// A whole item.
     Item,
 }
 
@@ -23,6 +27,7 @@ enum Content {
     Item(LogItem),
 }
 
+/// The calls of the row `items`.
 pub(crate) static ITEMS: [Call; 18] = [
     Call::Read(Form::Command, b"\x01"),
     Call::Read(Form::Command, b"\x02\x07"),
@@ -50,12 +55,12 @@ pub(crate) static ITEMS: [Call; 18] = [
     Call::Read(Form::Item, b"\x01\x02\x07"),
 ];
 
-/// Reads a value of this form from the start of `buf`, which is moved behind it. `size` is the number of
-/// entry bytes so far, and is raised by those of the entries that are read.
+/// Reads a value of this `form` from the start of `buf`, which is moved after it. `size` is the number of
+/// entry bytes of the items before, and is raised by those of the entries that are read.
 ///
 /// # Errors
 ///
-/// Those of the `decode` of the form's type. `buf` and `size` are unchanged then.
+/// Those of the form's `decode`. `buf` and `size` are unchanged then.
 fn decode_form(alloc: Global, form: Form, buf: &mut &[u8], size: &mut u32) -> Result<Content> {
     match form {
         Form::Command => Ok(Content::Command(Command::decode(alloc, buf)?)),
@@ -79,9 +84,9 @@ fn encode_item(content: &Content, out: &mut Vec<u8>) -> Result<()> {
     }
 }
 
-/// Reads `bytes` as a value of this form, and adds a line with `21` and the bytes that the value is written
-/// as. If a call returns `Memory`, it notes in `found` whether it has changed nothing: the slice and the
-/// number of entry bytes for a reading, the byte `21` for a writing.
+/// Reads `bytes` as a value of this `form`, and writes the value after the byte 0x21. Adds a line with these
+/// bytes in hexadecimal digits. If a call returns `Memory`, notes in `found` whether it has changed nothing:
+/// of reading the slice and the number of entry bytes, of writing the byte 0x21.
 ///
 /// # Errors
 ///

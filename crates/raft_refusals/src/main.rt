@@ -1,5 +1,7 @@
-//! Makes the calls of the rows that the words name, as in `raft_refusals ROW..`, or of all rows, and prints what they give. A
-//! call that returns `Memory` is made once more, and what it has left is compared by value with what was there before.
+//! Makes the calls of *rows*, lists of calls with a name each, and prints what they give:
+//! `raft_refusals ROW..` those of the rows named, `raft_refusals` those of all. A call that returns `Memory`
+//! is made once more, and what it has left is compared by value with what was there before.
+//! `tools/refused_memory.py` runs this program with each request for memory refused in turn.
 #![tactic(auto)]
 
 mod batches;
@@ -27,6 +29,7 @@ use std::io::Write;
 use std::sync::Wait;
 use std::thread::Threads;
 
+/// The names of all rows, in the order in which they are made.
 const ROWS: [&str; 31] = [
     "numbers",
     "items",
@@ -61,8 +64,8 @@ const ROWS: [&str; 31] = [
     "prints",
 ];
 
-/// Prints the results of the rows that the words of the command line name, or of all rows if there is no
-/// word. If the words can't be had, it asks for them once more, and then prints `memory`.
+/// Prints what the rows give that the words of the command line name, or all rows if there are no words. If
+/// reading the words fails twice, it prints `memory`.
 ///
 /// # Errors
 ///
@@ -91,8 +94,8 @@ fn main(rt: HostRuntime) -> io::Result<()> {
 
 /// Prints the name of the row, makes its calls, and prints their lines. If a call returns `Memory`, and
 /// wasn't made again already, the whole row is made once more. Prints `left otherwise` before the lines if a
-/// refused call has left something else than it must leave, and `memory`, or the error, in place of the lines
-/// if the row fails.
+/// refused call has left something else than it must leave. If the row fails, prints `memory`, or the error,
+/// in place of the lines.
 ///
 /// # Errors
 ///

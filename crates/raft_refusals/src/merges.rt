@@ -1,4 +1,4 @@
-//! Merges of two tables of a region, called on the tables themselves.
+//! Merges of two tables of one region, by calls of the tables themselves.
 
 ghost use Rattle.raft_memtable.specs.Table.{IsCounted};
 
@@ -9,8 +9,8 @@ use crate::tables::{Change, REGION, change_of, ends_and_files};
 use raft_memtable::{Error, GlobalStats, LogQueue, MemTable, Result};
 use std::alloc::Global;
 
-/// The changes of a table and those of a newer one, and whether that is merged as an appended table or as the newer
-/// neighbor.
+/// The calls of the row `direct-merges`: the changes of a table and those of a newer one, and whether that is
+/// merged as one of the append queue or as the newer neighbor.
 pub(crate) static DIRECT: [Call; 9] = [
     // Entries of three files, over those of the append queue and behind them, and more keys than a node of a map has.
     Call::MergeDirectly(
@@ -136,16 +136,18 @@ pub(crate) static DIRECT: [Call; 9] = [
     ),
 ];
 
-/// A table, and the counts of its records alone.
+/// A table, and the live counts of its records alone.
 #[derive(Drop)]
 struct Counted {
+    /// The table.
     table: MemTable,
+    /// How many of its records are live in each queue.
     stats: GlobalStats,
     ghost counted: { IsCounted table stats },
 }
 
 impl Counted {
-    /// Returns an empty table after `changes`, with the counts of its records.
+    /// Returns the table that `changes` make of an empty one, with the counts of its records.
     ///
     /// # Errors
     ///
@@ -161,7 +163,7 @@ impl Counted {
         Ok(counted)
     }
 
-    /// Makes one change of the table, and counts it.
+    /// Makes `change` of the table, and counts it.
     ///
     /// # Errors
     ///
@@ -172,7 +174,7 @@ impl Counted {
         Ok(())
     }
 
-    /// Merges `newer` into this table, as an appended table if `is_append`, else as its newer neighbor.
+    /// Merges `newer` into this table, as one of the append queue if `is_append`, else as its newer neighbor.
     ///
     /// # Errors
     ///
@@ -189,8 +191,8 @@ impl Counted {
         }
     }
 
-    /// Returns how many records are live in the append queue, how many were written to the rewrite queue, and
-    /// how many of these were deleted again.
+    /// Returns three counts: of the records that are live in the append queue, of those that were written to
+    /// the rewrite queue, and of those that were deleted from it.
     fn counts(&self) -> (usize, usize, usize) {
         (
             self.stats.live_entries(LogQueue::Append),
@@ -199,19 +201,20 @@ impl Counted {
         )
     }
 
-    /// Tests whether as many records of `queue` are counted as live as the table has.
+    /// Tests whether the live count of `queue` is that of the table's records.
     fn is_counted(&self, queue: LogQueue) -> bool {
         self.stats.live_entries(queue) as u128 == self.table.records(queue)
     }
 }
 
-/// Merges the table that the changes `newer` give into the one that the changes `older` give, and adds a line
-/// with the result and both tables. It notes in `found` whether the counts agree with the table, after
-/// `Memory` too, and whether both tables are unchanged after any other error.
+/// Merges the table that the changes `newer` make into the one that the changes `older` make, as one of the
+/// append queue if `is_append`, else as the newer neighbor. Adds a line with the result and both tables.
+/// Notes in `found` whether the counts agree with the table, after `Memory` too, and whether both tables are
+/// unchanged after any other error.
 ///
 /// # Errors
 ///
-/// `Memory`, and those of the changes. Other errors of the merge are told in the line.
+/// `Memory`, and those of the changes. Any other error of the merge is the result in the line.
 pub(crate) fn merge_tables(
     found: &mut Found,
     older: &[Change],

@@ -1,10 +1,11 @@
-//! Numbers that are written to a vector.
+//! Numbers that are written to a vector, in all forms of the codec.
 
 use crate::found::{Found, call_twice};
 use raft_base::codec::{self, NumberEncoder};
 use raft_base::{Error, Result};
 use std::io::ErrorKind;
 
+/// A number, and the form in which it is written, named as in `encode_u64`.
 #[derive(Clone, Copy)]
 enum Number {
     U64(u64),
@@ -22,6 +23,7 @@ enum Number {
     VarI64(i64),
 }
 
+/// The numbers that the row `numbers` writes.
 static NUMBERS: [Number; 17] = [
     Number::VarU64(0),
     Number::VarU64(u64::MAX),
@@ -42,12 +44,12 @@ static NUMBERS: [Number; 17] = [
     Number::VarU64(300),
 ];
 
-/// Returns the numbers that the row writes, each with the form that it is written in.
+/// Returns the numbers that the row writes, each with its form.
 fn numbers() -> &'static [Number] {
     &NUMBERS
 }
 
-/// Appends all numbers to one vector, and adds a line with its bytes.
+/// Appends all numbers to one vector, and adds a line with its bytes in hexadecimal digits.
 ///
 /// # Errors
 ///
@@ -60,8 +62,8 @@ pub(crate) fn encode_numbers(found: &mut Found) -> Result<()> {
     found.append_hex_line(bytes.as_slice())
 }
 
-/// Appends `number` to `bytes`. If there is no memory for it, it notes in `found` whether the vector is
-/// unchanged, and tries once more.
+/// Appends `number` to `bytes`. If that returns `Memory`, notes in `found` whether the vector is unchanged,
+/// and tries once more.
 ///
 /// # Errors
 ///
@@ -71,12 +73,12 @@ fn encode_and_retry(found: &mut Found, bytes: &mut Vec<u8>, number: Number) -> R
     call_twice!(found; write_number(bytes, number); bytes.as_slice() == before.as_slice())
 }
 
-/// Appends `number` to `bytes`, and tells want of memory as other calls do.
+/// Appends `number` to `bytes`. Unlike the codec, which returns an `Io` of the kind `OutOfMemory` for lack of
+/// memory, it returns `Memory`.
 ///
 /// # Errors
 ///
-/// `Memory` if the vector, as a writer, can't grow, which it returns as an `Io` of the kind `OutOfMemory`;
-/// else the error of the codec.
+/// `Memory` if the vector can't grow; else the error of the codec.
 fn write_number(bytes: &mut Vec<u8>, number: Number) -> Result<()> {
     match encode_one(bytes, number) {
         Err(codec::Error::Io(error)) if error.kind() == ErrorKind::OutOfMemory => {
@@ -86,7 +88,7 @@ fn write_number(bytes: &mut Vec<u8>, number: Number) -> Result<()> {
     }
 }
 
-/// Appends `number` in its form, as `encode_u64` for `U64` does.
+/// Appends `number` to `bytes` in its form, as `encode_u64` does for `U64`.
 ///
 /// # Errors
 ///

@@ -1,4 +1,4 @@
-//! Parts of files, and the batches in them.
+//! Parts of files, and the batches that are read of them.
 
 use crate::calls::Call;
 use crate::found::{Found, is_refused};
@@ -9,14 +9,14 @@ use raft_records::{
 use raft_recover::cut_part;
 use std::alloc::Global;
 
-/// A batch with two entries of region 7, and one that cleans region 1.
+/// The bytes of two batches: one with two entries of region 7, and one that cleans region 1.
 const BYTES: &[u8] = b"\
 \x00\x00\x00\x00\x00\x00\x22\x00\x00\x00\x00\x00\x00\x00\x00\x17abc\xc2\x41\x24\x35\
 \x01\x07\x01\x02\x0a\x02\x03\xa7\xb3\xdf\x17\
 \x00\x00\x00\x00\x00\x00\x18\x00\x00\x00\x00\x00\x00\x00\x00\x10\
 \x01\x01\x02\x01\x5a\x80\x0b\xdd";
 
-/// The batches of a part: what both have, and where the second is cut short.
+/// The calls of the row `parts`: both batches, the end, and the second batch without its last byte.
 pub(crate) static PARTS: [Call; 4] = [
     Call::Next(58, 0),
     Call::Next(58, 34),
@@ -24,7 +24,8 @@ pub(crate) static PARTS: [Call; 4] = [
     Call::Next(57, 34),
 ];
 
-/// The header and the entry bytes of the first batch, and shorter ones.
+/// The calls of the row `blocks`: the header and the entry bytes of the first batch, and others that are too
+/// short or too long.
 pub(crate) static BLOCKS: [Call; 6] = [
     Call::Header(58),
     Call::Header(15),
@@ -34,15 +35,16 @@ pub(crate) static BLOCKS: [Call; 6] = [
     Call::Block(0),
 ];
 
+/// The calls of the row `cuts`.
 pub(crate) static CUTS: [Call; 2] = [Call::Cut(Version::V1), Call::Cut(Version::V2)];
 
-/// Returns the first `len` bytes of `BYTES`, which has two batches, and the bytes behind them. If there are
-/// fewer than `len`, it returns all, and none behind them.
+/// Returns the first `len` bytes of `BYTES`, and the bytes after them. If there are fewer than `len`, it
+/// returns all, and none after them.
 fn split_bytes(len: usize) -> (&'static [u8], &'static [u8]) {
     BYTES.split_at(len.min(BYTES.len()))
 }
 
-/// Returns a part with the first `len` bytes of `BYTES`, as those of append file 12 in this version.
+/// Returns a part with the first `len` bytes of `BYTES`, as those of append file 12 in this `version`.
 ///
 /// # Errors
 ///
@@ -58,7 +60,7 @@ fn part_of_first(alloc: Global, version: Version, len: usize) -> Result<FilePart
 ///
 /// # Errors
 ///
-/// `Failed` if `at` is behind the end of the part; those of [`next_batch`].
+/// `Failed` if `at` is after the end of the part; those of [`next_batch`].
 pub(crate) fn read_next_batch(found: &mut Found, len: usize, at: usize) -> Result<()> {
     let alloc = found.alloc;
     let part = part_of_first(alloc, Version::V1, len)?;
@@ -74,8 +76,8 @@ pub(crate) fn read_next_batch(found: &mut Found, len: usize, at: usize) -> Resul
     }
 }
 
-/// Reads a header from the first `len` bytes of `BYTES`, and adds a line with what it says, as `offset 23
-/// length 34`. If that returns `Memory`, it notes in `found` whether the slice is unchanged.
+/// Reads a header from the first `len` bytes of `BYTES`, and adds a line with what it says, as
+/// `offset 23 length 34`. If that returns `Memory`, notes in `found` whether the slice is unchanged.
 ///
 /// # Errors
 ///
@@ -90,8 +92,8 @@ pub(crate) fn read_header(found: &mut Found, len: usize) -> Result<()> {
     found.append_line(format!(in alloc; "offset {offset} length {len}")?.as_str())
 }
 
-/// Adds a line with the entry bytes of the entry block of `len` bytes that begins at byte 16 of `BYTES`, in
-/// hexadecimal digits.
+/// Reads the entry block of `len` bytes that begins at byte 16 of `BYTES`, and adds a line with its entry
+/// bytes in hexadecimal digits.
 ///
 /// # Errors
 ///
@@ -108,9 +110,9 @@ pub(crate) fn read_entry_block(found: &mut Found, len: usize) -> Result<()> {
     found.append_hex_line(entries.as_slice())
 }
 
-/// Cuts a part of this `version` behind its first batch, clones the rest, cuts the same part into eight at
-/// most, and adds a line with the version, the offset and the length of the clone, and with the number of
-/// parts.
+/// Cuts a part of this `version` after its first batch, clones the rest, and cuts the same part between
+/// batches into eight at most. Adds a line with the version, the offset and the length of the clone, and with
+/// the number of parts.
 ///
 /// # Errors
 ///
@@ -129,7 +131,7 @@ pub(crate) fn cut_by_batches(found: &mut Found, version: Version) -> Result<()> 
     .as_str())
 }
 
-/// Cuts `front` behind its first batch, and returns the rest. If that returns `Memory`, it notes in `found`
+/// Cuts `front` after its first batch, and returns the rest. If that returns `Memory`, notes in `found`
 /// whether the part is unchanged.
 ///
 /// # Errors

@@ -1,4 +1,4 @@
-//! Recoveries of segments by several workers, of given draws, and of pieces.
+//! Recoveries of segments: by several workers, by given draws, and by pieces.
 
 use crate::calls::Call;
 use crate::found::Found;
@@ -17,19 +17,23 @@ use std::alloc::Global;
 use std::io::ErrorKind;
 use std::thread::Threads;
 
-/// How segments are recovered: in shares by this many workers, each drawing the next segment, in given draws,
-/// or in pieces.
+/// How segments are recovered.
 #[derive(Clone, Copy)]
 pub(crate) enum How {
+    /// By so many workers, after the segments were divided into shares.
     Shares(usize),
+    /// By so many workers, each drawing the next segment.
     Workers(usize),
+    /// By given draws: the numbers of the workers that draw each next segment.
     Draws(&'static [usize]),
+    /// Each by a context of its own. These are merged by halves.
     Pieces,
 }
 
+/// The call of the row `tickets`.
 pub(crate) static TICKETS: [Call; 1] = [Call::Tickets];
 
-/// Both histories give the same tables, however they are recovered.
+/// The calls of the row `shares`. Each history gives the same tables, whatever the number of workers.
 pub(crate) static SHARES: [Call; 6] = [
     Call::Recover(APPENDED, How::Shares(1)),
     Call::Recover(REWRITTEN, How::Shares(1)),
@@ -39,11 +43,13 @@ pub(crate) static SHARES: [Call; 6] = [
     Call::Recover(REWRITTEN, How::Shares(4)),
 ];
 
-/// How two workers draw eight segments, and five, of which they make four pieces.
+/// How two workers draw eight segments.
 const EIGHT_DRAWS: &[usize] = &[0, 0, 1, 1, 0, 1];
 
+/// How two workers draw five segments, and make four pieces of them.
 const FIVE_DRAWS: &[usize] = &[0, 1, 1, 0, 1];
 
+/// The calls of the row `draws`.
 pub(crate) static DRAWS: [Call; 10] = [
     Call::Recover(APPENDED, How::Workers(1)),
     Call::Recover(REWRITTEN, How::Workers(1)),
@@ -57,6 +63,7 @@ pub(crate) static DRAWS: [Call; 10] = [
     Call::Recover(FIVE, How::Workers(257)),
 ];
 
+/// The calls of the row `workers`.
 pub(crate) static WORKERS: [Call; 6] = [
     Call::Recover(APPENDED, How::Workers(2)),
     Call::Recover(REWRITTEN, How::Workers(2)),
@@ -66,13 +73,14 @@ pub(crate) static WORKERS: [Call; 6] = [
     Call::Recover(FIVE, How::Workers(256)),
 ];
 
+/// The calls of the row `pieces`.
 pub(crate) static PIECES: [Call; 2] = [
     Call::Recover(APPENDED, How::Pieces),
     Call::Recover(REWRITTEN, How::Pieces),
 ];
 
-/// Two item batches, and three files: with two entries of region 7, with one batch that cleans region 1, and the first
-/// without its last byte.
+/// The calls of the row `prints`: two item batches, and three files. These have a batch with two entries of
+/// region 7, a batch that cleans region 1, and the first batch without its last byte.
 pub(crate) static PRINTS: [Call; 5] = [
     Call::PrintBatch(b"\x01\x01\x02\x01\x5a\x80\x0b\xdd"),
     Call::PrintBatch(b"\x01\x07\x01\x02\x0a\x02\x03\xa7\xb3\xdf\x17"),
@@ -87,7 +95,7 @@ pub(crate) static PRINTS: [Call; 5] = [
     ),
 ];
 
-/// Recovers `history` as `how` says, and adds the lines of the tables.
+/// Recovers `history` as `how` says, and adds the lines of the tables to `found`.
 ///
 /// # Errors
 ///
@@ -103,7 +111,7 @@ pub(crate) fn recover_history<R: Threads + Sync>(
     print_tables(found, &tables)
 }
 
-/// Returns the tables of `segments`, recovered as `how` says.
+/// Recovers `segments` of `queue` as `how` says, and returns the tables.
 ///
 /// # Errors
 ///
@@ -127,8 +135,8 @@ fn tables_of<R: Threads + Sync>(
     context.finish()
 }
 
-/// Returns the context of `segments`, which two workers draw: `draws` has the number, 0 or 1, of the worker
-/// that draws each next segment. Their pieces are merged by halves.
+/// Replays `segments` of `queue`, which two workers draw, and returns the context. `draws` has the number, 0
+/// or 1, of the worker that draws each next segment. The pieces are merged by halves.
 ///
 /// # Errors
 ///
@@ -148,8 +156,8 @@ fn replay_by_draws(
     replay_scheduled(alloc, &factory, segments, queue, 2, draws, &plan)
 }
 
-/// Returns the context of `segments`, each of which is read by a context of its own. The contexts are merged
-/// by halves.
+/// Reads each of `segments` of `queue` with a context of its own, and merges these contexts by halves.
+/// Returns the result.
 ///
 /// # Errors
 ///
@@ -184,7 +192,7 @@ fn read_segments(alloc: Global, segments: &[Segment]) -> Result<Vec<MemTableReco
 }
 
 /// Opens tickets for three numbers and two seats, closes them at once, and adds a line with how many numbers
-/// were drawn.
+/// were drawn: none.
 ///
 /// # Errors
 ///
@@ -208,8 +216,8 @@ pub(crate) fn count_pieces(found: &mut Found, segments: usize, draws: &[usize]) 
     found.append_line(format!(in alloc; "{pieces} pieces")?.as_str())
 }
 
-/// Tests whether a call, which returned `answer`, found no memory: it returned `Memory`, or its reader or
-/// writer an `Io` of the kind `OutOfMemory`.
+/// Tests whether `answer` says that a call found no memory: it is `Memory`, or, of a reader or writer, an
+/// `Io` of the kind `OutOfMemory`.
 fn is_want_of_memory(answer: &Result<()>) -> bool {
     match answer {
         Err(Error::Memory) => true,
@@ -218,7 +226,7 @@ fn is_want_of_memory(answer: &Result<()>) -> bool {
     }
 }
 
-/// Adds the lines `out` that a call printed, which returned `answer`. It notes in `found` whether a call that
+/// Adds `out`, the lines that a call printed, which returned `answer`. Notes in `found` whether a call that
 /// failed has printed nothing.
 ///
 /// # Errors
@@ -234,7 +242,7 @@ fn append_printed_lines(found: &mut Found, answer: Result<()>, out: &[u8]) -> Re
     Ok(())
 }
 
-/// Prints `bytes` as an item batch of append file 12, as `raftlog batch` does, and adds the lines.
+/// Prints `bytes` as an item batch of append file 12, as `raftlog batch` does, and adds the lines to `found`.
 ///
 /// # Errors
 ///
@@ -246,7 +254,8 @@ pub(crate) fn print_bytes(found: &mut Found, bytes: &[u8]) -> Result<()> {
     append_printed_lines(found, answer, out.as_slice())
 }
 
-/// Prints the tables of append file 12 with these `bytes`, as `raftlog recover` does, and adds the lines.
+/// Recovers append file 12 with these `bytes`, prints its tables as `raftlog recover` does, and adds the
+/// lines to `found`.
 ///
 /// # Errors
 ///

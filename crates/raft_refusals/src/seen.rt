@@ -1,20 +1,23 @@
-//! What can be seen of tables without memory.
+//! Tables, reduced to a few numbers without allocating memory. Two such results are compared to see whether a
+//! refused call has changed anything.
 
 use raft_memtable::{EntryIndex, LogQueue, MemTable, MemTableAccessor};
 
-/// Tables in one number, how many there are, the counts, and the cleaned regions in one number.
+/// What tables have, reduced to a few numbers.
 #[derive(Clone, Copy, PartialEq, Debug)]
 pub(crate) struct Seen {
-    /// A table without entries, keys and group is 0.
+    /// The sum of the hashes of all tables. That of a table without entries, keys and group is 0.
     pub(crate) records: u64,
+    /// How many tables there are.
     pub(crate) tables: u64,
-    /// Live in the append queue, written to and deleted from the rewrite queue.
+    /// How many records are live in the append queue, were written to the rewrite queue, and were deleted
+    /// from it.
     pub(crate) counts: (usize, usize, usize),
+    /// A hash of the list of cleaned regions.
     pub(crate) cleaned: u64,
 }
 
-/// Returns what `tables` have now: hashes of records and cleaned regions, and counts. Two results are
-/// compared to see whether a refused call has changed anything.
+/// Returns what `tables` have now.
 pub(crate) fn show_tables(tables: &MemTableAccessor) -> Seen {
     let stats = tables.stats();
     Seen {
@@ -32,7 +35,7 @@ pub(crate) fn show_tables(tables: &MemTableAccessor) -> Seen {
     }
 }
 
-/// Returns a hash of the list `regions`, by which two lists are compared. The order counts.
+/// Returns a hash of the list `regions`. Their order counts.
 pub(crate) fn hash_of_regions(regions: &[u64]) -> u64 {
     let mut all = regions.len() as u64;
     for region in regions {
@@ -41,14 +44,14 @@ pub(crate) fn hash_of_regions(regions: &[u64]) -> u64 {
     all
 }
 
-/// Returns a hash of `number` behind what `all` is a hash of.
+/// Returns a hash of `number`, added to the hash `all` of what came before.
 fn hash_with_number(all: u64, number: u64) -> u64 {
     (all ^ number)
         .wrapping_mul(0x9e37_79b9_7f4a_7c15)
         .rotate_left(29)
 }
 
-/// Returns a hash of an entry, with its place, behind what `all` is a hash of.
+/// Returns a hash of `entry`, with its place, added to the hash `all` of what came before.
 fn hash_with_entry(all: u64, entry: EntryIndex) -> u64 {
     let mut all = hash_with_number(all, entry.index);
     if let Some(handle) = entry.entries {
@@ -66,8 +69,8 @@ fn hash_with_entry(all: u64, entry: EntryIndex) -> u64 {
 }
 
 /// Returns a hash of the records of `table`: of its entries with their places, its keys with their values,
-/// its atomic group and its region. Returns 0 for a table without entries, keys and group. Of the files of
-/// values only the least one in each queue counts.
+/// its atomic group and its region. Of the files of values only the least one in each queue counts. Returns 0
+/// for a table without entries, keys and group.
 pub(crate) fn hash_of_table(table: &MemTable) -> u64 {
     let group = match table.atomic_group() {
         Some((start, end)) => hash_with_number(hash_with_number(1, start), end),
@@ -80,8 +83,8 @@ pub(crate) fn hash_of_table(table: &MemTable) -> u64 {
     hash_with_number(all, table.region_id())
 }
 
-/// Returns a hash of the entries of `table`, with their places, behind what `group` is a hash of. Returns
-/// `group` without entries.
+/// Returns a hash of the entries of `table`, with their places, added to the hash `group` of what came
+/// before. Returns `group` if there are no entries.
 fn hash_with_entries(group: u64, table: &MemTable) -> u64 {
     let (Some(first), Some(last)) = (table.first_index(), table.last_index()) else {
         return group;
@@ -95,8 +98,8 @@ fn hash_with_entries(group: u64, table: &MemTable) -> u64 {
     all
 }
 
-/// Returns a hash of the keys and values of `table`, and of the least file that it needs in each queue,
-/// behind what `before` is a hash of. Returns `before` without keys.
+/// Returns a hash of the keys and values of `table`, and of the least file that it needs in each queue, added
+/// to the hash `before` of what came before. Returns `before` if there are no keys.
 fn hash_with_pairs(before: u64, table: &MemTable) -> u64 {
     if table.key_count() == 0 {
         return before;
@@ -112,7 +115,7 @@ fn hash_with_pairs(before: u64, table: &MemTable) -> u64 {
     all
 }
 
-/// Tests whether as many records of each queue are counted as live as all of `tables` have together.
+/// Tests whether the live counts of `tables` are those of all tables together, in both queues.
 pub(crate) fn are_counted(tables: &MemTableAccessor) -> bool {
     let append = tables.fold(0u128, |sum, table: &MemTable| {
         sum.wrapping_add(table.records(LogQueue::Append))

@@ -11,7 +11,7 @@ use raft_recover::{SharedAccessor, Slot};
 use std::alloc::Global;
 use std::sync::Wait;
 
-/// What the tables have at first: region 1 with entries and a key, regions 3 and 5 cleaned.
+/// What makes the tables at first: region 1 with entries and a key, regions 3 and 5 cleaned.
 static FIRST: [Call; 4] = [
     Call::Write(Write::Append, 1, Step::Run(1, 10, 20)),
     Call::Write(Write::Append, 1, Step::Put(1, b"k", b"v")),
@@ -19,6 +19,7 @@ static FIRST: [Call; 4] = [
     Call::Write(Write::Append, 1, Step::Clean(5)),
 ];
 
+/// The calls that the row `shared` makes of shared tables.
 static CALLS: [Call; 13] = [
     Call::Write(Write::Append, 2, Step::Run(1, 20, 25)),
     Call::Write(Write::Append, 2, Step::Put(2, b"k", b"v")),
@@ -40,11 +41,11 @@ fn calls() -> &'static [Call] {
     &CALLS
 }
 
-/// All tables in one number, and the live counts.
+/// The sum of the hashes of all tables, and how many records are live in the append and in the rewrite queue.
 type SharedSeen = (u64, u128, u128);
 
-/// Returns what the tables of `shared` have now: a hash of their records, and how many are live in each
-/// queue. Two results are compared to see whether a refused call has changed anything.
+/// Returns what the tables of `shared` have now, reduced to a few numbers. Two results are compared to see
+/// whether a refused call has changed anything.
 fn show_shared<R: Wait>(rt: &R, shared: &SharedAccessor) -> SharedSeen {
     (
         shared.fold(
@@ -66,8 +67,9 @@ fn shared_tables(alloc: Global) -> Result<SharedAccessor> {
     SharedAccessor::from_core(alloc, tables_of(alloc, &FIRST)?)
 }
 
-/// Makes the calls of the row, all on the same shared tables. Adds a line with what is live after each, and a
-/// last one with how many tables there are and the sum of their regions' ids.
+/// Makes the calls of the row, one after another, of the same shared tables. Adds a line with how many
+/// records are live after each, and a last one with how many tables there are and the sum of their regions'
+/// ids.
 ///
 /// # Errors
 ///
@@ -86,12 +88,12 @@ pub(crate) fn make_shared_calls<R: Wait>(rt: &R, found: &mut Found) -> Result<()
     found.append_line(format!(in alloc; "{} tables, ids {sum}", ids.len())?.as_str())
 }
 
-/// Makes one call, and adds a line with how many records are live in each queue, as `live 12 0`. If the call
-/// returns `Memory`, it notes in `found` whether no record has changed, and tries once more.
+/// Makes one call of `shared`, and adds a line with how many records are live in each queue, as `live 12 0`.
+/// If the call returns `Memory`, notes in `found` whether no record has changed, and makes it once more.
 ///
 /// # Errors
 ///
-/// Those of [`call_tables`].
+/// Those of [`call_tables`]; `Memory`.
 fn call_and_retry<R: Wait>(
     rt: &R,
     found: &mut Found,
@@ -133,8 +135,8 @@ fn call_tables<R: Wait>(rt: &R, alloc: Global, shared: &SharedAccessor, call: Ca
     }
 }
 
-/// Writes an item with `step` to the tables, as one that was written to the file numbered `seq`, in the way
-/// `how`.
+/// Writes an item with `step` to the tables of `shared`, as one of the file numbered `seq`: as a rewritten
+/// one if `how` says so, else as a new one.
 ///
 /// # Errors
 ///
@@ -154,7 +156,7 @@ fn write_item<R: Wait>(
     }
 }
 
-/// Returns shared tables whose slots 0, 92, 112 and 127 list cleaned regions; slot 112 lists one region
+/// Returns shared tables whose slots 0, 92, 112 and 127 list cleaned regions. Slot 112 lists one region
 /// twice.
 ///
 /// # Errors
@@ -169,7 +171,7 @@ fn cleaned_tables<R: Wait>(rt: &R, alloc: Global) -> Result<SharedAccessor> {
 }
 
 /// Takes the cleaned regions of all slots into a batch, and adds a line with each region in it. If that
-/// returns `Memory`, it tries once more: the lines then show whether a region was lost, or came twice.
+/// returns `Memory`, tries once more: the lines then show whether a region was lost, or came twice.
 ///
 /// # Errors
 ///
@@ -181,7 +183,7 @@ pub(crate) fn take_cleaned<R: Wait>(rt: &R, found: &mut Found) -> Result<()> {
     print_regions(found, logs)
 }
 
-/// Moves the cleaned regions of all slots into `logs`, as items that clean them.
+/// Moves the cleaned regions of all slots into `logs`, an open batch, as items that clean them.
 ///
 /// # Errors
 ///
@@ -227,8 +229,8 @@ fn list_region(slot: &mut Slot) -> Result<()> {
     Ok(())
 }
 
-/// Moves the cleaned regions of `slot` into `logs`. If that returns `Memory`, it notes in `found` whether
-/// both are unchanged, and tries once more.
+/// Moves the cleaned regions of `slot` into `logs`. If that returns `Memory`, notes in `found` whether both
+/// are unchanged, and tries once more.
 ///
 /// # Errors
 ///
@@ -240,7 +242,7 @@ fn take_and_retry(found: &mut Found, slot: &mut Slot, logs: &mut LogBatch) -> Re
         *logs == before && hash_of_regions(slot.cleaned_regions()) == listed)
 }
 
-/// Moves the cleaned regions of `slot` into `logs`, as items that clean them.
+/// Moves the cleaned regions of `slot` into `logs`, an open batch, as items that clean them.
 ///
 /// # Errors
 ///

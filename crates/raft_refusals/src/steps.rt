@@ -1,4 +1,4 @@
-//! What is added to batches.
+//! Steps that are added to batches.
 
 use raft_records::{
     AtomicGroupBuilder, AtomicGroupStatus, Command, EntryIndex, Error, FileBlockHandle, FileId,
@@ -7,31 +7,37 @@ use raft_records::{
 use raft_samples::{Proposal, Proposals, proposals_from};
 use std::alloc::Global;
 
-/// What is added to a batch; the first number is the region.
+/// What is added to a batch. The first number is the region, or the group of a marker.
 #[derive(Clone, Copy)]
 pub(crate) enum Step {
-    /// From an index on, an entry for each text.
+    /// An entry for each text, with the indexes from the second number on.
     Entries(u64, u64, &'static [&'static str]),
-    /// The same, as bytes that are encoded already.
+    /// An entry for each string of bytes, which are encoded already, with the indexes from the second number
+    /// on.
     Raw(u64, u64, &'static [&'static [u8]]),
-    /// From an index to below another, entries of a byte.
+    /// Entries of one byte, with the indexes from the second number on and below the third.
     Run(u64, u64, u64),
+    /// A command that cleans the region.
     Clean(u64),
+    /// A compaction to an index.
     Compact(u64, u64),
+    /// A truncation at an index.
     Truncate(u64, u64),
+    /// A put of a key and a value.
     Put(u64, &'static [u8], &'static [u8]),
-    /// A value, which is a message.
+    /// A put of a key and a value that is a message with this text.
     PutMessage(u64, &'static [u8], &'static [u8]),
+    /// A deletion of a key.
     Delete(u64, &'static [u8]),
     /// A group marker.
     Marker(u64, AtomicGroupStatus),
 }
 
-/// Adds `step` to an open batch.
+/// Adds `step` to `batch`, which must be open.
 ///
 /// # Errors
 ///
-/// `Failed` for a batch that isn't open; those of the call of the batch.
+/// `Failed` for a batch that isn't open; those of the batch's call.
 pub(crate) fn add_step(alloc: Global, batch: &mut LogBatch, step: Step) -> Result<()> {
     if !batch.is_open() {
         return Err(Error::Failed);
@@ -66,7 +72,7 @@ pub(crate) fn message(alloc: Global, text: &[u8]) -> Result<Proposal> {
     Ok(Proposal { index: 0, text })
 }
 
-/// Adds a put of `value` under `key` of `region` to an open batch.
+/// Adds a put of `value` under `key` of `region` to `batch`, which must be open.
 ///
 /// # Errors
 ///
@@ -85,7 +91,8 @@ fn put_value(
     batch.put(region, Vec::from_slice(alloc, key)?, value)
 }
 
-/// Adds an item with an entry of one byte for each of the indexes `start..end` of `region` to an open batch.
+/// Adds an item with an entry of one byte for each of the indexes `start..end` of `region` to `batch`, which
+/// must be open.
 ///
 /// # Errors
 ///
@@ -102,8 +109,8 @@ fn add_run(alloc: Global, batch: &mut LogBatch, region: u64, start: u64, end: u6
     batch.add_entries::<Proposals>(region, proposals.as_slice())
 }
 
-/// Adds an item with entries of `region` to an open batch, whose bytes are `texts` and whose indexes rise
-/// from `first` on.
+/// Adds an item with entries of `region`, whose bytes are `texts` and whose indexes rise from `first` on, to
+/// `batch`, which must be open.
 ///
 /// # Errors
 ///
@@ -131,7 +138,7 @@ fn add_run_of_texts(
     batch.add_raw_entries(region, indexes, entries)
 }
 
-/// Adds a group marker with this status of the group numbered `group` to an open batch.
+/// Adds a marker with this `status` of the group numbered `group` to `batch`, which must be open.
 ///
 /// # Errors
 ///
@@ -169,7 +176,7 @@ pub(crate) fn batch_of(alloc: Global, steps: &[Step]) -> Result<LogBatch> {
     Ok(batch)
 }
 
-/// Returns a batch with `steps`, made into bytes and signed for `file`, in version 1.
+/// Returns a batch with `steps` whose bytes are made, and signed for `file` in version 1.
 ///
 /// # Errors
 ///
@@ -184,8 +191,8 @@ pub(crate) fn sealed_batch(alloc: Global, file: FileId, steps: &[Step]) -> Resul
     Ok(batch)
 }
 
-/// Returns a batch of one step, whose items have the places that they get when it is written to the start of
-/// `file`.
+/// Returns a batch with `step` alone, whose items have the places that they get when it is written to the
+/// start of `file`.
 ///
 /// # Errors
 ///

@@ -1,4 +1,4 @@
-//! Changes of a table, and what is fetched of it.
+//! Changes of one table, and what is fetched of it.
 
 use crate::calls::Call;
 use crate::found::{Found, answer_word, call_twice, is_refused};
@@ -16,18 +16,23 @@ pub(crate) const REGION: u64 = 5;
 /// A change of the table.
 #[derive(Clone, Copy)]
 pub(crate) enum Change {
-    /// Entries from an index to below another, in a file.
+    /// Entries are appended, from an index on and below another, in an append file.
     Append(u64, u64, FileSeq),
-    /// The same, with a gate.
+    /// Entries are rewritten, from an index on and below another, to a rewrite file, with a gate.
     Rewrite(u64, u64, FileSeq, Option<FileSeq>),
+    /// A key is put, in an append file.
     Put(&'static [u8], FileSeq),
+    /// A key is rewritten, with a gate, to a rewrite file.
     RewriteKey(&'static [u8], Option<FileSeq>, FileSeq),
+    /// A key is deleted.
     Delete(&'static [u8]),
+    /// The table is compacted to an index.
     Compact(u64),
+    /// The table is truncated at an index.
     Truncate(u64),
 }
 
-/// Changes of a table, one after the other.
+/// The calls of the row `tables`, each a list of changes of an empty table.
 pub(crate) static CHANGES: [Call; 8] = [
     Call::Change(&[
         Change::Append(10, 20, 1),
@@ -74,12 +79,12 @@ pub(crate) static CHANGES: [Call; 8] = [
     ]),
 ];
 
-/// Makes `changes` of an empty table, one after another, and adds a line for each with its result and what
-/// the table has then.
+/// Makes `changes` of an empty table, one after another. Adds a line for each with its result and what the
+/// table has then, and an empty line.
 ///
 /// # Errors
 ///
-/// `Memory` alone. Other errors are told in the lines.
+/// `Memory` alone. Any other error is a result in its line.
 pub(crate) fn make_all_changes(found: &mut Found, changes: &[Change]) -> Result<()> {
     let mut tables = MemTableAccessor::new(found.alloc)?;
     for change in changes {
@@ -88,8 +93,8 @@ pub(crate) fn make_all_changes(found: &mut Found, changes: &[Change]) -> Result<
     found.append_line("")
 }
 
-/// Makes `change`, and adds a line with its result and what the table has then. If it returns `Memory`, it is
-/// tried once more. It notes in `found` whether all tables are unchanged after any error.
+/// Makes `change`, and adds a line with its result and what the table has then. If it returns `Memory`, tries
+/// once more. Notes in `found` whether all tables are unchanged after any error.
 ///
 /// # Errors
 ///
@@ -109,10 +114,10 @@ fn change_and_retry(
     print_answer(found, &answer, tables)
 }
 
-/// Adds a line with `answer`, the result of a change, and what the table has then, as `dropped 5: 10..20 in
-/// 2, append 10 written 0 deleted 0 files 1 0`: the word for the result and how many entries were dropped,
-/// the range of indexes and the number of blocks, the counts of live, written and deleted records, and the
-/// least file in each queue, 0 for none.
+/// Adds a line with `answer`, the result of a change, and what the table has then, as
+/// `dropped 5: 10..20 in 2, append 10 written 0 deleted 0 files 1 0`: the word for the result and how many
+/// entries were dropped, the range of indexes and the number of blocks, the counts of live, written and
+/// deleted records, and the least file in each queue, 0 for none.
 ///
 /// # Errors
 ///
@@ -133,8 +138,8 @@ fn print_answer(found: &mut Found, answer: &Result<u64>, tables: &MemTableAccess
     )?.as_str())
 }
 
-/// Returns the first index of `table` and the index after the last one, 0 without entries, the number of
-/// blocks, and the least file that it needs in each queue, 0 for none.
+/// Returns five numbers of `table`: its first index and the index after its last one, both 0 without entries;
+/// how many blocks it has; and the least file that it needs in each queue, 0 for none.
 pub(crate) fn ends_and_files(table: &MemTable) -> (u64, u64, usize, FileSeq, FileSeq) {
     (
         table.first_index().unwrap_or(0),
@@ -145,7 +150,7 @@ pub(crate) fn ends_and_files(table: &MemTable) -> (u64, u64, usize, FileSeq, Fil
     )
 }
 
-/// Makes one change of the table of region 5, and returns how many entries it dropped.
+/// Makes `change` of the table of region 5. Returns how many entries it dropped.
 ///
 /// # Errors
 ///
@@ -183,7 +188,7 @@ pub(crate) fn change_of(alloc: Global, change: Change) -> Result<TableChange> {
     })
 }
 
-/// Returns the change that puts the value `v` under `key`, as in the file `file_id`.
+/// Returns the change that puts the value `v` under `key`, as a record of the file `file_id`.
 ///
 /// # Errors
 ///
@@ -220,14 +225,18 @@ fn run_between(alloc: Global, start: u64, end: u64, id: FileId) -> Result<Vec<En
     Ok(run)
 }
 
-/// What is fetched: from an index to below another with a maximal size, or in files up to a gate, or what is rewritten.
+/// What is fetched of a table.
 #[derive(Clone, Copy)]
 enum Fetch {
+    /// Entries from an index on and below another, with a maximal size in bytes.
     To(u64, u64, Option<usize>),
+    /// Entries in append files numbered at or below a gate.
     Before(FileSeq),
+    /// Entries in rewrite files.
     Rewritten,
 }
 
+/// The fetches of entries that the row `fetches` makes of one table.
 static FETCHES: [Fetch; 9] = [
     Fetch::To(10, 25, Some(10)),
     Fetch::To(5, 15, None),
@@ -240,12 +249,13 @@ static FETCHES: [Fetch; 9] = [
     Fetch::Rewritten,
 ];
 
-/// Returns the fetches of entries that the row makes.
+/// Returns the fetches of entries that the row makes of one table.
 fn fetches() -> &'static [Fetch] {
     &FETCHES
 }
 
-/// A table whose entries lie in five blocks, of which the first two are rewritten, and two keys, one of them rewritten.
+/// What makes that table: entries in five blocks, of which the first two are rewritten, and two keys, one of
+/// them rewritten.
 static FETCHED: [Change; 8] = [
     Change::Append(10, 15, 1),
     Change::Append(15, 20, 2),
@@ -270,13 +280,14 @@ fn fetched_table(alloc: Global) -> Result<MemTableAccessor> {
     Ok(tables)
 }
 
-/// The lengths of a table's entries from the index 10 on, and what is fetched of them.
+/// Lists of entries' lengths in bytes, from index 10 on, each with what is fetched of a table with such
+/// entries.
 static LENGTHS: [(&[u32], Fetch); 2] = [
     (&[], Fetch::To(0, 1, None)),
     (&[0, 0, 5, 3], Fetch::To(10, 14, Some(0))),
 ];
 
-/// Returns lists of entries' lengths in bytes, each with the fetch that is made of a table with such entries.
+/// Returns lists of entries' lengths in bytes, each with what is fetched of a table with such entries.
 fn lengths() -> &'static [(&'static [u32], Fetch)] {
     &LENGTHS
 }
@@ -302,7 +313,8 @@ fn table_of_lengths(alloc: Global, lengths: &[u32]) -> Result<MemTableAccessor> 
 ///
 /// # Errors
 ///
-/// `Memory`; other errors of a fetch of entries are told in its line.
+/// `Memory`; `Failed` if a table that was made isn't there. Any other error of a fetch of entries is the
+/// result in its line.
 pub(crate) fn fetch_all(found: &mut Found) -> Result<()> {
     let tables = fetched_table(found.alloc)?;
     let Some(table) = tables.get(REGION) else {
@@ -324,7 +336,7 @@ pub(crate) fn fetch_all(found: &mut Found) -> Result<()> {
 ///
 /// # Errors
 ///
-/// `Memory` alone.
+/// Those of [`table_of_lengths`] and [`fetch_entries`]; `Failed` if the table isn't there.
 fn fetch_of_lengths(found: &mut Found, lengths: &[u32], fetch: Fetch) -> Result<()> {
     let tables = table_of_lengths(found.alloc, lengths)?;
     match tables.get(REGION) {
@@ -334,12 +346,12 @@ fn fetch_of_lengths(found: &mut Found, lengths: &[u32], fetch: Fetch) -> Result<
 }
 
 /// Fetches entries into a vector that has one already, and adds a line with the result, the length of the
-/// vector and the last index, as `ok 6 last 14`. It notes in `found` whether the vector is unchanged if the
+/// vector and the last index, as `ok 6 last 14`. Notes in `found` whether the vector is unchanged if the
 /// fetch fails.
 ///
 /// # Errors
 ///
-/// `Memory` alone. Other errors are told in the line.
+/// `Memory` alone. Any other error is the result in the line.
 fn fetch_entries(found: &mut Found, table: &MemTable, fetch: Fetch) -> Result<()> {
     let mut vec = vec![in found.alloc; EntryIndex::default()]?;
     let answer = match fetch {
@@ -361,8 +373,8 @@ fn fetch_entries(found: &mut Found, table: &MemTable, fetch: Fetch) -> Result<()
 }
 
 /// Fetches key values: with a `gate`, those in append files numbered at or below it; without one, those in
-/// rewrite files. Adds a line with their number, as `pairs 2`. It notes in `found` whether none was appended
-/// if the fetch fails.
+/// rewrite files. Adds a line with their number, as `pairs 2`. Notes in `found` whether none was appended if
+/// the fetch fails.
 ///
 /// # Errors
 ///

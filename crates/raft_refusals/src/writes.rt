@@ -1,4 +1,4 @@
-//! Items that are written to the tables of several regions, calls at one region, and tables that are merged.
+//! Items that are written to the tables of several regions, calls for one region, and tables that are merged.
 
 use crate::calls;
 use crate::found::{Found, answer_word, call_twice, is_refused};
@@ -14,10 +14,13 @@ use std::alloc::Global;
 /// How an item is written.
 #[derive(Clone, Copy)]
 pub(crate) enum Write {
+    /// As a new one of the append queue.
     Append,
+    /// As one that was read from the append queue.
     ReplayAppend,
+    /// As one that was read from the rewrite queue.
     ReplayRewrite,
-    /// With a gate.
+    /// As one that was rewritten, with a gate.
     Rewrite(Option<FileSeq>),
 }
 
@@ -31,21 +34,24 @@ impl Write {
     }
 }
 
-/// A call of an accessor or of shared tables; but for an item its first number is the region.
+/// A call of an accessor or of shared tables. The first number is the region, except for an item.
 #[derive(Clone, Copy)]
 pub(crate) enum Call {
-    /// An item that is in a file of this number.
+    /// An item is written in a way, as one of the file with this number.
     Write(Write, FileSeq, Step),
-    /// A key that is put in the third file.
+    /// A key is put, as one of append file 3.
     Put(u64),
+    /// An empty table is made.
     Make(u64),
+    /// An empty table is put in place of the region's.
     Insert(u64),
-    /// Whether the region is listed as cleaned.
+    /// The table is removed. The flag says whether the region is listed as cleaned.
     Remove(u64, bool),
+    /// The first and the last file of the atomic group are set.
     Group(u64, FileSeq, FileSeq),
 }
 
-/// The third file of the append queue.
+/// Append file 3.
 pub(crate) const THIRD: FileId = FileId {
     queue: LogQueue::Append,
     seq: 3,
@@ -86,6 +92,7 @@ const REWRITTEN: &[Call] = &[
     Call::Write(Write::ReplayRewrite, 2, Step::Clean(6)),
 ];
 
+/// The calls of the row `writes`.
 pub(crate) static WRITES: [calls::Call; 3] = [
     calls::Call::Write(WRITTEN),
     calls::Call::Write(CLEANED),
@@ -97,7 +104,7 @@ pub(crate) static WRITES: [calls::Call; 3] = [
 ///
 /// # Errors
 ///
-/// `Memory` alone. Other errors are told in the lines.
+/// `Memory` alone. Any other error is a result in its line.
 pub(crate) fn make_write_calls(found: &mut Found, calls: &[Call]) -> Result<()> {
     let mut tables = MemTableAccessor::new(found.alloc)?;
     for call in calls {
@@ -159,8 +166,7 @@ fn call_tables(alloc: Global, tables: &mut MemTableAccessor, call: Call) -> Resu
     }
 }
 
-/// Writes an item with `step` to the tables, as one that was written to the file numbered `seq`, in the way
-/// `how`.
+/// Writes an item with `step` to the tables in the way `how`, as one of the file numbered `seq`.
 ///
 /// # Errors
 ///
@@ -182,7 +188,7 @@ fn write_step(
     }
 }
 
-/// Adds the lines that `raftlog recover` prints for these tables.
+/// Adds the lines that `raftlog recover` prints for these tables to `found`, and an empty line.
 ///
 /// # Errors
 ///
@@ -196,7 +202,7 @@ pub(crate) fn print_tables(found: &mut Found, tables: &MemTableAccessor) -> Resu
 ///
 /// # Errors
 ///
-/// Those of [`call_tables`].
+/// That of the first call that fails, as [`call_tables`] has them.
 pub(crate) fn tables_of(alloc: Global, calls: &[Call]) -> Result<MemTableAccessor> {
     let mut tables = MemTableAccessor::new(alloc)?;
     for call in calls {
@@ -205,9 +211,9 @@ pub(crate) fn tables_of(alloc: Global, calls: &[Call]) -> Result<MemTableAccesso
     Ok(tables)
 }
 
-/// Takes the list of cleaned regions as a batch, and adds a line with each region in it, and lines with the
-/// tables. If the list can't be taken for want of memory, it notes in `found` whether list and tables are
-/// unchanged, and tries once more.
+/// Takes the list of cleaned regions as a batch. Adds a line with each region in it, and lines with the
+/// tables. If taking it returns `Memory`, notes in `found` whether list and tables are unchanged, and tries
+/// once more.
 ///
 /// # Errors
 ///
@@ -221,7 +227,7 @@ pub(crate) fn take_cleaned(found: &mut Found) -> Result<()> {
     print_tables(found, &tables)
 }
 
-/// Adds a line with the region of each item of `batch`.
+/// Adds a line with the region of each item of `batch`, in order.
 ///
 /// # Errors
 ///
@@ -234,6 +240,7 @@ pub(crate) fn print_regions(found: &mut Found, mut batch: LogBatch) -> Result<()
     Ok(())
 }
 
+/// The calls of the row `regions`.
 static CALLS: [Call; 6] = [
     Call::Make(7),
     Call::Insert(8),
@@ -243,8 +250,7 @@ static CALLS: [Call; 6] = [
     Call::Group(7, 49, 50),
 ];
 
-/// Makes calls that name a region each, and adds lines with the number of tables and with the tables at the
-/// end.
+/// Makes calls for one region each, and adds lines with the number of tables and with the tables at the end.
 ///
 /// # Errors
 ///
@@ -260,6 +266,7 @@ pub(crate) fn call_at_regions(found: &mut Found) -> Result<()> {
     print_tables(found, &tables)
 }
 
+/// The calls of the row `table-merges`.
 pub(crate) static MERGES: [calls::Call; 6] = [
     calls::Call::MergeTables(
         &[
@@ -306,13 +313,13 @@ pub(crate) static MERGES: [calls::Call; 6] = [
     ),
 ];
 
-/// Merges the tables that the calls `newer` make into those that the calls `older` make, as appended tables
-/// if `is_append`, else as newer neighbors, and adds lines with the result and the tables. It notes in
+/// Merges the tables that the calls `newer` make into those that the calls `older` make, as those of the
+/// append queue if `is_append`, else as newer neighbors. Adds lines with the result and the tables. Notes in
 /// `found` whether the live counts agree with the tables, after `Memory` too.
 ///
 /// # Errors
 ///
-/// `Memory`, and those of the calls. Other errors of the merge are told in the lines.
+/// `Memory`, and those of the calls. Any other error of the merge is the result in the line.
 pub(crate) fn merge_accessors(
     found: &mut Found,
     older: &[Call],

@@ -1,4 +1,4 @@
-//! Parts of files, cut between batches, so that several workers read one file.
+//! Cuts parts of files between batches, so that several workers can read one file.
 
 ghost use Rattle.std.specs.Prelude.{◌≡◌, ◌<◌, ◌≤◌, ℕ, List, [], ◌∷◌, All, IfOk, IfErr, IfSome, IfNone, length};
 ghost use Rattle.raft_replay.specs.Common.{HasHeader, Part, Event, ArePartsOf, BatchesMeet, bytes_before, rest_of, AreCutFrom, HoldsFrom};
@@ -9,13 +9,15 @@ use std::alloc::Global;
 use std::mem;
 
 /// Cuts a part between batches into at most `count` parts of about one length, and at least into one. Their
-/// bytes, one after the other, are those of the part, each at its offset. What is read of them is what is
-/// read of the part, also if it can't be read: a cut is made only at an offset to which the headers from the
-/// first byte on lead, and none behind bytes that are no header. No byte is copied.
+/// bytes, one after the other, are those of `part`, each at its own offset in the file. No byte is copied.
+///
+/// Replaying the parts in order does the same as replaying `part`, even if it can't be read: a cut is made
+/// only at an offset to which the headers of batches lead from the first byte on. After bytes that are no
+/// header there is no cut.
 ///
 /// # Errors
 ///
-/// `Memory` alone.
+/// `Memory` alone. `part` is lost then.
 pub fn cut_part(alloc: Global, part: FilePart, count: usize) -> Result<Vec<FilePart>>
     ensures same { IfOk result (λ parts. AreCutFrom part parts.items) }
     ensures bytes { IfOk result (λ parts. ArePartsOf part parts.items) }
@@ -38,8 +40,9 @@ pub fn cut_part(alloc: Global, part: FilePart, count: usize) -> Result<Vec<FileP
     Ok(parts)
 }
 
-/// Returns the position at which the first batch ends that reaches `least` bytes, if that is before the end
-/// of the part. Returns `None` if the headers don't lead to such a position.
+/// Returns the position in `part` of the first end of a batch that is at least `least` bytes from its start.
+/// Returns `None` if that is the end of the part, or the headers of batches don't lead there. `alloc` is for
+/// the text of an error that is dropped.
 fn batch_end(alloc: Global, part: &FilePart, least: usize) -> Option<usize>
     ensures inside { IfSome result (λ at. at < length part.now.bytes) }
     ensures met { IfSome result (BatchesMeet part.now) }
@@ -54,7 +57,7 @@ fn batch_end(alloc: Global, part: &FilePart, least: usize) -> Option<usize>
 }
 
 /// Returns the length in bytes of the batch whose header is at the start of `bytes`. Returns `None` if there
-/// is no header, or `bytes` are fewer than it says.
+/// is no header, or there are fewer bytes than it says.
 #[doc(hidden)]
 pub fn batch_length(alloc: Global, bytes: &[u8]) -> Option<usize>
     ensures header { IfSome result (λ len. (offset : ℕ) × HasHeader bytes.now offset len) }
@@ -67,8 +70,8 @@ pub fn batch_length(alloc: Global, bytes: &[u8]) -> Option<usize>
     if len <= bytes.len() { Some(len) } else { None }
 }
 
-/// Returns the offset of the item batch, and the length of the batch, both in bytes, from the header at the
-/// start of `bytes`. Returns `None` if there is no header.
+/// Reads the header of a batch at the start of `bytes`. Returns the offset of the item batch in the batch,
+/// and the length of the whole batch, both in bytes. Returns `None` if there is no header.
 #[doc(hidden)]
 pub fn header_in(alloc: Global, bytes: &[u8]) -> Option<(usize, usize)>
     ensures some { IfSome result (λ header. HasHeader bytes.now header.0 header.1) }
@@ -81,8 +84,9 @@ pub fn header_in(alloc: Global, bytes: &[u8]) -> Option<(usize, usize)>
     None
 }
 
-/// States that a part may be cut wherever a batch ends: if its bytes before an offset are batches that can be
-/// read, the same is read of the part and of its two pieces.
+/// States that a part may be cut wherever a batch ends. If its bytes before an offset are batches that can be
+/// read, reading its two pieces in order gives what reading the part gives. This is a law: it computes
+/// nothing.
 pub fn parts_are_cut_where_batches_end()
     ensures { (part : Part) (at : ℕ) (first : List Event) → at ≤ length part.bytes
         → HoldsFrom (bytes_before part at) 0 first

@@ -1,17 +1,17 @@
-//! Gates that workers pass.
+//! Gates: calls that workers make before each segment.
 
-/// Called by a worker with the number of each segment that it drew, before it replays it: for whoever wants to slow
-/// recovery down, or to watch it.
+/// What a worker calls before it replays a segment, for whoever wants to watch a recovery or to slow it down.
 pub trait Gate: Send + Sync {
-    /// Is called before the segment numbered `segment` is replayed. The worker is held up until it returns.
+    /// Is called by a worker before it replays the segment numbered `segment`, which it has drawn. The worker
+    /// waits until it returns.
     fn pass(&self, segment: usize);
 }
 
-/// Holds nobody up.
+/// A gate that does nothing.
 #[derive(Debug, Clone, Copy)]
 pub struct OpenGate;
 
 impl Gate for OpenGate {
-    /// Returns at once, so that no worker is held up.
+    /// Returns at once, so that no worker waits.
     fn pass(&self, _segment: usize) {}
 }

@@ -1,4 +1,5 @@
-//! Segments of a queue, replayed into any machine by one thread or by 1 to 256 workers, and their merges.
+//! Replays the segments of a queue into a machine, by one thread or by 1 to 256 workers, and merges what they
+//! made.
 #![tactic(auto)]
 
 pub mod cutting;

@@ -1,4 +1,4 @@
-//! Pieces of a queue that workers make.
+//! Pieces: machines that have replayed neighboring segments.
 
 ghost use Rattle.std.specs.Prelude.{◌≡◌, ◌≢◌, ℕ, ◌+◌, ◌<◌, ◌≤◌, List, [], length, All, IfOk, IfErr, Vec};
 ghost use Rattle.raft_replay.specs.Common.{Global, Part, AreInOrder, CannotBeRead};
@@ -9,19 +9,22 @@ use raft_history::ReplayMachine;
 use std::alloc::Global;
 
 /// A machine that has replayed `count` neighboring segments, from the one numbered `from` on. It is in a box,
-/// so that pieces are sorted by moving pointers.
+/// so that sorting pieces moves pointers alone.
 #[derive(Drop)]
 pub(crate) struct Piece<M> {
+    /// The number of the first segment.
     from: usize,
+    /// How many segments were replayed.
     count: usize,
+    /// The machine that replayed them.
     machine: Box<M>,
 }
 
 impl<M: ReplayMachine> Piece<M> {
     ghost use Rattle.raft_replay.specs.Covers.{IsPieceOf, CoverOnce, covers, cover_count};
 
-    /// Returns the piece that the segment numbered `number` goes to: the last one, which is taken out of
-    /// `pieces`, if it ends right before that segment, or else a new one.
+    /// Returns the piece that is to replay the segment numbered `number`: the last of `pieces`, which is
+    /// taken out, if it ends right before that segment; else a new one, whose machine `factory` makes.
     ///
     /// # Errors
     ///
@@ -53,7 +56,8 @@ impl<M: ReplayMachine> Piece<M> {
         Piece::begin(alloc, factory, number)
     }
 
-    /// Returns a piece without segments, whose first one will be that numbered `from`.
+    /// Returns a piece that has replayed nothing, and whose first segment will be the one numbered `from`.
+    /// `factory` makes its machine.
     ///
     /// # Errors
     ///
@@ -74,11 +78,11 @@ impl<M: ReplayMachine> Piece<M> {
         })
     }
 
-    /// Replays that one of `segments` that comes behind the piece's last one.
+    /// Returns the piece after it has replayed the segment that follows its last one in `segments`.
     ///
     /// # Errors
     ///
-    /// Those of [`replay_segment`]. The piece is lost then.
+    /// Those of [`replay_segment`]. The piece is dropped then.
     pub(crate) fn with_next(mut self, segments: &[Segment]) -> Result<Piece<M>>
         requires inside { self.from + self.count < length segments.now }
         requires piece { IsPieceOf M.stands_exactly segments.now self }
@@ -96,7 +100,7 @@ impl<M: ReplayMachine> Piece<M> {
     ///
     /// # Errors
     ///
-    /// `Memory` alone.
+    /// `Memory` alone. The pieces are dropped then.
     pub(crate) fn line_up(alloc: Global, mut pieces: Vec<Piece<M>>) -> Result<Vec<M>>
         ensures ok { (segments : List (Vec Part Global))
             → All (IsPieceOf M.stands_exactly segments) pieces.items

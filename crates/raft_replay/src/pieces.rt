@@ -1,4 +1,4 @@
-//! Pieces of a queue, merged by a plan.
+//! Merges pieces, machines of neighboring segments, by a plan.
 
 ghost use Rattle.std.specs.Prelude.{◌≡◌, ◌≢◌, ◌+◌, ◌*◌, ◌<◌, ◌≤◌, List, ◌∷◌, ◌++◌, length, reverse, IfOk, IfErr, OnOk, vec_len};
 ghost use Rattle.raft_replay.specs.Common.{IsSync, IsInvalidArgument, IsMerged, CannotMerge, Merges, ArePlansNext, IsReached, cost, leaves, weigh};
@@ -9,18 +9,21 @@ use raft_base::{Error, LogQueue, Result};
 use raft_history::ReplayMachine;
 use std::thread::{Threads, join};
 
-/// Through how many levels of joins the branches are merged at once: more than any plan by halves has.
+/// Through how many levels of a plan the two branches of a join are merged at the same time. No plan by
+/// halves has more.
 pub(crate) const MAX_LEVELS: usize = 64;
 
-/// Merges neighboring pieces as the plan says. Both branches of a join are merged at once if both have pieces
-/// to merge, through 64 levels of the plan, more than any plan by halves has; what lies deeper is merged one
-/// after another. A branch for which no thread can be started is walked by the caller. However deep the plan
-/// is, little stack is needed.
+/// Merges `pieces`, machines of neighbors in order, as the plan says, and returns the one machine that is
+/// left. All their batches are of `queue`.
+///
+/// The two branches of a join are merged on two threads if both have joins of their own, through 64 levels of
+/// the plan. What lies deeper is merged one after another. The caller merges a branch for which no thread can
+/// be started. However deep the plan is, little stack is needed.
 ///
 /// # Errors
 ///
-/// `InvalidArgument` if the plan is of another number of pieces; then whatever a merge of two neighbors
-/// returns, and `Memory`.
+/// `InvalidArgument` if the plan is for another number of pieces; else what a merge of two neighbors returns;
+/// `Memory`. The pieces are dropped then.
 pub fn merge_pieces<M: ReplayMachine, R: Threads + Sync>(
     rt: &R,
     pieces: Vec<M>,
@@ -41,21 +44,21 @@ pub fn merge_pieces<M: ReplayMachine, R: Threads + Sync>(
     merge_at_once(rt, pieces, plan, queue, MAX_LEVELS)
 }
 
-/// What waits while a plan is walked.
+/// What waits while [`merge_in_turn`] walks over a plan.
 #[derive(Drop)]
 pub(crate) enum Waiting<'a, M> {
-    /// A plan that is still to be walked.
+    /// A plan whose pieces aren't merged yet.
     Unmerged(&'a Plan),
-    /// What the pieces of a plan are merged to.
+    /// The machine to which the pieces of a plan were merged. It waits for its newer neighbor.
     Merged(M),
 }
 
-/// Merges the pieces as `plan` says, one after another, on the caller's thread. What waits is in a list on
-/// the heap, so that no stack is needed, however deep the plan is.
+/// Merges `pieces` as `plan` says, one after another, on the caller's thread. `plan` is for as many pieces.
+/// What waits meanwhile is in a list on the heap, so that little stack is needed, however deep the plan is.
 ///
 /// # Errors
 ///
-/// Whatever a merge of two neighbors returns, and `Memory`.
+/// What a merge of two neighbors returns; `Memory`. The pieces are dropped then.
 pub(crate) fn merge_in_turn<M: ReplayMachine>(
     mut pieces: Vec<M>,
     plan: &Plan,
@@ -73,8 +76,8 @@ pub(crate) fn merge_in_turn<M: ReplayMachine>(
     Ok(merged)
 }
 
-/// Takes the oldest piece of a plan from `pieces`, whose last one is the oldest. The newer plans of the joins
-/// on the way to it are appended to `waiting`.
+/// Takes the oldest piece of `plan`, the last of `pieces`, and returns it. For each join on the way down to
+/// it, its newer plan is appended to `waiting`.
 ///
 /// # Errors
 ///
@@ -103,12 +106,13 @@ fn oldest_of<'a, M: ReplayMachine>(
     Ok(piece)
 }
 
-/// Goes on with `next`, what was waiting last, behind `merged`. If an older machine was waiting for `merged`,
-/// the two are merged; if a newer plan was, `merged` waits, and the oldest piece of that plan is returned.
+/// Takes one step of [`merge_in_turn`]: `merged` is what was merged last, and `next` is what waited last. If
+/// `next` is an older machine, `merged` is merged into it, and the result returned. If it is a newer plan,
+/// `merged` waits, and the oldest piece of that plan is returned.
 ///
 /// # Errors
 ///
-/// Whatever a merge of two neighbors returns, and `Memory`.
+/// What a merge of two neighbors returns; `Memory`.
 fn merge_next<'a, M: ReplayMachine>(
     next: Waiting<'a, M>,
     merged: M,
@@ -141,8 +145,13 @@ fn merge_next<'a, M: ReplayMachine>(
     }
 }
 
-/// Does what [`merge_in_turn`] does, with its errors. Through `levels` levels of the plan both branches of a
-/// join are merged at once, if both have pieces to merge.
+/// Merges `pieces` as `plan` says, which is for as many pieces. Through `levels` levels of the plan, the two
+/// branches of a join are merged on two threads if both have joins of their own. What lies deeper is merged
+/// by [`merge_in_turn`].
+///
+/// # Errors
+///
+/// What a merge of two neighbors returns; `Memory`. The pieces are dropped then.
 pub(crate) fn merge_at_once<M: ReplayMachine, R: Threads + Sync>(
     rt: &R,
     pieces: Vec<M>,
@@ -175,7 +184,8 @@ pub(crate) fn merge_at_once<M: ReplayMachine, R: Threads + Sync>(
     }
 }
 
-/// Calls both closures, on two threads at the same time if `at_once`, and returns both answers.
+/// Calls both closures and returns both answers. With `at_once` they run on two threads at the same time,
+/// else one after the other.
 fn both<R: Threads, F: FnOnce() -> A + Send, G: FnOnce() -> B, A: Send, B>(
     rt: &R,
     at_once: bool,
@@ -193,7 +203,8 @@ fn both<R: Threads, F: FnOnce() -> A + Send, G: FnOnce() -> B, A: Send, B>(
     (one, second())
 }
 
-/// Divides pieces between the two plans of a join: the first ones, as many as `left` merges, and the others.
+/// Divides `all`, the pieces of a join, between its two plans. Returns the first ones, as many as `left`
+/// merges, and the others, which `right` merges.
 ///
 /// # Errors
 ///
@@ -211,11 +222,13 @@ fn divide<M: ReplayMachine>(mut all: Vec<M>, left: &Plan, right: &Plan) -> Resul
     Ok((all, rest))
 }
 
-/// Merges what two branches returned, `older` and `newer`.
+/// Merges `newer` into `older`, the machines that two neighboring branches of a plan returned, or their
+/// errors.
 ///
 /// # Errors
 ///
-/// The error of the older branch; else that of the newer one; else what the merge of both returns.
+/// The error of the older branch; else that of the newer one; else what the merge of the two machines
+/// returns.
 fn merge_both<M: ReplayMachine>(older: Result<M>, newer: Result<M>, queue: LogQueue) -> Result<M>
     ensures { (xs ys zs : List M) → zs ≡ xs ++ ys
         → Merges M.stands_for M.stands_exactly queue xs older

@@ -1,4 +1,4 @@
-//! Plans of merging pieces.
+//! Plans, which say in what order pieces are merged.
 
 ghost use Rattle.std.specs.Prelude.{◌≡◌, ◌+◌, ◌*◌, ◌-◌, ◌^◌, ◌<◌, min, IfOk, IfErr};
 ghost use Rattle.raft_replay.specs.Common.{leaves, IsByHalves, heft};
@@ -6,18 +6,18 @@ ghost use Rattle.raft_replay.specs.Common.{leaves, IsByHalves, heft};
 use raft_base::{Error, Result};
 use std::alloc::Global;
 
-/// How pieces that lie one after the other are merged, two neighbors at a time.
+/// In what order pieces, machines of neighbors, are merged, two neighbors at a time.
 #[derive(Debug)]
 pub enum Plan {
     /// One piece as it is.
     One,
-    /// The pieces of the first plan merged, those of the second, and then both.
+    /// First the pieces of the first plan are merged, and those of the second; then the two machines.
     Join(Box<Plan>, Box<Plan>),
 }
 
-/// Takes the plan apart in a loop, so that no stack is needed, however deep it is.
+/// Frees the plan in a loop, so that little stack is needed, however deep it is.
 impl Drop for Plan {
-    /// Takes the plan apart in a loop, join by join, so that no stack is needed, however deep it is.
+    /// Frees the plan in a loop, join by join, so that little stack is needed, however deep it is.
     fn drop(mut self) {
         loop {
             match self {
@@ -32,9 +32,9 @@ impl Drop for Plan {
 }
 
 impl Plan {
-    /// Returns the number of pieces that the plan merges, capped at 2^64 - 1. Plans that are still to be
-    /// counted are in a list on the heap, so that no stack is needed, however deep the plan is; only if that
-    /// list can't grow is one of them counted by a call.
+    /// Returns how many pieces the plan merges, at most 2^64 - 1. Plans that are still to be counted are in a
+    /// list on the heap, so that little stack is needed, however deep the plan is. Only if that list can't
+    /// grow is one of them counted by a recursive call.
     #[tactic(auto, using(crate::proofs::MergeLemmas::leaves_positive))]
     pub fn leaves(&self) -> usize
         ensures { result ≡ min (leaves self.now) (2 ^ 64 - 1) }
@@ -65,10 +65,10 @@ impl Plan {
         }
     }
 
-    /// Returns what is left to drop of the join of this plan, which was in the box `room`, and `right`. If
-    /// this plan is one piece, that is `right`. If it is a join, it is turned: its first plan comes before
-    /// the join of its second one and `right`, which uses the box again. So each step of [`Plan::drop`]
-    /// leaves less to do.
+    /// Returns what is still to be freed of a join of this plan and `right`. `room` is the box in which this
+    /// plan was. If this plan is one piece, that is `right`. If it is a join, it is turned to the right: its
+    /// first plan comes before the join of its second plan and `right`, which uses the box again. So each
+    /// step of [`Plan::drop`] leaves less to do.
     fn let_go_before(self, mut room: Box<Plan>, right: Box<Plan>) -> Plan
         requires { room.value ≡ Plan.One }
         ensures { heft result < 2 * heft self + heft right.value + 1 }
@@ -85,14 +85,15 @@ impl Plan {
         }
     }
 
-    /// Drops a plan of one piece, which has nothing below it.
+    /// Frees a plan of one piece, which has nothing below it.
     fn let_one_go(self)
         requires { self ≡ Plan.One }
     {
         let Plan::One = self else { unreachable!() };
     }
 
-    /// Returns the plan that merges `count` pieces by halves. `count` is at least 1.
+    /// Returns the plan that merges `count` pieces by halves: first each half, then both. `count` is at least
+    /// 1.
     ///
     /// # Errors
     ///

@@ -1,4 +1,4 @@
-//! Given schedules, on one thread.
+//! Replays segments by a given schedule, on one thread.
 
 ghost use Rattle.std.specs.Prelude.{◌≡◌, ◌≢◌, ◌+◌, ◌^◌, ◌<◌, ◌↔◌, All, EachIndex, List, [], length, slice_index, IfOk, IfErr, IfNone, OnOk, OnSome, IsTrue, if◌then◌else◌, vec_len, Vec};
 ghost use Rattle.raft_replay.specs.Common.{Global, Part, IsInvalidArgument, leaves, IsUnderway, CannotBeRead, SegmentsAreOf, IsReplayed, IsSchedule, switches, count_below, pieces_in};
@@ -12,18 +12,18 @@ use raft_records::FilePart;
 use std::alloc::Global;
 
 /// Replays segments on the caller's thread as `workers` threads would in one given schedule, so that a
-/// schedule can be repeated. `draws[n]` is the number, from 0, of the worker that draws segment `n`; behind
+/// schedule can be repeated. `draws[n]` is the number, from 0, of the worker that draws segment `n`; after
 /// the end of `draws` worker 0 draws. A worker that draws two segments in a row replays both into one
-/// machine; else a new piece begins, in a machine that `factory` makes and that stands for no batch yet.
-/// [`piece_count`] says how many pieces there are, and `plan` how they are merged. Without segments it
-/// returns a new machine, whatever the plan.
+/// machine. Otherwise a new piece begins, in a machine that `factory` makes and that stands for no batch yet.
+/// [`piece_count`] says how many pieces there are, and `plan` in what order they are merged. Without segments
+/// it returns a new machine, whatever the plan.
 ///
 /// # Errors
 ///
 /// `InvalidArgument` if `workers` isn't 1 to 256, if a part is of another queue than `queue`, if `draws`
 /// names a worker that isn't below `workers`, or if `plan` isn't for as many pieces as there are; `Memory`;
-/// the factory's own. Any other comes only if a part isn't a sequence of readable batches, or all batches,
-/// in order, can't be read.
+/// the factory's own. Any other comes only if a part isn't a sequence of readable batches, or all batches, in
+/// order, can't be read.
 pub fn replay_scheduled<M: ReplayMachine, F: Factory<M>>(
     alloc: Global,
     factory: &F,
@@ -55,7 +55,8 @@ pub fn replay_scheduled<M: ReplayMachine, F: Factory<M>>(
     merge_in_turn(machines, plan, queue)
 }
 
-/// Returns the number of pieces that `segments` segments make if `draws` names who draws next.
+/// Returns how many pieces [`replay_scheduled`] makes of `segments` segments if `draws` names the workers
+/// that draw them. It is 0 without segments.
 pub fn piece_count(segments: usize, draws: &[usize]) -> usize
     ensures { result ≡ pieces_in segments draws.now }
 {
@@ -69,22 +70,22 @@ pub fn piece_count(segments: usize, draws: &[usize]) -> usize
     pieces
 }
 
-/// Tests whether another worker draws the segment `n` than the one before it.
+/// Tests whether segment `n` is drawn by another worker than the segment before it. False for segment 0.
 fn switches(draws: &[usize], n: usize) -> bool
     ensures { result ≡ switches draws.now n }
 {
     n > 0 && drawer(draws, n) != drawer(draws, n - 1)
 }
 
-/// Returns the number of the worker that draws the segment `n`: 0 behind the end of `draws`.
+/// Returns the number of the worker that draws segment `n`. It is 0 after the end of `draws`.
 fn drawer(draws: &[usize], n: usize) -> usize
     ensures { result ≡ slice_index draws.now n }
 {
     if n < draws.len() { draws[n] } else { 0 }
 }
 
-/// Returns why these `workers` can't follow the schedule of `draws` and `plan`, in words, or `None` if they
-/// can.
+/// Returns why `workers` workers can't replay `segments` of `queue` by the schedule of `draws` and `plan`, in
+/// words, or `None` if they can.
 fn schedule_fault(
     segments: &[Segment],
     queue: LogQueue,
@@ -109,14 +110,15 @@ fn schedule_fault(
     None
 }
 
-/// Tests whether each number in `draws` is that of one of `workers` workers.
+/// Tests whether each number in `draws` is below `workers`, and so that of a worker.
 fn are_known(draws: &[usize], workers: usize) -> bool
     ensures { IsTrue result ↔ EachIndex draws.now (λ n. slice_index draws.now n < workers) }
 {
     draws.iter().all(|worker| *worker < workers)
 }
 
-/// Tests whether `plan` merges as many pieces as the schedule makes. Without segments any plan does.
+/// Tests whether `plan` is for as many pieces as `draws` makes of `segments` segments. Without segments any
+/// plan is.
 fn fits_pieces(plan: &Plan, segments: usize, draws: &[usize]) -> bool
     requires { segments + 1 < 2 ^ 64 }
     ensures { IsTrue result ↔ (0 < segments → leaves plan.now ≡ pieces_in segments draws.now) }
@@ -131,15 +133,15 @@ pub(crate) fn segments_are_of(segments: &[Segment], queue: LogQueue) -> bool
     segments.iter().all(|segment| parts_are_of(segment, queue))
 }
 
-/// Tests whether all parts are of files of `queue`.
+/// Tests whether all parts of one segment are of files of `queue`.
 fn parts_are_of(parts: &Vec<FilePart>, queue: LogQueue) -> bool
     ensures { IsTrue result ↔ All (λ part. part.id.queue ≡ queue) parts.now.items }
 {
     parts.iter().all(|part| part.id().queue == queue)
 }
 
-/// Replays the segments in order, each into the machine of the worker that draws it. Returns the last
-/// machine; those before it are appended to `machines`.
+/// Replays `segments` in order, a new machine beginning wherever `draws` changes the worker. Returns the last
+/// machine; those before it are appended to `machines`, which must be empty.
 ///
 /// # Errors
 ///
@@ -167,8 +169,8 @@ fn replay_in_order<M: ReplayMachine, F: Factory<M>>(
     Ok(current)
 }
 
-/// Returns the machine for the next segment: `current` or, if the drawer changes, a new one; then `current`
-/// is appended to `machines`.
+/// Returns the machine for the next segment: `current`, or a new one if `changes` says that another worker
+/// draws it. `current` is then appended to `machines`.
 ///
 /// # Errors
 ///

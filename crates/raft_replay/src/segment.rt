@@ -1,4 +1,4 @@
-//! Segments of a queue, and their replay into a machine.
+//! Segments of a queue, and their replay into a machine by one thread.
 
 ghost use Rattle.std.specs.Prelude.{◌≡◌, ◌≢◌, ◌+◌, ◌^◌, ◌<◌, ◌++◌, List, Vec, length, IfOk, OnOk, IfErr};
 ghost use Rattle.raft_replay.specs.Common.{Global, error_kind, IsCorruption, Part, part_of, Event, IsSmall, HasReplayed, CannotFollow, HoldsFrom, EachHolds, SegmentsHold, queue_text, place_text, IsPlaced, IsStoodFor, IsWithPlace};
@@ -11,17 +11,17 @@ use raft_records::{FilePart, ReadBatch};
 use std::alloc::Global;
 use std::io;
 
-/// Parts of files of a queue, one after the other.
+/// Parts of files of a queue, in order.
 pub type Segment = Vec<FilePart>;
 
-/// Replays every batch of every part into `machine`, in order.
+/// Replays every batch of every part of `segment` into `machine`, in order.
 ///
 /// # Errors
 ///
-/// `Memory`. Any other comes only if a part isn't a sequence of readable batches, or the batches behind those
-/// that the machine stands for can't be read. The text of a `Corruption`, `Codec` or `Io` begins with the
-/// queue, the file and the offset of the batch that was refused, as `append file 3, offset 1024: `. How many
-/// batches the machine has replayed then isn't known.
+/// `Memory`. Any other comes only if a part isn't a sequence of readable batches, or its batches can't follow
+/// those that the machine stands for. The text of a `Corruption`, `Codec` or `Io` begins with the queue, the
+/// file and the offset of the batch that was refused, as `append file 3, offset 1024: `. How many batches the
+/// machine has replayed then isn't known.
 pub fn replay_segment<M: ReplayMachine>(machine: &mut M, segment: &Segment) -> Result<()>
     ensures ok { OnOk result
         (HasReplayed (EachHolds (λ part. HoldsFrom part 0) segment.entry.now.items) M.stands_for
@@ -39,12 +39,15 @@ pub fn replay_segment<M: ReplayMachine>(machine: &mut M, segment: &Segment) -> R
     Ok(())
 }
 
-/// Replays every batch of `bytes` into `machine`, in order: those of `file` from `offset` on. They must end
-/// below offset 2^64.
+/// Replays every batch of `bytes` into `machine`, in order. The bytes stand in the file `file` from `offset`
+/// on, and must end below offset 2^64. `alloc` is for the batch that is read, and for errors.
 ///
 /// # Errors
 ///
-/// Those of [`replay_segment`] for a part of these bytes.
+/// `Memory`. Any other comes only if the bytes aren't a sequence of readable batches, or their batches can't
+/// follow those that the machine stands for. The text of a `Corruption`, `Codec` or `Io` begins with the
+/// place of the batch that was refused, as in [`replay_segment`]. How many batches the machine has replayed
+/// then isn't known.
 pub fn replay_bytes<M: ReplayMachine>(
     machine: &mut M,
     alloc: Global,
@@ -77,9 +80,9 @@ pub fn replay_bytes<M: ReplayMachine>(
     }
 }
 
-/// Puts the queue, the file and the offset of a batch before the text of a `Corruption`, an `Io` or a
-/// `Codec`, as `append file 3, offset 1024: `. Other errors stay as they are. Returns `Memory` if there is
-/// none for the text.
+/// Returns `error` with the place of a batch before its text, if it is a `Corruption`, an `Io` or a `Codec`:
+/// the queue, the file and the offset, as `append file 3, offset 1024: `. Other errors are returned as they
+/// are. Returns `Memory` if there is none for the text.
 fn placed(alloc: Global, error: Error, id: FileId, offset: u64) -> Error
     ensures placed { IsPlaced id offset result }
     ensures same { IsWithPlace id offset error result }
@@ -99,8 +102,8 @@ fn placed(alloc: Global, error: Error, id: FileId, offset: u64) -> Error
     }
 }
 
-/// Returns the `Corruption` for a batch or another part of the file `id`, at this offset: `append file 3,
-/// offset 1024: ` and `reason`. Returns `Memory` if there is none for its text.
+/// Returns a `Corruption` for something at `offset` of the file `id`, with the text
+/// `append file 3, offset 1024: ` and then `reason`. Returns `Memory` if there is none for the text.
 #[doc(hidden)]
 pub fn corruption_at(alloc: Global, id: FileId, offset: u64, reason: &str) -> Error
     ensures { IsCorruption (place_text id offset ++ reason.now) result }
@@ -112,7 +115,8 @@ pub fn corruption_at(alloc: Global, id: FileId, offset: u64, reason: &str) -> Er
     }
 }
 
-/// Puts the queue, the file and the offset of a batch before the text of the I/O `error`, whose kind stays.
+/// Returns an I/O error of the same kind as `error`, whose text has the queue, the file and the offset of a
+/// batch before that of `error`.
 ///
 /// # Errors
 ///
@@ -125,7 +129,7 @@ fn io_placed(alloc: Global, error: io::Error, id: FileId, offset: u64) -> AllocR
     Ok(io::Error::new(error.kind(), text.as_str()))
 }
 
-/// Returns the name of `queue` in texts: `append` or `rewrite`.
+/// Returns the name that `queue` has in texts: `append` or `rewrite`.
 #[doc(hidden)]
 pub fn queue_name(queue: LogQueue) -> &'static str
     ensures { result.now ≡ queue_text queue }
@@ -136,21 +140,23 @@ pub fn queue_name(queue: LogQueue) -> &'static str
     }
 }
 
-/// States that the parts of segments are read as one history at most.
+/// States that the parts of segments can be read as one history at most. This is a law: it computes nothing.
 pub fn segments_read_as_one_history()
     ensures { (segments : List (Vec Part Global)) (g h : List Event)
         → SegmentsHold segments g → SegmentsHold segments h → g ≡ h }
 {}
 
-/// States that a written batch is found where it was written. If its bytes come behind those of a part of the
-/// file, at the place that they were written to, the part then has that batch, with its places, behind those
-/// that it had. What else is asked holds of every batch whose bytes were made, as its `is_read_again` states.
+/// States that a written batch is found where it was written. If its bytes come right after those of a part
+/// of the file, at the place that they were written to, the longer part has that batch, with its places,
+/// after the batches that it had. What else is asked holds of every batch whose bytes were made, as its
+/// `is_read_again` states. This is a law: it computes nothing.
 pub fn written_batches_are_held()
     ensures { WrittenBatchIsHeld }
 {}
 
-/// States that segments of fewer than 2^63 bytes together have a small history, since batches don't name more
-/// entries, key values and deletions together than they have bytes.
+/// States that segments of fewer than 2^63 bytes together have a history with fewer than 2^63 entries, key
+/// values and deletions of keys together, since batches don't name more of these than they have bytes. This
+/// is a law: it computes nothing.
 pub fn segments_hold_few_records()
     ensures { (segments : List (Vec Part Global)) (h : List Event)
         → SegmentsHold segments h → bytes_of_segments segments < 2 ^ 63 → IsSmall h }

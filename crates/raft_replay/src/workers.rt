@@ -1,4 +1,4 @@
-//! Segments that any number of workers replay, each the next one that is left.
+//! Replays segments by several workers, each of which always takes the next segment that is left.
 
 ghost use Rattle.std.specs.Prelude.{◌≡◌, ◌≢◌, ◌+◌, ◌^◌, ◌<◌, ◌≤◌, List, [], length, All, IfOk, IfErr, IfNone, OnOk, OnErr, OnSome, Vec, vec_len};
 ghost use Rattle.raft_replay.specs.Common.{Global, Part, IsInvalidArgument, IsPieceOf, CoverOnce, AreDone, Gives, Tickets, IsSeatOf, IsNewSeatOf, IsBack, IsWork, HasRefusal, CannotBeRead, MayReplay, SegmentsAreOf, IsReplayed};
@@ -17,22 +17,26 @@ use std::thread::Threads;
 /// The greatest number of workers.
 pub const MAX_WORKERS: usize = 256;
 
-/// There must be fewer segments than this, as [`Tickets::open`] asks.
+/// What the number of segments must stay below, since [`Tickets::open`] wants it so.
 pub const SEGMENT_LIMIT: usize = 1 << 62;
 
-/// Replays all segments by 1 to 256 workers, each of which draws the next segment that is left, and merges
-/// the pieces by halves. No more workers are started than there are segments; the caller does the work of
-/// one for which no thread can be started. Whenever the drawer changes, a piece begins, and all pieces are
-/// held until the last segment is replayed: so hand in few segments, one to four for each worker, of about
-/// one size. The result is the same however the batches are divided into segments, and whatever turns the
-/// workers take: the machine stands for all batches in order, and exactly if effects are apart. The
-/// machines that `factory` makes must stand for no batch.
+/// Replays all segments by `workers` workers, 1 to 256, and returns one machine. Each worker draws the next
+/// segment that is left, calls `gate` with its number, and replays it. The machines, or pieces, are then
+/// merged by halves. The result is the same however the batches are divided into segments, and whatever turns
+/// the workers take: the machine stands for all batches in order, as [`ReplayMachine`] defines it. It does so
+/// exactly if no group shares a region with a batch or a group that it overlaps. The machines that `factory`
+/// makes must stand for no batch.
+///
+/// No more workers are started than there are segments. The caller does the work of one for which no thread
+/// can be started. A worker that draws two segments in a row replays both into one machine; otherwise it
+/// begins a new one, and all are held until the last segment is replayed. So hand in few segments, one to
+/// four for each worker, of about one size.
 ///
 /// # Errors
 ///
 /// `InvalidArgument` for another number of workers, for 2^62 segments or more, and for a part of another
-/// queue; `Memory`; the factory's own. Any other comes only if a part isn't a sequence of readable batches,
-/// or all batches, in order, can't be read.
+/// queue than `queue`; `Memory`; the factory's own. Any other comes only if a part isn't a sequence of
+/// readable batches, or all batches, in order, can't be read.
 pub fn replay_segments<M: ReplayMachine, F: Factory<M>, G: Gate, R: Threads + Sync>(
     rt: &R,
     alloc: Global,
@@ -55,11 +59,13 @@ pub fn replay_segments<M: ReplayMachine, F: Factory<M>, G: Gate, R: Threads + Sy
     replay_accepted(rt, alloc, factory, segments, queue, workers, gate)
 }
 
-/// Does what [`replay_segments`] does with arguments that [`check_arguments`] has tested.
+/// Replays all segments by `workers` workers, as [`replay_segments`] does, without a check of its arguments:
+/// call [`check_arguments`] first.
 ///
 /// # Errors
 ///
-/// Those of [`replay_segments`] other than for its arguments.
+/// `Memory`; the factory's own. Any other comes only if a part isn't a sequence of readable batches, or all
+/// batches, in order, can't be read.
 #[doc(hidden)]
 pub fn replay_accepted<M: ReplayMachine, F: Factory<M>, G: Gate, R: Threads + Sync>(
     rt: &R,
@@ -85,7 +91,7 @@ pub fn replay_accepted<M: ReplayMachine, F: Factory<M>, G: Gate, R: Threads + Sy
     merge_at_once(rt, machines, &plan, queue, MAX_LEVELS)
 }
 
-/// Checks that `workers` workers may replay these segments of `queue`.
+/// Checks that `workers` workers may replay these segments of `queue`, as [`replay_segments`] asks.
 ///
 /// # Errors
 ///
@@ -111,8 +117,8 @@ pub fn check_arguments(
     Ok(())
 }
 
-/// Returns why this number of workers may not replay these segments of `queue`, in words, or `None` if it
-/// may.
+/// Returns why `workers` workers may not replay these segments of `queue`, in words: another number than 1 to
+/// 256, or a part of another queue. Returns `None` if they may.
 pub(crate) fn misuse(segments: &[Segment], queue: LogQueue, workers: usize) -> Option<&'static str>
     ensures none { IfNone result ((0 < workers) × (workers ≤ 256)
         × SegmentsAreOf queue segments.entry.now) }
@@ -128,11 +134,12 @@ pub(crate) fn misuse(segments: &[Segment], queue: LogQueue, workers: usize) -> O
     None
 }
 
-/// Returns the pieces that `workers` workers make of `segments`, in no set order.
+/// Runs as many of `workers` workers as there are segments for, and returns the pieces that they made of all
+/// `segments`, in no set order.
 ///
 /// # Errors
 ///
-/// Those of [`replay_accepted`].
+/// Those of [`replay_accepted`]. All pieces are dropped then.
 fn drawn_pieces<M: ReplayMachine, F: Factory<M>, G: Gate, R: Threads + Sync>(
     rt: &R,
     alloc: Global,
@@ -160,11 +167,11 @@ fn drawn_pieces<M: ReplayMachine, F: Factory<M>, G: Gate, R: Threads + Sync>(
     Ok(pieces)
 }
 
-/// Returns the seats of all workers, and all their pieces, from what each gave back (`worked`).
+/// Returns all seats and all pieces of `worked`, which is what each worker gave back.
 ///
 /// # Errors
 ///
-/// That of the first worker, in order, that had one, and `Memory`.
+/// That of the first worker, in order, that had one; `Memory`. All pieces are dropped then.
 fn gather<M: ReplayMachine>(worked: Vec<Worked<M>>) -> Result<(Vec<TicketSeat>, Vec<Piece<M>>)>
     ensures ok { (segments : List (Vec Part Global)) (tickets : Tickets)
         → All (IsBack M.stands_exactly segments tickets) worked.items
@@ -183,19 +190,22 @@ fn gather<M: ReplayMachine>(worked: Vec<Worked<M>>) -> Result<(Vec<TicketSeat>, 
     Ok((seats, pieces))
 }
 
-/// What a worker gives back. What it always is stands in the contract of the closure that workers run
-/// (`IsWork`).
+/// What a worker gives back: its seat, and its pieces or the error that ended it. What they always are stands
+/// in the contract of the closure that workers run (`IsWork`).
 #[derive(Drop)]
 struct Worked<M: ReplayMachine> {
+    /// The seat by which the worker drew.
     seat: TicketSeat,
+    /// What it made of the segments that it drew, or the error that ended it.
     pieces: Result<Vec<Piece<M>>>,
 }
 
-/// Runs a worker for each of `seats`, all at the same time, and returns what each gives back.
+/// Runs a worker for each of `seats`, all at the same time, and returns what each gave back, in the order of
+/// the seats.
 ///
 /// # Errors
 ///
-/// `Memory` alone. The error of a worker is in what it gives back.
+/// `Memory` alone. The error of a worker is in what it gave back.
 fn run_workers<M: ReplayMachine, F: Factory<M>, G: Gate, R: Threads + Sync>(
     rt: &R,
     alloc: Global,
@@ -229,7 +239,8 @@ fn run_workers<M: ReplayMachine, F: Factory<M>, G: Gate, R: Threads + Sync>(
 ///
 /// # Errors
 ///
-/// The factory's own, those of [`replay_segment`], and `Memory`. The worker draws no further segments then.
+/// The factory's own, those of [`replay_segment`], and `Memory`. The worker draws no further segments then,
+/// and its pieces are dropped.
 fn replay_drawn<M: ReplayMachine, F: Factory<M>, G: Gate>(
     alloc: Global,
     factory: &F,

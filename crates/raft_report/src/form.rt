@@ -1,10 +1,10 @@
-//! How something is printed.
+//! The forms in which something is printed.
 
-/// How something is printed.
+/// The form in which something is printed.
 #[derive(Clone, Copy, PartialEq, Eq, Debug)]
 pub enum Form {
-    /// As lines of text.
+    /// Lines of text, for people.
     Text,
-    /// As lines of JSON.
+    /// Lines of JSON, an object each, for programs.
     Json,
 }

@@ -1,4 +1,5 @@
-//! The words of lines of JSON. Each call fails for want of memory alone; one that appends may then have appended a part.
+//! The parts of lines of JSON: strings, numbers and lists. Each call fails for want of memory alone; one that appends may then have
+//! appended some of its text.
 
 ghost use Rattle.std.specs.Prelude.{◌≡◌, ◌++◌, map, string_bytes, IfOk, OnOk};
 ghost use Rattle.hex.specs.Hex.{encode_lower};
@@ -14,11 +15,11 @@ use serde_json::Value;
 use std::alloc::Global;
 use std::fmt;
 
-/// Returns a text as a string of JSON, with its quotes.
+/// Returns a text as a string of JSON, in quotes and with what has to be escaped.
 ///
 /// # Errors
 ///
-/// Want of memory.
+/// Fails only if there is no memory.
 pub fn quoted(alloc: Global, shown: &str) -> AllocResult<String>
     ensures { IfOk result (λ text. string_bytes text ≡ compact_text (string shown.now)) }
 {
@@ -26,11 +27,11 @@ pub fn quoted(alloc: Global, shown: &str) -> AllocResult<String>
     value.to_string(alloc)
 }
 
-/// Returns in words why something can't be read, or is refused, as a string of JSON, with its quotes.
+/// Returns the text of an error as a string of JSON, in quotes. Its line breaks are spaces, as [`append_reason`] has them.
 ///
 /// # Errors
 ///
-/// Want of memory.
+/// Fails only if there is no memory.
 pub fn quoted_reason(alloc: Global, reason: &Error) -> AllocResult<String>
     ensures { IfOk result (λ text. string_bytes text ≡ compact_text (string (reason_text reason.now))) }
 {
@@ -39,11 +40,11 @@ pub fn quoted_reason(alloc: Global, reason: &Error) -> AllocResult<String>
     quoted(alloc, words.as_str())
 }
 
-/// Returns bytes as a string of JSON of their digits in base 16, with its quotes.
+/// Returns bytes as a string of JSON, in quotes: two lower-case hex digits for each byte.
 ///
 /// # Errors
 ///
-/// Want of memory.
+/// Fails only if there is no memory.
 pub(crate) fn quoted_hex(alloc: Global, bytes: &[u8]) -> AllocResult<String>
     ensures { IfOk result (λ text. string_bytes text ≡ compact_text (string (encode_lower bytes.now))) }
 {
@@ -51,7 +52,7 @@ pub(crate) fn quoted_hex(alloc: Global, bytes: &[u8]) -> AllocResult<String>
     quoted(alloc, digits.as_str())
 }
 
-/// Returns the name of a queue, with quotes.
+/// Returns the name of a queue as a string of JSON, in quotes.
 fn quoted_name(queue: LogQueue) -> &'static str
     ensures { result.now ≡ compact_text (queue_data queue) }
 {
@@ -61,7 +62,7 @@ fn quoted_name(queue: LogQueue) -> &'static str
     }
 }
 
-/// A queue, which is printed as its name, with quotes.
+/// A queue that is printed as its name in JSON, in quotes.
 #[derive(Clone, Copy)]
 pub struct QueueName(pub LogQueue);
 
@@ -72,12 +73,13 @@ impl fmt::Display for QueueName {
 
     ghost output = { λ name. Some (compact_text (queue_data name.0)) };
 
+    /// Writes the name of the queue, in quotes.
     fn fmt<W: fmt::Write>(&self, f: &mut fmt::Formatter<W>) -> fmt::Result {
         f.write_str(quoted_name(self.0))
     }
 }
 
-/// A number that is printed as it is, and as `null` where there is none.
+/// A number that may be missing, as it is printed in JSON: its digits, or `null`.
 #[derive(Clone, Copy)]
 pub(crate) struct Nullable(pub(crate) Option<u64>);
 
@@ -88,6 +90,7 @@ impl fmt::Display for Nullable {
 
     ghost output = { λ number. Some (compact_text (count_if number.0)) };
 
+    /// Writes the number, or `null` if there is none.
     fn fmt<W: fmt::Write>(&self, f: &mut fmt::Formatter<W>) -> fmt::Result {
         match self.0 {
             Some(number) => write!(f, "{number}"),
@@ -96,7 +99,7 @@ impl fmt::Display for Nullable {
     }
 }
 
-/// Appends numbers as a list of JSON.
+/// Appends numbers as a list of JSON, in brackets.
 pub(crate) fn append_numbers(numbers: &[u64], text: &mut String) -> AllocResult<()>
     ensures { OnOk result (string_bytes text.new
         ≡ string_bytes text.old ++ compact_text (list_of (map count numbers.now))) }
@@ -111,7 +114,7 @@ pub(crate) fn append_numbers(numbers: &[u64], text: &mut String) -> AllocResult<
     text.push(']')
 }
 
-/// Appends a comma where an element of a list is in front, as `later` says.
+/// Appends a comma if `later` is set: there is an element of the list before the next one.
 pub(crate) fn append_comma(later: bool, text: &mut String) -> AllocResult<()>
     ensures { OnOk result (string_bytes text.new ≡ string_bytes text.old ++ comma_if later) }
 {

@@ -1,4 +1,4 @@
-//! Dumps of log files as lines of JSON. Each call that appends fails for want of memory alone, and a part may then be appended.
+//! Dumps of log files as lines of JSON. Each call that appends fails for want of memory alone, and some of its text may then be appended.
 
 ghost use Rattle.std.specs.Prelude.{◌≡◌, ◌≤◌, ◌++◌, length, string_bytes, OnOk};
 ghost use Rattle.raft_report.specs.JsonData.{json_line};
@@ -11,8 +11,8 @@ use raft_base::{AllocResult, Error, Result};
 use raft_listing::{DumpForm, Selection};
 use raft_records::{FilePart, LogItem};
 
-/// The form of JSON: a line for each item that is selected, and one for each byte at which no batch can be read. Keys, values and the
-/// bytes of entries are in base 16.
+/// Writes a dump as lines of JSON: one for each selected item, and one for each byte at which no batch can be read. Keys, values and the
+/// bytes of entries are in hex.
 #[derive(Clone, Copy, PartialEq, Eq, Debug)]
 pub struct JsonDump;
 
@@ -21,6 +21,11 @@ impl DumpForm for JsonDump {
 
     ghost says = { IsMetJson };
 
+    /// Appends a line for each selected item of the batch that stands at position `at` of the part's bytes; the batch itself has none.
+    ///
+    /// # Errors
+    ///
+    /// `Memory`. Some lines may then be appended.
     fn append_batch(
         &self,
         part: &FilePart,
@@ -33,6 +38,11 @@ impl DumpForm for JsonDump {
         append_json_items(part, at, items, selection, text)
     }
 
+    /// Appends a line which says that no batch can be read at position `at` of the part's bytes, and why. It does so whatever is selected.
+    ///
+    /// # Errors
+    ///
+    /// Fails only if there is no memory. Some of the line may then be appended.
     fn append_damage(
         &self,
         part: &FilePart,
@@ -46,7 +56,7 @@ impl DumpForm for JsonDump {
     }
 }
 
-/// Appends the line of a byte at which no batch can be read for `reason`.
+/// Appends the line of a byte at which no batch can be read: position `at` of the part's bytes, and `reason`.
 fn append_json_place(
     part: &FilePart,
     at: usize,
@@ -61,7 +71,8 @@ fn append_json_place(
     writeln!(text, ",\"what\":\"unreadable\",\"why\":{why}}}")
 }
 
-/// Appends the beginning of the line of the byte `at` of a part: its file, its offset in it, and its queue.
+/// Appends the first members of the line of a byte, position `at` of the part's bytes: the number of the file, the offset in it, and the
+/// queue.
 fn append_place_front(part: &FilePart, at: usize, text: &mut String) -> AllocResult<()>
     requires { at ≤ length part.now.bytes }
     ensures { OnOk result (string_bytes text.new ≡ string_bytes text.old ++ place_front part.now at) }

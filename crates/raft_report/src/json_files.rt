@@ -1,4 +1,5 @@
-//! What is found of log files, as lines of JSON. Each call that appends fails for want of memory alone, and a part may then be appended.
+//! What is found in log files, as lines of JSON. Each call that appends fails for want of memory alone, and some of its text may then be
+//! appended.
 
 ghost use Rattle.std.specs.Prelude.{◌≡◌, ◌++◌, map, string_bytes, None, OnOk};
 ghost use Rattle.raft_report.specs.JsonData.{json_line, list_of};
@@ -11,12 +12,12 @@ use raft_listing::{Damage, DamageKind, FileScan, Loss, missing_between};
 use raft_reading::FileSize;
 use std::alloc::Global;
 
-/// Appends a line for the files that are missing between the one with the number `last`, `None` where it is the first, and the scanned one,
-/// if there is a gap, and a line for what the scan finds.
+/// Appends the line of the scan of one file. If files are missing before it, a line for them comes first: `last` is the number of the file
+/// before, `None` if the scanned one is the first.
 ///
 /// # Errors
 ///
-/// Want of memory. Some lines may then be appended.
+/// Fails only if there is no memory. Some of the lines may then be appended.
 pub fn append_json_scan(
     alloc: Global,
     queue: LogQueue,
@@ -30,7 +31,8 @@ pub fn append_json_scan(
     append_json_file(alloc, queue, scan, text)
 }
 
-/// Appends the line for what a scan of a file finds.
+/// Appends the line of the scan of one file: its queue, number and length, how many batches can be read and up to which offset, how many
+/// bytes at its end weren't searched, and its damage, as a list.
 fn append_json_file(
     alloc: Global,
     queue: LogQueue,
@@ -52,7 +54,7 @@ fn append_json_file(
     )
 }
 
-/// Appends the places in a file where something can't be read, as a list.
+/// Appends the list of the places in a file where something can't be read, in brackets.
 fn append_damages(alloc: Global, damages: &[Damage], text: &mut String) -> AllocResult<()>
     ensures { OnOk result (string_bytes text.new
         ≡ string_bytes text.old ++ compact_text (list_of (map damage_data damages.now))) }
@@ -67,7 +69,7 @@ fn append_damages(alloc: Global, damages: &[Damage], text: &mut String) -> Alloc
     text.push(']')
 }
 
-/// Appends a place where something can't be read.
+/// Appends the object of one place where something can't be read.
 fn append_damage(alloc: Global, damage: &Damage, text: &mut String) -> AllocResult<()>
     ensures { OnOk result (string_bytes text.new ≡ string_bytes text.old ++ compact_text (damage_data damage.now)) }
 {
@@ -82,7 +84,7 @@ fn append_damage(alloc: Global, damage: &Damage, text: &mut String) -> AllocResu
     }
 }
 
-/// Appends the JSON object of a place at which no batch can be read: its `offset` in the file, and why.
+/// Appends the object of a place at which no batch can be read: its `offset` in the file, and the reason.
 fn append_unreadable_batch(
     alloc: Global,
     offset: u64,
@@ -99,7 +101,8 @@ fn append_unreadable_batch(
     )
 }
 
-/// Appends that `entries` of a region, by their first and last index, in the batch at an offset can't be read, and why.
+/// Appends the object of entries that can't be read: their region, the first and the last index, which are `entries`, both included, the
+/// `offset` of their batch in the file, and the reason.
 fn append_lost_entries(
     alloc: Global,
     offset: u64,
@@ -119,11 +122,12 @@ fn append_lost_entries(
     )
 }
 
-/// Appends a line for each gap between the numbers of a queue's files: the first and the last number that are missing there.
+/// Appends a line for each gap between the file numbers of a queue, with the first and the last number that are missing there. `sizes` has
+/// the files that are there, oldest first.
 ///
 /// # Errors
 ///
-/// Want of memory. Some lines may then be appended.
+/// Fails only if there is no memory. Some lines may then be appended.
 pub fn append_json_missing_files(
     queue: LogQueue,
     sizes: &[FileSize],
@@ -140,7 +144,8 @@ pub fn append_json_missing_files(
     Ok(())
 }
 
-/// Appends a line for files that are missing, by the first and the last of their `numbers`; nothing for `None`.
+/// Appends a line for the files that are missing in a gap. `numbers` are the first and the last number missing there; for `None` nothing is
+/// appended.
 fn append_json_missing(
     queue: LogQueue,
     numbers: Option<(FileSeq, FileSeq)>,
@@ -154,7 +159,7 @@ fn append_json_missing(
     }
 }
 
-/// Appends the line for the files that are missing, from the first of `numbers` to the last.
+/// Appends the line for the files that are missing, from the first of `numbers` to the last, both included.
 fn append_json_numbers(
     queue: LogQueue,
     numbers: (FileSeq, FileSeq),
@@ -173,7 +178,7 @@ fn append_json_numbers(
 ///
 /// # Errors
 ///
-/// Want of memory. Some of it may then be appended.
+/// Fails only if there is no memory. Some of the line may then be appended.
 pub fn append_json_no_files(queue: LogQueue, text: &mut String) -> AllocResult<()>
     ensures { OnOk result (string_bytes text.new ≡ string_bytes text.old ++ json_line (no_files_data queue)) }
 {
@@ -181,11 +186,11 @@ pub fn append_json_no_files(queue: LogQueue, text: &mut String) -> AllocResult<(
     writeln!(text, "{{\"files\":{files},\"queue\":{name}}}")
 }
 
-/// Appends the line of `len` bytes that were cut off, which the file at `path` keeps.
+/// Appends the line of `len` bytes that were cut off a file and are kept in the file at `path`.
 ///
 /// # Errors
 ///
-/// Want of memory. Some of it may then be appended.
+/// Fails only if there is no memory. Some of the line may then be appended.
 pub fn append_json_kept(alloc: Global, len: usize, path: &str, text: &mut String) -> AllocResult<()>
     ensures { OnOk result (string_bytes text.new ≡ string_bytes text.old ++ json_line (kept_data len path.now)) }
 {

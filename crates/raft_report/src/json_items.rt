@@ -1,5 +1,6 @@
-//! The items of batches, as lines of JSON. `known` is the entry block that was read already, so that it isn't read for each entry.
-//! Each call fails for want of memory alone, and a part of the text may have been appended then.
+//! The items of batches, as lines of JSON. `known` is the entry block that was read already, so that it isn't read for each entry. Each
+//! call fails for want of memory alone; some of its text may have been appended then. Many calls append one member of an object, with the
+//! comma after it.
 
 ghost use Rattle.std.specs.Prelude.{◌≡◌, ◌≤◌, ◌++◌, true, codes, length, map, option_map, string_bytes, IfErr, IfOk, IfSome, OnOk};
 ghost use Rattle.std.specs.Bool.{MatchBool};
@@ -20,7 +21,8 @@ use raft_records::{
 };
 use std::alloc::Global;
 
-/// Appends a line for each selected item of the batch at the byte `at` of a part.
+/// Appends a line for each selected item of the batch that stands at position `at` of the part's bytes. The entry block of the batch is
+/// read once, if values are selected.
 ///
 /// # Errors
 ///
@@ -44,7 +46,7 @@ pub(crate) fn append_json_items(
     Ok(())
 }
 
-/// Appends the line of an item of the batch at the byte `at`, if the item is selected.
+/// Appends the line of an item if it is selected; else nothing. Its batch stands at position `at` of the part's bytes.
 fn append_item_if_selected(
     part: &FilePart,
     at: usize,
@@ -65,7 +67,7 @@ fn append_item_if_selected(
     Ok(())
 }
 
-/// Appends the line of an item of the batch at the byte `at`.
+/// Appends the line of an item, whose batch stands at position `at` of the part's bytes.
 fn append_json_item(
     part: &FilePart,
     at: usize,
@@ -86,14 +88,15 @@ fn append_json_item(
     Ok(())
 }
 
-/// Appends the line of an item up to what it says: the number of the file.
+/// Appends the start of an item's line, up to the object that says what the item says: the number of the file.
 fn append_item_front(part: &FilePart, text: &mut String) -> AllocResult<()>
     ensures { OnOk result (string_bytes text.new ≡ string_bytes text.old ++ item_front part.now) }
 {
     write!(text, "{{\"file\":{},\"item\":", part.id().seq)
 }
 
-/// Appends the rest of the line of an item of a region, behind what it says: the offset of its batch, the queue and the region.
+/// Appends the rest of an item's line, after the object that says what the item says: the offset of its batch in the file, the queue and
+/// the region. Ends the line.
 fn append_item_back(part: &FilePart, at: usize, region: u64, text: &mut String) -> AllocResult<()>
     requires { at ≤ length part.now.bytes }
     ensures { OnOk result (string_bytes text.new ≡ string_bytes text.old ++ item_back part.now at region) }
@@ -105,7 +108,7 @@ fn append_item_back(part: &FilePart, at: usize, region: u64, text: &mut String) 
     )
 }
 
-/// Appends what an item says: entries, a command, or the change of a key.
+/// Appends the object that says what an item says: entries, a command, or the change of a key.
 fn append_content(
     part: &FilePart,
     item: &LogItem,
@@ -127,7 +130,7 @@ fn append_content(
     }
 }
 
-/// Appends a command.
+/// Appends the object of a command: its name, and its index if it has one.
 fn append_command(command: &Command, text: &mut String) -> AllocResult<()>
     ensures { OnOk result (string_bytes text.new ≡ string_bytes text.old ++ compact_text (command_data command.now)) }
 {
@@ -138,7 +141,8 @@ fn append_command(command: &Command, text: &mut String) -> AllocResult<()>
     }
 }
 
-/// Appends what is done to a key, and whether that begins, continues or ends an atomic group.
+/// Appends the object of a change of a key: the length of its value, the key, the value if values are selected, and what is done to the
+/// key. If the key value marks a batch of an atomic group, it says whether the group begins, goes on or ends there.
 fn append_change(
     part: &FilePart,
     item: &LogItem,
@@ -161,7 +165,7 @@ fn append_change(
     Ok(())
 }
 
-/// Appends how many bytes a value has, if there is one, as the first member of an object.
+/// Appends the brace that opens an object, and the number of bytes of a value as its first member, if there is a value.
 fn append_value_len(value: &Option<Vec<u8>>, text: &mut String) -> AllocResult<()>
     ensures { OnOk result (string_bytes text.new
         ≡ string_bytes text.old ++ (codes "{" ++ trailed (bytes_member (option_map (λ v. v.items) value.now)))) }
@@ -172,7 +176,7 @@ fn append_value_len(value: &Option<Vec<u8>>, text: &mut String) -> AllocResult<(
     }
 }
 
-/// Appends that an atomic group begins, goes on or ends; nothing for `None`.
+/// Appends a member which says that an atomic group begins, goes on or ends; nothing for `None`.
 fn append_group(status: Option<AtomicGroupStatus>, text: &mut String) -> AllocResult<()>
     ensures { OnOk result (string_bytes text.new ≡ string_bytes text.old ++ trailed (group_member status)) }
 {
@@ -184,7 +188,7 @@ fn append_group(status: Option<AtomicGroupStatus>, text: &mut String) -> AllocRe
     }
 }
 
-/// Appends a key, in base 16.
+/// Appends a key as a member, in hex.
 fn append_key(alloc: Global, key: &[u8], text: &mut String) -> AllocResult<()>
     ensures { OnOk result (string_bytes text.new ≡ string_bytes text.old ++ trailed (key_member key.now)) }
 {
@@ -192,7 +196,7 @@ fn append_key(alloc: Global, key: &[u8], text: &mut String) -> AllocResult<()>
     write!(text, "\"key\":{key},")
 }
 
-/// Appends a value in base 16, if there is one and values are selected.
+/// Appends a value as a member, in hex, if there is one and values are selected; else nothing.
 fn append_value(
     alloc: Global,
     value: &Option<Vec<u8>>,
@@ -208,7 +212,7 @@ fn append_value(
     }
 }
 
-/// Appends the bytes of a value, in base 16.
+/// Appends the bytes of a value as a member, in hex.
 fn append_value_bytes(alloc: Global, value: &[u8], text: &mut String) -> AllocResult<()>
     ensures { OnOk result (string_bytes text.new
         ≡ string_bytes text.old ++ trailed (shown_member value.now)) }
@@ -217,7 +221,7 @@ fn append_value_bytes(alloc: Global, value: &[u8], text: &mut String) -> AllocRe
     write!(text, "\"value\":{value},")
 }
 
-/// Appends what is done to a key, as the last member of an object.
+/// Appends what is done to a key as the last member, and the brace that closes the object.
 fn append_op(op_type: OpType, text: &mut String) -> AllocResult<()>
     ensures { OnOk result (string_bytes text.new ≡ string_bytes text.old ++ (member_text (op_member op_type) ++ codes "}")) }
 {
@@ -227,8 +231,8 @@ fn append_op(op_type: OpType, text: &mut String) -> AllocResult<()>
     }
 }
 
-/// Appends the entries of an item: their first and last index, where their block stands, and, where values are selected, the bytes of the
-/// selected entries.
+/// Appends the object of an item's entries: the first and the last index, the offset and the length of the block that the first entry
+/// names, and, if values are selected, the bytes of the selected entries.
 fn append_entries(
     part: &FilePart,
     entries: &[EntryIndex],
@@ -253,7 +257,7 @@ fn append_entries(
     Ok(())
 }
 
-/// Returns the index of the last entry, or `first` where `entries` is empty.
+/// Returns the index of the last entry, or `first` if `entries` is empty.
 fn last_index(entries: &[EntryIndex], first: u64) -> u64
     ensures { result ≡ last_index entries.now first }
 {
@@ -263,7 +267,7 @@ fn last_index(entries: &[EntryIndex], first: u64) -> u64
     }
 }
 
-/// Appends at which offset an entry block stands, as the first member of an object; no member for `None`.
+/// Appends the brace that opens an object, and the offset of an entry block as its first member; no member for `None`.
 fn append_block(place: &Option<FileBlockHandle>, text: &mut String) -> AllocResult<()>
     ensures { OnOk result (string_bytes text.new ≡ string_bytes text.old ++ (codes "{" ++ trailed (block_member place.now))) }
 {
@@ -273,14 +277,14 @@ fn append_block(place: &Option<FileBlockHandle>, text: &mut String) -> AllocResu
     }
 }
 
-/// Appends the first and the last index of entries.
+/// Appends the first and the last index of entries, both included, as two members.
 fn append_indexes(first: u64, last: u64, text: &mut String) -> AllocResult<()>
     ensures { OnOk result (string_bytes text.new ≡ string_bytes text.old ++ trailed (index_members first last)) }
 {
     write!(text, "\"first\":{first},\"last\":{last},")
 }
 
-/// Appends how many bytes an entry block has; nothing for `None`.
+/// Appends the length in bytes of an entry block as a member; nothing for `None`.
 fn append_block_length(place: &Option<FileBlockHandle>, text: &mut String) -> AllocResult<()>
     ensures { OnOk result (string_bytes text.new ≡ string_bytes text.old ++ trailed (length_member place.now)) }
 {
@@ -290,14 +294,14 @@ fn append_block_length(place: &Option<FileBlockHandle>, text: &mut String) -> Al
     }
 }
 
-/// Appends the word `entries`, as the last member of an object.
+/// Appends `entries` as the last member, which says what the item is, and the brace that closes the object.
 fn append_entries_word(text: &mut String) -> AllocResult<()>
     ensures { OnOk result (string_bytes text.new ≡ string_bytes text.old ++ (member_text entries_member ++ codes "}")) }
 {
     text.push_str("\"what\":\"entries\"}")
 }
 
-/// Appends the bytes of the selected entries as a list, where values are selected.
+/// Appends the list of the selected entries, with their bytes, as a member if values are selected; else nothing.
 fn append_entries_if_asked(
     part: &FilePart,
     entries: &[EntryIndex],
@@ -319,7 +323,7 @@ fn append_entries_if_asked(
     Ok(())
 }
 
-/// Appends the bytes of the selected entries, with a comma between each two.
+/// Appends the objects of the selected entries, with a comma between each two.
 fn append_entry_list(
     part: &FilePart,
     entries: &[EntryIndex],
@@ -339,8 +343,8 @@ fn append_entry_list(
     Ok(())
 }
 
-/// Appends the bytes of an entry, if it is selected; `later` says whether another is in front. Returns whether one is in front of the next
-/// entry.
+/// Appends the object of an entry if it is selected, after a comma if `later` is set: another entry comes before it in the list. Returns
+/// whether an entry comes before the next one.
 fn append_entry_if_selected(
     part: &FilePart,
     entry: &EntryIndex,
@@ -364,7 +368,7 @@ fn append_entry_if_selected(
     Ok(true)
 }
 
-/// Appends the entry with this index, with its bytes in base 16, or why they can't be read.
+/// Appends the object of the entry with the index `index`: its bytes in hex, or `null` and the reason why they can't be read.
 fn append_entry(
     alloc: Global,
     index: u64,
@@ -379,7 +383,7 @@ fn append_entry(
     }
 }
 
-/// Appends the entry with this index, with its bytes in base 16.
+/// Appends the object of the entry with the index `index`, whose bytes could be read; they are in hex.
 fn append_entry_bytes(alloc: Global, index: u64, bytes: &[u8], text: &mut String) -> AllocResult<()>
     ensures { OnOk result (string_bytes text.new ≡ string_bytes text.old ++ compact_text (read_data index bytes.now)) }
 {
@@ -387,7 +391,7 @@ fn append_entry_bytes(alloc: Global, index: u64, bytes: &[u8], text: &mut String
     write!(text, "{{\"bytes\":{bytes},\"index\":{index}}}")
 }
 
-/// Appends the JSON object of the entry `index`, without bytes (`null`), and why they can't be read.
+/// Appends the object of the entry with the index `index`, whose bytes can't be read: `null` in place of them, and the reason.
 fn append_entry_loss(alloc: Global, index: u64, loss: Loss, text: &mut String) -> AllocResult<()>
     ensures { OnOk result (string_bytes text.new ≡ string_bytes text.old ++ compact_text (lost_entry_data index loss)) }
 {

@@ -1,5 +1,5 @@
-//! Tables, and what they need of files, as lines of JSON. Each call fails for want of memory alone; one that appends may then have
-//! appended a part.
+//! Tables, and what they need of files, as lines of JSON. Each call fails for want of memory alone; one that appends may then have appended
+//! some of its text.
 
 ghost use Rattle.std.specs.Prelude.{◌≡◌, ◌++◌, flat_map, map, option_copied, string_bytes, IfErr, IfOk, OnOk};
 ghost use Rattle.raft_report.specs.JsonData.{count, json_line, list_of};
@@ -14,11 +14,11 @@ use raft_reading::FileSize;
 use raft_recover::{MemTable, MemTableAccessor};
 use std::alloc::Global;
 
-/// Appends the line of the table of a region; `keys` says whether its keys and their values are printed too, in base 16.
+/// Appends the line of a region's table. With `keys` it lists the keys and their values, in hex; else `null` stands in their place.
 ///
 /// # Errors
 ///
-/// `Memory`. Some of it may then be appended.
+/// `Memory`. Some of the line may then be appended.
 pub fn append_json_region(
     alloc: Global,
     table: &MemTable,
@@ -35,14 +35,14 @@ pub fn append_json_region(
     Ok(append_table(table, pairs.as_str(), text)?)
 }
 
-/// Appends the line of a table, without its pairs.
+/// Appends the line of a table, with `null` in place of its keys and values.
 fn append_bare_table(table: &MemTable, text: &mut String) -> AllocResult<()>
     ensures { OnOk result (string_bytes text.new ≡ string_bytes text.old ++ table_json table.now) }
 {
     append_table(table, "null", text)
 }
 
-/// Appends the line of a table, with the text `pairs` for its pairs.
+/// Appends the line of a table, with the text `pairs` for the list of its keys and values.
 fn append_table(table: &MemTable, pairs: &str, text: &mut String) -> AllocResult<()>
     ensures { OnOk result (string_bytes text.new ≡ string_bytes text.old ++ region_json table.now pairs.now) }
 {
@@ -51,7 +51,8 @@ fn append_table(table: &MemTable, pairs: &str, text: &mut String) -> AllocResult
     append_table_back(table, text)
 }
 
-/// Appends the line of a table up to its pairs: its oldest append file, its first and last index, and how many keys it has.
+/// Appends the members of a table's line up to its pairs: its oldest append file, the first index, the number of keys, and the last index.
+/// What there is none of is `null`.
 fn append_table_front(table: &MemTable, text: &mut String) -> AllocResult<()>
     ensures { OnOk result (string_bytes text.new ≡ string_bytes text.old ++ table_front table.now) }
 {
@@ -64,7 +65,7 @@ fn append_table_front(table: &MemTable, text: &mut String) -> AllocResult<()>
     )
 }
 
-/// Appends the rest of the line of a table, behind its pairs: its region, and its oldest rewrite file.
+/// Appends the members of a table's line after its pairs: the region, and its oldest rewrite file, `null` if there is none. Ends the line.
 fn append_table_back(table: &MemTable, text: &mut String) -> AllocResult<()>
     ensures { OnOk result (string_bytes text.new ≡ string_bytes text.old ++ table_back table.now) }
 {
@@ -73,25 +74,25 @@ fn append_table_back(table: &MemTable, text: &mut String) -> AllocResult<()>
     writeln!(text, ",\"region\":{region},\"rewrite\":{rewrite}}}")
 }
 
-/// Returns the first index of a table; `None` where it has no entries.
+/// Returns the first index of a table; `None` if it has no entries.
 fn first_of(table: &MemTable) -> Option<u64>
     ensures { result ≡ first_of table.now.entries }
 {
     table.first_index()
 }
 
-/// Returns the last index of a table; `None` where it has no entries.
+/// Returns the last index of a table; `None` if it has no entries.
 fn last_of(table: &MemTable) -> Option<u64>
     ensures { result ≡ last_of table.now.entries }
 {
     table.last_index()
 }
 
-/// Returns the keys of a region with their values, as a list.
+/// Returns the keys of a table with their values as a list of JSON, in the order of the keys. Both are in hex.
 ///
 /// # Errors
 ///
-/// `Memory`.
+/// `Memory` alone.
 fn pairs_text(alloc: Global, table: &MemTable) -> Result<String>
     ensures memory { IfErr result (λ e. e ≡ Error.Memory) }
 {
@@ -112,7 +113,7 @@ fn pairs_text(alloc: Global, table: &MemTable) -> Result<String>
     }
 }
 
-/// Appends a key with its value; `later` says whether another pair is in front.
+/// Appends a key with its value as an object; after a comma if `later` is set: another pair comes before it.
 fn append_pair(
     alloc: Global,
     later: bool,
@@ -128,12 +129,12 @@ fn append_pair(
     write!(text, "{{\"key\":{key},\"value\":{value}}}")
 }
 
-/// Returns the lines of all tables, by rising region and without their pairs, and the line of the cleaned regions and of how many records
-/// are live in each queue.
+/// Returns the lines of all tables by rising region id, without their keys and values, and as the last line the cleaned regions and the
+/// number of live records of each queue.
 ///
 /// # Errors
 ///
-/// `Memory`.
+/// `Memory` alone.
 pub fn tables_as_json(alloc: Global, accessor: &MemTableAccessor) -> Result<String>
     ensures ok { IfOk result (λ text. IsJsonOfTables accessor.now (string_bytes text)) }
     ensures memory { IfErr result (λ e. e ≡ Error.Memory) }
@@ -146,7 +147,7 @@ pub fn tables_as_json(alloc: Global, accessor: &MemTableAccessor) -> Result<Stri
     Ok(text)
 }
 
-/// Appends the line of each table, without its pairs.
+/// Appends the line of each table, with `null` in place of its keys and values.
 fn append_json_tables(tables: &[&MemTable], text: &mut String) -> AllocResult<()>
     ensures { OnOk result (string_bytes text.new
         ≡ string_bytes text.old ++ flat_map table_json (map (λ t. t.now) tables.now)) }
@@ -157,7 +158,7 @@ fn append_json_tables(tables: &[&MemTable], text: &mut String) -> AllocResult<()
     Ok(())
 }
 
-/// Appends the line of the cleaned regions and of how many records are live in each queue.
+/// Appends the last line of a listing of tables: the cleaned regions, and the number of live records of each queue.
 fn append_json_totals(accessor: &MemTableAccessor, text: &mut String) -> AllocResult<()>
     ensures { OnOk result (string_bytes text.new ≡ string_bytes text.old ++ json_line (totals_data accessor.now)) }
 {
@@ -171,11 +172,12 @@ fn append_json_totals(accessor: &MemTableAccessor, text: &mut String) -> AllocRe
     )
 }
 
-/// Appends a line for each file of a queue: its bytes, how many of them are live entries, and the regions whose oldest file it is.
+/// Appends a line for each file of `sizes`: its length, how many of its bytes are those of live entries, and the regions whose oldest file
+/// it is. `uses` has what the tables need of the files of `queue`.
 ///
 /// # Errors
 ///
-/// Want of memory. Some lines may then be appended.
+/// Fails only if there is no memory. Some lines may then be appended.
 pub fn append_json_uses(
     queue: LogQueue,
     sizes: &[FileSize],
@@ -190,7 +192,7 @@ pub fn append_json_uses(
     Ok(())
 }
 
-/// Appends the line of a file; `file_use` is `None` where no table needs it.
+/// Appends the line of one file. `file_use` is `None` if no table needs the file.
 fn append_json_file_use(
     queue: LogQueue,
     size: &FileSize,
@@ -208,7 +210,7 @@ fn append_json_file_use(
     text.push_str("}\n")
 }
 
-/// Appends the regions whose oldest file it is, as a list; an empty one for `None`.
+/// Appends the list of the regions whose oldest file it is; an empty one for `None`.
 fn append_region_numbers(file_use: Option<&FileUse>, text: &mut String) -> AllocResult<()>
     ensures { OnOk result (string_bytes text.new
         ≡ string_bytes text.old ++ compact_text (list_of (map count (regions_of (option_copied file_use.entry))))) }

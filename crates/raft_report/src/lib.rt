@@ -1,4 +1,4 @@
-//! The lines of what is found in log files, as text and as JSON, and a picture of the files. Nothing here changes a file.
+//! Makes lines, as text or as JSON, of what is found in log files, and a picture of the files. Nothing here changes a file.
 #![tactic(auto)]
 
 pub mod form;

@@ -1,28 +1,30 @@
-//! The files of both queues as a picture in SVG. Each call that appends fails for want of memory alone, and a part may then be appended.
+//! The files of both queues as a picture in SVG. Each call that appends fails for want of memory alone, and some of its text may then be
+//! appended.
 
 use crate::uses::{FileUse, FileUses, append_regions_of, live_in, share_of};
 use raft_base::{AllocResult, LogQueue};
 use raft_reading::FileSize;
 use raft_replay::segment::queue_name;
 
-/// How wide the bar of the largest file is, in pixels.
+/// The width of the largest file's bar, in pixels.
 const WIDTH: u64 = 480;
 
-/// How high a line is, in pixels.
+/// The height of a line, in pixels.
 const LINE: u64 = 24;
 
 /// Where bars begin, in pixels from the left.
 const LEFT: u64 = 150;
 
-/// Where what is said of a file begins, in pixels from the left.
+/// Where the words to the right of a bar begin, in pixels from the left.
 const BEHIND: u64 = LEFT + WIDTH + 12;
 
-/// Appends the files of both queues as a picture in SVG: for each a bar as long as the file beside the largest one, filled as far as
-/// entries in it are live, with the regions whose oldest file it is.
+/// Appends the files of both queues as a picture in SVG. `append` and `rewrite` are each queue's files, with what the tables need of them.
+/// Each file has a line with a bar: its length is that of the file beside the largest one of both queues, its filled part the bytes of live
+/// entries. The regions whose oldest file it is stand to its right.
 ///
 /// # Errors
 ///
-/// Want of memory. Some of it may then be appended.
+/// Fails only if there is no memory. Some of the picture may then be appended.
 pub fn append_picture(
     append: (&[FileSize], &FileUses),
     rewrite: (&[FileSize], &FileUses),
@@ -50,7 +52,7 @@ pub fn append_picture(
     text.push_str("</svg>\n")
 }
 
-/// Returns how many bytes the largest file has; 0 without files.
+/// Returns the length in bytes of the largest file; 0 if there are no files.
 fn largest_of(sizes: &[FileSize]) -> u64 {
     let mut largest = 0;
     for size in sizes {
@@ -59,7 +61,8 @@ fn largest_of(sizes: &[FileSize]) -> u64 {
     largest
 }
 
-/// Appends the files of a queue, one a line, from the line `first_line` on.
+/// Appends the files of a queue, one a line. The first of them goes to the line `first_line`, counted from 0. `largest` is the length in
+/// bytes to which bars are compared.
 fn append_files(
     queue: LogQueue,
     files: (&[FileSize], &FileUses),
@@ -75,7 +78,8 @@ fn append_files(
     Ok(())
 }
 
-/// Appends the bar of a file on a line, with its name in front of it and what is live of it behind it.
+/// Appends the line of one file: its name, its bar, and to the right of it how much of the file is live and which regions have it as their
+/// oldest. `file_use` is `None` if no table needs the file.
 fn append_file(
     queue: LogQueue,
     size: &FileSize,
@@ -97,7 +101,8 @@ fn append_file(
     text.push_str("</text>\n")
 }
 
-/// Appends a bar that is as long as `len` bytes beside `largest`, and filled as far as `live` of them are live; its top is at `y`.
+/// Appends the bar of a file of `len` bytes, of which `live` are those of live entries. Both are drawn as parts of `largest` bytes. `y` is
+/// the top of the bar in pixels; the queue decides its colour.
 fn append_bar(
     queue: LogQueue,
     (len, live): (u64, u64),

@@ -1,4 +1,4 @@
-//! Why something isn't printed to its end.
+//! The reasons why something isn't printed to its end.
 
 ghost use Rattle.std.specs.Prelude.{◌≡◌, IfErr, OnErr, OnOk};
 ghost use Rattle.std.specs.Io.KnownBytes.{Appends};
@@ -14,7 +14,7 @@ use std::io::Write;
 /// The reason why something isn't printed to its end.
 #[derive(Debug, Drop)]
 pub enum PrintError {
-    /// The files are refused, or can't be read; or memory is wanting.
+    /// The files are refused or can't be read, or there is no memory.
     Files(Error),
     /// The output takes no more.
     Output(io::Error),
@@ -29,6 +29,7 @@ impl From<Error> for PrintError {
 
     ghost from_gives = { λ e r. r ≡ Files e };
 
+    /// Returns the error as one about the files.
     fn from(e: Error) -> PrintError {
         PrintError::Files(e)
     }
@@ -41,6 +42,7 @@ impl From<AllocError> for PrintError {
 
     ghost from_gives = { λ _ r. r ≡ Files Memory };
 
+    /// Returns `Files` of `Memory`.
     fn from(_e: AllocError) -> PrintError {
         PrintError::Files(Error::Memory)
     }
@@ -53,6 +55,7 @@ impl<T: Drop> From<AllocFailed<T>> for PrintError {
 
     ghost from_gives = { λ _ r. r ≡ Files Memory };
 
+    /// Returns `Files` of `Memory`. What couldn't be stored is dropped.
     fn from(_e: AllocFailed<T>) -> PrintError {
         PrintError::Files(Error::Memory)
     }
@@ -62,7 +65,7 @@ impl<T: Drop> From<AllocFailed<T>> for PrintError {
 ///
 /// # Errors
 ///
-/// `Output`. A prefix of the text, but not all of it, is then written.
+/// `Output` alone. A prefix of the text, but not all of it, is then written.
 pub fn write_text<W: Write>(out: &mut W, text: &str) -> PrintResult<()>
     ensures ok { OnOk result (Appends (W.contents out.old) (W.contents out.new) text.now) }
     ensures err { OnErr result (AppendsFront (W.contents out.old) (W.contents out.new) text.now) }

@@ -5,7 +5,7 @@ ghost use Rattle.std.specs.List.Sorted.{IsNonDecreasingBy};
 
 use raft_recover::MemTable;
 
-/// Sorts tables by rising region.
+/// Sorts tables by their region ids, the lowest first.
 pub(crate) fn sort_by_region(tables: &mut Vec<&MemTable>)
     ensures moved { IsPermutation tables.old.items tables.new.items }
     ensures rises { IsNonDecreasingBy (λ t. t.now.region_id) tables.new.items }

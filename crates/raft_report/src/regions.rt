@@ -1,11 +1,12 @@
-//! The keys of a region.
+//! The keys of a region as text.
 
 use raft_base::{AllocResult, Error, Result};
 use raft_listing::append_shown;
 use raft_recover::MemTable;
 use std::alloc::Global;
 
-/// Appends a line for each key of a region's table: how many bytes its value has, or with `values` the value.
+/// Appends a line for each key of a region's table, in the order of the keys: the key, and how many bytes its value has. With `values` the
+/// value itself is shown in place of its length.
 ///
 /// # Errors
 ///
@@ -22,11 +23,11 @@ pub fn append_keys(alloc: Global, table: &MemTable, values: bool, text: &mut Str
     }
 }
 
-/// Appends the line of a key: how many bytes its value has, or with `values` the value.
+/// Appends the line of one key: the key, and how many bytes its value has, or with `values` the value itself.
 ///
 /// # Errors
 ///
-/// Want of memory. A part may then be appended.
+/// Fails only if there is no memory. Some of the line may then be appended.
 fn append_key(
     alloc: Global,
     key: &[u8],

@@ -1,5 +1,5 @@
-//! How much of each file is live, and which regions hold it. Each call fails for want of memory alone; one that appends may then have
-//! appended a part.
+//! How many bytes of each file are live, and which regions have their oldest records there. Each call fails for want of memory alone; one
+//! that appends may then have appended some of its text.
 
 ghost use Rattle.std.specs.Prelude.{◌≡◌, option_copied};
 ghost use Rattle.raft_report.specs.JsonLines.{live_in};
@@ -12,30 +12,30 @@ use raft_replay::segment::queue_name;
 use std::alloc::Global;
 use std::collections::BTreeMap;
 
-/// How wide the bar of a file is.
+/// The length of a file's bar, in characters.
 const BAR_LEN: u64 = 40;
 
-/// How many regions are named for a file at most.
+/// The greatest number of regions that are named for a file.
 const NAMED_REGIONS: usize = 10;
 
-/// What tables need of a file.
+/// What the tables need of a file.
 #[derive(Drop)]
 pub struct FileUse {
-    /// How many bytes of entries in it are live.
+    /// The number of bytes of live entries in it. Key values, headers and items aren't counted.
     pub live: u64,
-    /// The regions whose oldest file of the queue it is.
+    /// The regions whose oldest file of the queue it is, by [`MemTable::min_file_seq`], by rising id.
     pub regions: Vec<u64>,
 }
 
-/// What tables need of the files of a queue, by their numbers.
+/// The files of a queue that tables need, by their numbers, with what is needed of each.
 pub type FileUses = BTreeMap<FileSeq, FileUse>;
 
-/// Returns which files of `queue` the tables need, by their numbers: how many bytes of live entries each file has, and which
-/// regions have their oldest record there. A file with neither isn't in the result.
+/// Returns which files of `queue` the tables need, by their numbers: how many bytes of live entries each file has, and which regions have
+/// their oldest record there. A file with neither isn't in the result.
 ///
 /// # Errors
 ///
-/// `Memory`.
+/// `Memory` alone.
 pub fn uses_of(alloc: Global, tables: &MemTableAccessor, queue: LogQueue) -> Result<FileUses> {
     let mut uses = BTreeMap::new(alloc);
     let mut tables = tables.tables()?;
@@ -46,7 +46,11 @@ pub fn uses_of(alloc: Global, tables: &MemTableAccessor, queue: LogQueue) -> Res
     Ok(uses)
 }
 
-/// Adds to `uses` what a table needs of the files of a queue.
+/// Adds to `uses` what one table needs of the files of `queue`: the bytes of its entries in each, and its region to its oldest file.
+///
+/// # Errors
+///
+/// `Memory` alone. Some of it may have been added then.
 fn add_table(alloc: Global, table: &MemTable, queue: LogQueue, uses: &mut FileUses) -> Result<()> {
     for block in table.blocks() {
         if block.handle.id.queue == queue {
@@ -66,7 +70,7 @@ fn add_table(alloc: Global, table: &MemTable, queue: LogQueue, uses: &mut FileUs
     Ok(())
 }
 
-/// Adds `live` bytes to those that are live in a file.
+/// Adds `live` to the bytes of live entries in the file `id`, which gets an element of `uses` if it has none. The queue of `id` is ignored.
 fn add_live(alloc: Global, id: FileId, live: u64, uses: &mut FileUses) -> Result<()> {
     match uses.get_mut(&id.seq) {
         Some(file_use) => file_use.live = file_use.live.saturating_add(live),
@@ -78,11 +82,12 @@ fn add_live(alloc: Global, id: FileId, live: u64, uses: &mut FileUses) -> Result
     Ok(())
 }
 
-/// Appends a line for each file: its bytes, a bar for how much of them are live entries, and the regions whose oldest file it is.
+/// Appends a line for each file of `sizes`: its length, a bar that shows how much of it is live entries, and the regions whose oldest file
+/// it is. `uses` has what the tables need of the files of `queue`.
 ///
 /// # Errors
 ///
-/// Want of memory. Some lines may then be appended.
+/// Fails only if there is no memory. Some lines may then be appended.
 pub fn append_uses(
     queue: LogQueue,
     sizes: &[FileSize],
@@ -95,7 +100,7 @@ pub fn append_uses(
     Ok(())
 }
 
-/// Appends the line of a file; `file_use` is `None` where no table needs it.
+/// Appends the line of one file. `file_use` is `None` if no table needs the file.
 fn append_use(
     queue: LogQueue,
     size: &FileSize,
@@ -107,7 +112,7 @@ fn append_use(
     text.push('\n')
 }
 
-/// Returns how many bytes of entries are live in a file; 0 for `None`.
+/// Returns the number of bytes of live entries in a file; 0 for `None`.
 pub(crate) fn live_in(file_use: Option<&FileUse>) -> u64
     ensures { result ≡ live_in (option_copied file_use.entry) }
 {
@@ -117,7 +122,7 @@ pub(crate) fn live_in(file_use: Option<&FileUse>) -> u64
     }
 }
 
-/// Appends the beginning of the line of a file: its name, its size, a bar, and how much of it is live.
+/// Appends the start of a file's line: its name, its length, a bar, and how many of its bytes are those of live entries.
 fn append_bar(queue: LogQueue, size: &FileSize, live: u64, text: &mut String) -> AllocResult<()> {
     let name = queue_name(queue);
     write!(text, "{name:<7} {:>6} {:>12} B |", size.seq, size.len)?;
@@ -129,7 +134,7 @@ fn append_bar(queue: LogQueue, size: &FileSize, live: u64, text: &mut String) ->
     write!(text, "| {percent:>3} % live, {live} B of entries")
 }
 
-/// Returns how many of `parts` equal parts of `whole` are filled by `some` of it, all at most; 0 where the whole is 0.
+/// Returns how many of `parts` equal parts of `whole` are filled by `some`, rounded down and at most `parts`. Returns 0 if `whole` is 0.
 pub(crate) fn share_of(some: u64, whole: u64, parts: u64) -> u64 {
     match some.saturating_mul(parts).checked_div(whole) {
         Some(share) => share.min(parts),
@@ -137,11 +142,11 @@ pub(crate) fn share_of(some: u64, whole: u64, parts: u64) -> u64 {
     }
 }
 
-/// Appends the regions whose oldest file it is; nothing for `None`, and where there are no such regions.
+/// Appends the regions whose oldest file it is, with words in front of them; nothing for `None`, or if there are no such regions.
 ///
 /// # Errors
 ///
-/// Want of memory. Some of it may then be appended.
+/// Fails only if there is no memory. Some of the text may then be appended.
 pub(crate) fn append_regions_of(file_use: Option<&FileUse>, text: &mut String) -> AllocResult<()> {
     match file_use {
         Some(file_use) => append_regions(file_use.regions.as_slice(), text),
@@ -149,7 +154,8 @@ pub(crate) fn append_regions_of(file_use: Option<&FileUse>, text: &mut String) -
     }
 }
 
-/// Appends regions whose oldest file it is, ten of them at most, and how many more there are.
+/// Appends words for the regions whose oldest file it is: at most ten of them by their ids, and how many more there are. Appends nothing
+/// for no regions.
 fn append_regions(regions: &[u64], text: &mut String) -> AllocResult<()> {
     if regions.is_empty() {
         return Ok(());

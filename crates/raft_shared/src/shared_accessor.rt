@@ -1,4 +1,4 @@
-//! The tables of all regions, shared by threads.
+//! The tables of all regions, which several threads use at the same time.
 
 ghost use Rattle.std.specs.Prelude.{◌≡◌, ◌≢◌, ◌⊎◌, ◌≤◌, ◌<◌, ℕ, List, [], ◌++◌, length, map, Some, None, IsTrue, OnOk, IfOk, IfErr, IfSome};
 ghost use Rattle.raft_shared.specs.Common.{AllByRecursion, FoldsTo, FnOnceReturnsAt, Drains, Yields, IsFinite, write_guard_value, LogItem, item_of, is_open, TableChange, Table, slot_of, table_in, AreCountsOf, IsSlotTable, HaveShares};
@@ -14,11 +14,12 @@ use raft_table::{MemTable, TableChange};
 use std::alloc::Global;
 use std::sync::{RwLock, RwLockWriteGuard, Wait};
 
-/// The tables of all regions in 128 slots, each under a lock of its own. A call holds one lock at a
-/// time, and each item is one hold of it; a walk over all slots goes slot by slot, so that it sees
-/// what other threads write meanwhile in part.
+/// The tables of all regions in 128 slots, each under a lock of its own. A call holds one lock at a time, and
+/// takes it anew for each item that it writes. A walk over all slots goes slot by slot, so it may see a part
+/// of what other threads write meanwhile.
 #[derive(Drop)]
 pub struct SharedAccessor {
+    /// The slots, slot n at index n.
     slots: [RwLock<Slot>; 128],
     alloc: Global,
 }
@@ -36,11 +37,11 @@ impl SharedAccessor {
         }
     }
 
-    /// Returns an accessor that has the tables, the counts and the cleaned regions of `core`.
+    /// Returns an accessor with the tables, the live counts and the cleaned regions of `core`.
     ///
     /// # Errors
     ///
-    /// `Memory` alone. The tables are lost then.
+    /// `Memory` alone. The tables are dropped then.
     pub fn from_core(alloc: Global, core: MemTableAccessor) -> Result<SharedAccessor>
         ensures { IfErr result (λ e. e ≡ Error.Memory) }
     {
@@ -52,13 +53,13 @@ impl SharedAccessor {
         Ok(shared)
     }
 
-    /// Returns the tables, the counts and the cleaned regions in one accessor, the opposite of
-    /// [`SharedAccessor::from_core`]. The cleaned regions are in order within each slot.
+    /// Returns the tables, the live counts and the cleaned regions in one accessor, the opposite of
+    /// [`SharedAccessor::from_core`]. The cleaned regions are in order within each slot, not among slots.
     ///
     /// # Errors
     ///
-    /// `Memory`; `Full` if more than 2^64 - 1 records of all slots together are live in a queue; `Failed` if
-    /// a slot has another number, which never happens. The tables are lost then.
+    /// `Memory`; `Full` if a queue has more than 2^64 - 1 live records in all slots together; `Failed` if a
+    /// slot has another number than its place, which never happens. The tables are dropped then.
     pub fn into_core(self) -> Result<MemTableAccessor>
         ensures exact_counts { IfOk result (λ core. AreCountsOf core.tables core.counts) }
         ensures fault { IfErr result (λ e. IsLockFault e ⊎ (e ≡ Error.Full)) }
@@ -73,7 +74,7 @@ impl SharedAccessor {
     }
 
     /// Calls `f` with the table of the region `id`, under the lock of its slot for reading, and returns what
-    /// `f` returns. Returns `None` if the region has no table.
+    /// `f` returns. Returns `None`, without a call, if the region has no table.
     pub fn with_table<X: Drop, F: FnOnce(&MemTable) -> X, R: Wait>(
         &self,
         rt: &R,
@@ -95,12 +96,12 @@ impl SharedAccessor {
     }
 
     /// Calls `f` with the table of the region `id`, or with an empty one if it has none, and makes the change
-    /// that `f` returns, all under the lock of its slot for writing. The table is made if there is none.
-    /// Returns how many entries a compaction or a truncation dropped, and 0 for any other change.
+    /// that `f` returns, all under the lock of its slot for writing. A table that isn't there is made for the
+    /// change. Returns how many entries a compaction or a truncation dropped, and 0 for any other change.
     ///
     /// # Errors
     ///
-    /// Those of [`Slot::change`], and `Failed` if a slot has another number, which never happens. The tables
+    /// Those of [`Slot::change`]; `Failed` if the slot has another number, which never happens. The tables
     /// are unchanged then.
     pub fn with_table_mut<F: FnOnce(&MemTable) -> TableChange, R: Wait>(
         &self,
@@ -117,12 +118,12 @@ impl SharedAccessor {
         change_by(&mut *self.lock(rt, id)?, self.alloc, id, f)
     }
 
-    /// Makes one change of the table of the region `id`, which is made if there is none. Returns how many
-    /// entries a compaction or a truncation dropped, and 0 for any other change.
+    /// Makes one change of the table of the region `id`, for which an empty one is made first if it has none.
+    /// Returns how many entries a compaction or a truncation dropped, and 0 for any other change.
     ///
     /// # Errors
     ///
-    /// Those of [`Slot::change`], and `Failed` if a slot has another number, which never happens. The tables
+    /// Those of [`Slot::change`]; `Failed` if the slot has another number, which never happens. The tables
     /// are unchanged then.
     #[tactic(auto, using(crate::proofs::SharedLemmas::number_of, crate::proofs::SharedLemmas::refusal_of))]
     pub fn change<R: Wait>(&self, rt: &R, id: u64, change: TableChange) -> Result<u64>
@@ -138,25 +139,25 @@ impl SharedAccessor {
         )
     }
 
-    /// Makes an empty table for the region `id`, unless it has one.
+    /// Makes an empty table for the region `id`, unless it has one. Unlike the call of this name of an
+    /// accessor it returns no table: [`SharedAccessor::with_table`] shows it.
     ///
     /// # Errors
     ///
-    /// `Memory`, and `Failed` if a slot has another number, which never happens. The tables are unchanged
-    /// then.
+    /// `Memory`; `Failed` if the slot has another number, which never happens. The tables are unchanged then.
     pub fn get_or_insert<R: Wait>(&self, rt: &R, id: u64) -> Result<()>
         ensures { IfErr result IsLockFault }
     {
         self.lock(rt, id)?.get_or_insert(id)
     }
 
-    /// Puts `table` under its region's id, in place of the one that is there, which is returned, and counts
-    /// the change.
+    /// Puts `table` under its region's id `id`, and counts its records as live. Returns the table that it
+    /// replaces, whose records are no longer counted, or `None` if there was none.
     ///
     /// # Errors
     ///
-    /// Those of [`Slot::insert`], and `Failed` if a slot has another number, which never happens. The tables
-    /// are unchanged then.
+    /// Those of [`Slot::insert`]; `Failed` if the slot has another number, which never happens. The tables
+    /// are unchanged then, and `table` is dropped.
     pub fn insert<R: Wait>(&self, rt: &R, id: u64, table: MemTable) -> Result<Option<MemTable>>
         requires { table.region_id ≡ id }
         ensures handed_back { IfOk result (λ t. IfSome t (IsSlotTable (slot_of id) id)) }
@@ -165,14 +166,14 @@ impl SharedAccessor {
         self.lock(rt, id)?.insert(id, table)
     }
 
-    /// Removes the table of the region `id` and returns it, or `None` if it has none, and subtracts its
-    /// records from the live counts. With `record_tombstone` the region is listed as cleaned, even if it has
-    /// no table.
+    /// Removes the table of the region `id` and returns it, or `None` if there is none. Its records are
+    /// subtracted from the live counts. With `record_tombstone` the region is also listed as cleaned, even if
+    /// it has no table.
     ///
     /// # Errors
     ///
-    /// `Memory`, only if the region is to be listed, and `Failed` if a slot has another number, which never
-    /// happens. Nothing has changed then.
+    /// `Memory`, which can come only with `record_tombstone`; `Failed` if the slot has another number, which
+    /// never happens. Nothing has changed then.
     pub fn remove<R: Wait>(
         &self,
         rt: &R,
@@ -186,15 +187,14 @@ impl SharedAccessor {
         self.lock(rt, id)?.remove(id, record_tombstone)
     }
 
-    /// Sets the first and the last file of the atomic group of the region `id` to `start` and `end`, of
-    /// which `start` is the lesser or the same. Its table is made if there is none. Call it once the End of
-    /// the group is written, for each region that the group names ([`MemTable::apply_rewrite_atomic_group`]
-    /// says why).
+    /// Sets the first and the last file of the atomic group of the region `id` in the rewrite queue to
+    /// `start` and `end`, of which `start` is the lesser or the same. If the region has no table, an empty
+    /// one is made first. Call it for each region that a group names, once the End of the group is written
+    /// ([`MemTable::apply_rewrite_atomic_group`] says why).
     ///
     /// # Errors
     ///
-    /// `Memory`, and `Failed` if a slot has another number, which never happens. The tables are unchanged
-    /// then.
+    /// `Memory`; `Failed` if the slot has another number, which never happens. The tables are unchanged then.
     pub fn apply_rewrite_atomic_group<R: Wait>(
         &self,
         rt: &R,
@@ -209,13 +209,14 @@ impl SharedAccessor {
             .apply_rewrite_atomic_group(id, start, end)
     }
 
-    /// Writes `items`, new ones of the append queue, which must come to an end, to the tables of their
-    /// regions, in order. The lock of a slot is taken for each item.
+    /// Writes `items`, new ones of the append queue, to the tables of their regions, in order. They must come
+    /// to an end. The lock of a slot is taken anew for each item.
     ///
     /// # Errors
     ///
-    /// Those of [`Slot::apply_append_write`] for the first item that is refused, and `Failed` if a slot has
-    /// another number, which never happens. The items before it are written.
+    /// Those of [`Slot::apply_append_write`] for the first item that is refused; `Failed` if a slot has
+    /// another number, which never happens. The items before it are written then; it and those after it are
+    /// not.
     pub fn apply_append_writes<I: IntoIterator<Item = LogItem>, R: Wait>(
         &self,
         rt: &R,
@@ -233,15 +234,17 @@ impl SharedAccessor {
         self.write_items(rt, Writing::Appending, items)
     }
 
-    /// Writes `items`, which must come to an end, to the tables of their regions, in order, as items that
-    /// were rewritten to the file numbered `new_file` of the rewrite queue. The lock of a slot is taken for
-    /// each item. `watermark` limits which places move: with one, those in append files numbered at or
-    /// below it; without one, those that are rewritten already.
+    /// Writes `items` to the tables of their regions, in order, as items that were rewritten to the file
+    /// numbered `new_file` of the rewrite queue. They must come to an end. The lock of a slot is taken anew
+    /// for each item. `watermark` limits what moves. With one, entries move whose file is numbered at or
+    /// below it; without one, those that are rewritten already. A key value in an append file moves only with
+    /// a watermark at or above that file, a rewritten one always.
     ///
     /// # Errors
     ///
-    /// Those of [`Slot::apply_rewrite_write`] for the first item that is refused, and `Failed` if a slot has
-    /// another number, which never happens. The items before it are written.
+    /// Those of [`Slot::apply_rewrite_write`] for the first item that is refused; `Failed` if a slot has
+    /// another number, which never happens. The items before it are written then; it and those after it are
+    /// not.
     pub fn apply_rewrite_writes<I: IntoIterator<Item = LogItem>, R: Wait>(
         &self,
         rt: &R,
@@ -264,13 +267,14 @@ impl SharedAccessor {
     /// Adds a `Clean` for each region that is listed as cleaned to `logs`, an open batch, and empties the
     /// lists, slot by slot.
     ///
-    /// The batch belongs in the rewrite queue, once the append queue is synced. So does what else takes
-    /// rewritten records away, which isn't listed: compactions, truncations, deletions of keys, and each run
-    /// that replaces entries, as the truncation at its first index.
+    /// Write the batch to the rewrite queue, once the append queue is synced: a recovery would else bring
+    /// back rewritten records of these regions. Other changes that take rewritten records away belong there
+    /// too, but aren't listed here: compactions, truncations, deletions of keys, and each run that replaces
+    /// entries, as a truncation at its first index.
     ///
     /// # Errors
     ///
-    /// `Memory` alone. Each cleaned region is still listed then, or in the batch.
+    /// `Memory` alone. Each cleaned region is either still listed then or in the batch.
     pub fn take_cleaned_region_logs<R: Wait>(&self, rt: &R, logs: &mut LogBatch) -> Result<()>
         requires { logs.old.stage ≡ is_open }
         ensures logs { HasCleans logs.old logs.new }
@@ -282,7 +286,7 @@ impl SharedAccessor {
         Ok(())
     }
 
-    /// Tests whether no region has a table, slot by slot: other threads may change one meanwhile.
+    /// Tests whether no region has a table, slot by slot. Other threads may change tables meanwhile.
     pub fn is_empty<R: Wait>(&self, rt: &R) -> bool {
         for slot in &self.slots {
             if !slot.read(rt).is_empty() {
@@ -292,8 +296,9 @@ impl SharedAccessor {
         true
     }
 
-    /// Returns what `f` makes of `init` and all tables: it is called with what it returned before, and each
-    /// table, in no set order. The lock of a slot is held for reading while `f` sees its tables.
+    /// Calls `f` with `init` and a table, then with what it returned and the next table, and so on, in no set
+    /// order. Returns what the last call returned, or `init` if there are no tables. The lock of a slot is
+    /// held for reading while `f` is called with its tables.
     pub fn fold<B: Drop, F: FnMut(B, &MemTable) -> B, R: Wait>(
         &self,
         rt: &R,
@@ -313,8 +318,8 @@ impl SharedAccessor {
         answer
     }
 
-    /// Returns the region ids of the tables for which `f` returns true, in no set order. The lock of a slot
-    /// is held for reading while `f` sees its tables.
+    /// Returns the ids of the regions for whose tables `f` returns true, in no set order. The lock of a slot
+    /// is held for reading while `f` is called with its tables.
     ///
     /// # Errors
     ///
@@ -338,8 +343,8 @@ impl SharedAccessor {
         Ok(ids)
     }
 
-    /// Returns how many records of all tables are live in `queue`, slot by slot: other threads may change the
-    /// count meanwhile.
+    /// Returns how many records of all tables are live in `queue`, entries and key values, counted slot by
+    /// slot. Other threads may change the counts meanwhile.
     pub fn live_entries<R: Wait>(&self, rt: &R, queue: LogQueue) -> u128 {
         let mut live: u128 = 0;
         for slot in &self.slots {
@@ -348,12 +353,12 @@ impl SharedAccessor {
         live
     }
 
-    /// Locks the slot of the region `id` for writing. It waits for the lock.
+    /// Locks the slot of the region `id` for writing, and returns the guard. It waits until the lock is free.
     ///
     /// # Errors
     ///
-    /// `Failed` if the slot has another number, which never happens: locks promise nothing of what they
-    /// guard.
+    /// `Failed` if the slot has another number, which never happens: it is tested because a lock promises
+    /// nothing of what it guards.
     fn lock<R: Wait>(&self, rt: &R, id: u64) -> Result<RwLockWriteGuard<'_, Slot>>
         ensures number { IfOk result (λ slot. (write_guard_value slot).number ≡ slot_of id) }
         ensures fault { IfErr result (λ e. e ≡ Error.Failed) }
@@ -366,12 +371,12 @@ impl SharedAccessor {
         Ok(slot)
     }
 
-    /// Writes items to the tables of their regions, in order, as `how` says.
+    /// Writes `items` to the tables of their regions, in order, as `how` says. They must come to an end.
     ///
     /// # Errors
     ///
     /// Those of [`write_item`](SharedAccessor::write_item) for the first item that is refused. The items
-    /// before it are written.
+    /// before it are written then; it and those after it are not.
     #[inline(always)]
     fn write_items<I: IntoIterator<Item = LogItem>, R: Wait>(
         &self,
@@ -398,8 +403,8 @@ impl SharedAccessor {
     ///
     /// # Errors
     ///
-    /// Those of the call of [`Slot`], and `Failed` if the slot has another number, which never happens. The
-    /// tables are unchanged then.
+    /// Those of [`Slot::apply_append_write`] or [`Slot::apply_rewrite_write`]; `Failed` if the slot has
+    /// another number, which never happens. The tables are unchanged then.
     #[inline(always)]
     fn write_item<R: Wait>(&self, rt: &R, how: Writing, item: LogItem) -> Result<()>
         ensures ok { OnOk result (MayBeWritten (writing_shown how) (item_of item)) }
@@ -409,13 +414,12 @@ impl SharedAccessor {
     }
 }
 
-/// Divides the tables and the cleaned regions of `core` among 128 slots, each at the index that is its
-/// number: a region goes to the slot that [`slot_of`] names. Cleaned regions keep their order within a
-/// slot.
+/// Divides the tables and the cleaned regions of `core` among 128 slots, and returns them, slot n at index n.
+/// A region goes to the slot that [`slot_of`] names. Cleaned regions keep their order within a slot.
 ///
 /// # Errors
 ///
-/// `Memory` alone. The tables are lost then.
+/// `Memory` alone. The tables are dropped then.
 fn share_out(alloc: Global, core: MemTableAccessor) -> Result<Vec<Slot>>
     ensures shares { IfOk result (λ slots. HaveShares core.tables core.cleaned 0 slots.items) }
     ensures all { IfOk result (λ slots. length slots.items ≡ 128) }
@@ -430,12 +434,12 @@ fn share_out(alloc: Global, core: MemTableAccessor) -> Result<Vec<Slot>>
     Ok(slots)
 }
 
-/// Divides the tables of `core` among 128 slots, each at the index that is its number. The cleaned regions
+/// Divides the tables of `core` among 128 slots, and returns them, slot n at index n. The cleaned regions
 /// stay with `core`.
 ///
 /// # Errors
 ///
-/// `Memory` alone. Some of the tables are lost then.
+/// `Memory` alone. Some of the tables are dropped then.
 fn share_tables(alloc: Global, core: &mut MemTableAccessor) -> Result<Vec<Slot>>
     ensures shares { IfOk result (λ slots. HaveShares core.old.tables [] 0 slots.items) }
     ensures all { IfOk result (λ slots. length slots.items ≡ 128) }
@@ -451,14 +455,13 @@ fn share_tables(alloc: Global, core: &mut MemTableAccessor) -> Result<Vec<Slot>>
     Ok(slots)
 }
 
-/// Moves the tables of a slot into `core`, and lists the slot's cleaned regions there, behind those that
-/// are listed.
+/// Moves the tables of a slot into `core`, and appends the slot's cleaned regions to the list of `core`.
 ///
 /// # Errors
 ///
-/// `Memory`; `Full` if more than 2^64 - 1 records would be live in a queue; `Failed` if the slot has a
-/// region that belongs to another slot, which never happens. Some of the cleaned regions may be listed and
-/// some of the tables moved then, and one table may be lost.
+/// `Memory`; `Full` if a queue would have more than 2^64 - 1 live records; `Failed` if the slot has a region
+/// that belongs to another slot, which never happens. Some of the cleaned regions may be listed and some of
+/// the tables moved then, and one table may be lost.
 fn move_slot(slot: &mut Slot, alloc: Global, core: &mut MemTableAccessor) -> Result<()>
     ensures tables { OnOk result
         (AreSlotTablesAdded slot.old core.old.tables core.new.tables) }
@@ -479,7 +482,8 @@ fn move_slot(slot: &mut Slot, alloc: Global, core: &mut MemTableAccessor) -> Res
     Ok(())
 }
 
-/// Lists the regions `ids`, which are those of the slot `number` that were cleaned, in `core`.
+/// Lists the regions `ids` as cleaned in `core`, in order, and removes the tables that they have there. They
+/// are those that the slot numbered `number` lists.
 ///
 /// # Errors
 ///
@@ -499,12 +503,12 @@ fn list_cleaned(number: usize, ids: &[u64], core: &mut MemTableAccessor) -> Resu
     Ok(())
 }
 
-/// Moves the table of the region `id`, if it has one, out of a slot into `core`.
+/// Moves the table of the region `id` out of a slot into `core`. Does nothing if the slot has none.
 ///
 /// # Errors
 ///
-/// `Memory`; `Full` if more than 2^64 - 1 records would be live in a queue; `Failed` if the region belongs
-/// to another slot, which never happens. The table may be lost then.
+/// `Memory`; `Full` if a queue would have more than 2^64 - 1 live records; `Failed` if the region belongs to
+/// another slot, which never happens. The table may be lost then.
 fn move_table(slot: &mut Slot, id: u64, core: &mut MemTableAccessor) -> Result<()>
     ensures moved { OnOk result ((t : Table) → finite.get slot.old.content.tables id ≡ Some t
         → core.new.tables ≡ finite.insert core.old.tables id t) }
@@ -525,8 +529,8 @@ fn move_table(slot: &mut Slot, id: u64, core: &mut MemTableAccessor) -> Result<(
     Ok(())
 }
 
-/// Calls `f` with the table of the region `id`, and returns what it returns, or `None` if the region has no
-/// table.
+/// Calls `f` with the table of the region `id` in `slot`, and returns what `f` returns. Returns `None`,
+/// without a call, if the region has no table.
 fn answer_of<X: Drop, F: FnOnce(&MemTable) -> X>(slot: &Slot, id: u64, f: F) -> Option<X>
 where
     F: Drop,
@@ -539,7 +543,8 @@ where
     Some(f(table))
 }
 
-/// Makes the change that `f` returns for the table of the region `id`, or for an empty one if it has none.
+/// Makes the change that `f` returns for the table of the region `id` in `slot`, or for an empty one if it
+/// has none. Returns how many entries a compaction or a truncation dropped, and 0 for any other change.
 ///
 /// # Errors
 ///
@@ -561,7 +566,8 @@ where
     slot.change(id, change)
 }
 
-/// Returns what `f` returns for the table of the region `id`, or for an empty one if it has none.
+/// Calls `f` with the table of the region `id` in `slot`, or with an empty one if it has none, and returns
+/// the change that `f` returns.
 fn answer_at<F: FnOnce(&MemTable) -> TableChange>(
     slot: &Slot,
     alloc: Global,

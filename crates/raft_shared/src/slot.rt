@@ -14,14 +14,17 @@ use raft_table::{GlobalStats, MemTable, TableChange};
 use std::alloc::Global;
 use std::marker::Model;
 
-/// The tables of the regions whose slot has one number, how many of their records are live, and those of
-/// them that were cleaned. Its calls do to these regions what the calls of `MemTableAccessor` do. A call
-/// may name a region of this slot alone.
+/// The tables of the regions that belong to one slot, with their live counts and the list of those of them
+/// that were cleaned. Its calls do to these regions what the calls of `MemTableAccessor` do to all. A call
+/// may name only a region of this slot ([`slot_of`](raft_accessor::slot_of)).
 #[derive(Drop)]
 pub struct Slot {
+    /// The number of the slot, from 0 to 127.
     number: usize,
     tables: RegionTables,
+    /// How many records of the slot's tables are live in each queue.
     stats: GlobalStats,
+    /// The ids of the slot's regions that were cleaned, in order.
     cleaned: Vec<u64>,
 }
 
@@ -41,7 +44,7 @@ impl Model for Slot {
 }
 
 impl Slot {
-    /// Returns the slot numbered `number`, below 128, without tables. It allocates nothing.
+    /// Returns the slot numbered `number`, below 128, without tables. It allocates nothing yet.
     pub fn new(alloc: Global, number: usize) -> Slot
         requires { number < 128 }
         ensures number { result.number ≡ number }
@@ -79,8 +82,9 @@ impl Slot {
         self.tables.is_empty()
     }
 
-    /// Returns what `f` makes of `init` and all tables of the slot: it is called with what it returned
-    /// before, and each table once, in no set order.
+    /// Calls `f` with `init` and a table of the slot, then with what it returned and the next table, and so
+    /// on, once for each table, in no set order. Returns what the last call returned, or `init` if there are
+    /// no tables.
     pub fn fold<B: Drop, F: FnMut(B, &MemTable) -> B>(&self, init: B, f: &mut F) -> B
         requires { (state : F) (x : _) (t : _) → F.pre state x t }
         ensures { (ts : List Table) × IsPermutation ts (finite.values self.now.content.tables)
@@ -89,7 +93,8 @@ impl Slot {
         self.tables.fold(init, f)
     }
 
-    /// Appends the region ids of the tables for which `wanted` returns true to `ids`, in no set order.
+    /// Appends the ids of the regions for whose tables `wanted` returns true to `ids`, in no set order.
+    /// `wanted` is called once with each table of the slot.
     ///
     /// # Errors
     ///
@@ -116,15 +121,16 @@ impl Slot {
         &self.stats
     }
 
-    /// Returns the regions of the slot that were cleaned, in order.
+    /// Returns the ids of the slot's regions that were cleaned, in the order in which they were listed. A
+    /// region may be listed twice.
     pub fn cleaned_regions(&self) -> &[u64]
         ensures { result.now ≡ self.now.content.cleaned }
     {
         self.cleaned.as_slice()
     }
 
-    /// States what every slot keeps: each table is under its region's id; all of these regions, and the
-    /// cleaned ones, are of this slot; and the live counts are those of its tables. This is a law: it
+    /// States what holds for every slot: each table is under its region's id; all of these regions, and the
+    /// cleaned ones, belong to this slot; and the live counts are those of its tables. This is a law: it
     /// computes nothing.
     pub fn holds_own_tables(&self)
         ensures { HoldsOwnTables self.now }
@@ -132,12 +138,13 @@ impl Slot {
         self.tables.tables_are_own();
     }
 
-    /// Makes one change of the table of the region `id`, which is made if there is none. Returns how many
-    /// entries a compaction or a truncation dropped, and 0 for any other change.
+    /// Makes one change of the table of the region `id`, for which an empty one is made first if it has none.
+    /// Returns how many entries a compaction or a truncation dropped, and 0 for any other change.
     ///
     /// # Errors
     ///
-    /// Those of [`MemTable::change`]; `Memory`. The tables are unchanged then.
+    /// Those of [`MemTable::change`]; `Memory`. Tables and counts are unchanged then, and no table has been
+    /// made.
     pub fn change(&mut self, id: u64, change: TableChange) -> Result<u64>
         requires { slot_of id ≡ self.old.number }
         ensures changed { IsTableChanged (after_change (table_in self.old.content.tables id) change)
@@ -153,7 +160,8 @@ impl Slot {
         self.tables.change(id, change, &mut self.stats)
     }
 
-    /// Makes an empty table for the region `id`, unless it has one.
+    /// Makes an empty table for the region `id`, unless it has one. It returns no table: [`Slot::table`]
+    /// does.
     ///
     /// # Errors
     ///
@@ -168,10 +176,10 @@ impl Slot {
         self.tables.make(id, &mut self.stats)
     }
 
-    /// Sets the first and the last file of the atomic group of the region `id` to `start` and `end`, of
-    /// which `start` is the lesser or the same. Its table is made if there is none. Call it once the End of
-    /// the group is written, for each region that the group names ([`MemTable::apply_rewrite_atomic_group`]
-    /// says why).
+    /// Sets the first and the last file of the atomic group of the region `id` in the rewrite queue to
+    /// `start` and `end`, of which `start` is the lesser or the same. If the region has no table, an empty
+    /// one is made first. Call it for each region that a group names, once the End of the group is written
+    /// ([`MemTable::apply_rewrite_atomic_group`] says why).
     ///
     /// # Errors
     ///
@@ -195,13 +203,13 @@ impl Slot {
             .apply_rewrite_atomic_group(id, start, end, &mut self.stats)
     }
 
-    /// Puts `table` under its region's id, in place of the one that is there, which is returned, and counts
-    /// the change.
+    /// Puts `table` under its region's id `id`, and counts its records as live. Returns the table that it
+    /// replaces, whose records are no longer counted, or `None` if there was none.
     ///
     /// # Errors
     ///
-    /// `Full` if more than 2^64 - 1 records would be live in a queue beside those of the table that is
-    /// replaced; `Memory`. The tables are unchanged then, and `table` is dropped.
+    /// `Full` if a queue would have more than 2^64 - 1 live records in this slot, those of the replaced table
+    /// counted too; `Memory`. Tables and counts are unchanged then, and `table` is dropped.
     pub fn insert(&mut self, id: u64, table: MemTable) -> Result<Option<MemTable>>
         requires slot { slot_of id ≡ self.old.number }
         requires region { table.region_id ≡ id }
@@ -224,8 +232,9 @@ impl Slot {
         self.tables.insert(id, table, &mut self.stats)
     }
 
-    /// Takes the tables of the slot's regions out of `core`, into this slot, which has none. The list of
-    /// cleaned regions stays with `core`. It allocates nothing; its time grows with these tables alone.
+    /// Takes the tables of this slot's regions, with their counts, out of `core`. The slot must have none.
+    /// The list of cleaned regions stays with `core`. It allocates nothing; its time grows with these tables
+    /// alone.
     pub fn take_tables(&mut self, core: &mut MemTableAccessor)
         requires { self.old.content.tables ≡ finite.empty }
         ensures { AreTablesTaken self.old self.new core.old core.new }
@@ -235,13 +244,13 @@ impl Slot {
         self.stats = stats;
     }
 
-    /// Removes the table of the region `id` and returns it, or `None` if it has none, and subtracts its
-    /// records from the live counts. With `record_tombstone` the region is listed as cleaned, even if it has
-    /// no table.
+    /// Removes the table of the region `id` and returns it, or `None` if there is none. Its records are
+    /// subtracted from the live counts. With `record_tombstone` the region is also listed as cleaned, even if
+    /// it has no table.
     ///
     /// # Errors
     ///
-    /// `Memory` alone, and only if the region is to be listed. The slot is unchanged then.
+    /// `Memory`, which can come only with `record_tombstone`. The slot is unchanged then.
     pub fn remove(&mut self, id: u64, record_tombstone: bool) -> Result<Option<MemTable>>
         requires { slot_of id ≡ self.old.number }
         ensures tables { OnOk result (self.new.content.tables ≡ finite.remove
@@ -264,12 +273,13 @@ impl Slot {
     }
 
     /// Checks that [`apply_append_write`](Slot::apply_append_write) would accept these items, one after
-    /// another, once their entries have a place and their key values a file in the append queue. It changes
-    /// nothing.
+    /// another, once their entries have a place and their key values a file in the append queue, whatever
+    /// place and file. All their regions belong to this slot. It changes nothing.
     ///
     /// # Errors
     ///
-    /// `Corruption` if it would refuse an item, with the region, the index and the reason; `Memory`.
+    /// `Corruption` if it would refuse an item; the text names the region and the reason and, for entries,
+    /// the index at which they begin. `Memory`.
     pub fn check_append_writes(&self, items: &[LogItem]) -> Result<()>
         ensures ok { OnOk result (AreAcceptedOncePlaced self.now.content.tables
             (map item_of items.now)) }
@@ -281,11 +291,12 @@ impl Slot {
         self.tables.check_append_items(items)
     }
 
-    /// Writes `item`, a new one of the append queue, to the table of its region.
+    /// Writes `item`, a new one of the append queue, to the table of its region. A `Clean` also lists the
+    /// region as cleaned.
     ///
     /// # Errors
     ///
-    /// Those of [`RegionTables::append_item`]. Tables, counts and list are unchanged then.
+    /// Those of [`RegionTables::append_item`]. The slot is unchanged then.
     pub fn apply_append_write(&mut self, item: LogItem) -> Result<()>
         requires { slot_of item.raft_group_id ≡ self.old.number }
         ensures written { IsWritten Appending (item_of item) result self.old.content
@@ -295,13 +306,14 @@ impl Slot {
         self.write_item(Writing::Appending, item)
     }
 
-    /// Writes `item`, which was rewritten to the file numbered `new_file` of the rewrite queue, to the
-    /// table of its region. `watermark` limits which places move: with one, those in append files numbered
-    /// at or below it; without one, those that are rewritten already.
+    /// Writes `item`, which was rewritten to the file numbered `new_file` of the rewrite queue, to the table
+    /// of its region. `watermark` limits what moves. With one, entries move whose file is numbered at or
+    /// below it; without one, those that are rewritten already. A key value in an append file moves only with
+    /// a watermark at or above that file, a rewritten one always.
     ///
     /// # Errors
     ///
-    /// Those of [`RegionTables::rewrite_item`]. Tables, counts and list are unchanged then.
+    /// Those of [`RegionTables::rewrite_item`]. The slot is unchanged then.
     pub fn apply_rewrite_write(
         &mut self,
         item: LogItem,
@@ -320,7 +332,8 @@ impl Slot {
     ///
     /// # Errors
     ///
-    /// Those of [`RegionTables::append_item`] or [`RegionTables::rewrite_item`]. The slot is unchanged then.
+    /// Those of [`RegionTables::append_item`], [`RegionTables::replay_item`] or
+    /// [`RegionTables::rewrite_item`]. The slot is unchanged then.
     #[inline(always)]
     pub(crate) fn write_item(&mut self, how: Writing, item: LogItem) -> Result<()>
         requires { slot_of item.raft_group_id ≡ self.old.number }
@@ -335,9 +348,10 @@ impl Slot {
     /// Adds a `Clean` for each region that is listed as cleaned to `logs`, an open batch, in order, and
     /// empties the list.
     ///
-    /// The batch belongs in the rewrite queue, once the append queue is synced. So does what else takes
-    /// rewritten records away, which isn't listed: compactions, truncations, deletions of keys, and each run
-    /// that replaces entries, as the truncation at its first index.
+    /// Write the batch to the rewrite queue, once the append queue is synced: a recovery would else bring
+    /// back rewritten records of these regions. Other changes that take rewritten records away belong there
+    /// too, but aren't listed here: compactions, truncations, deletions of keys, and each run that replaces
+    /// entries, as a truncation at its first index.
     ///
     /// # Errors
     ///
@@ -376,8 +390,8 @@ impl Slot {
         Ok(())
     }
 
-    /// Removes the table of the region `id` and returns it, or `None` if it has none, and subtracts its
-    /// records from the live counts.
+    /// Removes the table of the region `id` and returns it, or `None` if there is none. Its records are
+    /// subtracted from the live counts.
     fn take(&mut self, id: u64) -> Option<MemTable>
         requires { slot_of id ≡ self.old.number }
         ensures tables { self.new.content.tables ≡ finite.remove self.old.content.tables id }
@@ -392,7 +406,7 @@ impl Slot {
     }
 }
 
-/// Adds a `Clean` for each of the regions `ids` to an open batch, in order.
+/// Adds a `Clean` for each of the regions `ids` to `logs`, an open batch, in order.
 ///
 /// # Errors
 ///

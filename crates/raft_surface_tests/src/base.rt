@@ -1,4 +1,4 @@
-//! What `raft_base` hands on beside codecs.
+//! Names that `raft_base` exports, other than those of codecs.
 
 use raft_base::{
     AllocResult, B, CompressionType, EntryIndex, Error, Factory, FileBlockHandle, FileId, FileSeq,
@@ -13,7 +13,7 @@ use std::io;
 use std::ops::{Div, Mul};
 use std::str::FromStr;
 
-/// Returns a word for each error, and there is no other.
+/// Returns a word for each error. The match names every variant, so that one more is refused here.
 fn word_of(error: &Error) -> &'static str {
     match error {
         Error::InvalidArgument(_) => "invalid argument",
@@ -31,7 +31,7 @@ fn word_of(error: &Error) -> &'static str {
     }
 }
 
-/// Returns what an error has inside, if it is a text.
+/// Returns the text of an error that has one.
 fn text_of(error: Error) -> Option<String> {
     match error {
         Error::InvalidArgument(text) => Some(text),
@@ -42,12 +42,12 @@ fn text_of(error: Error) -> Option<String> {
     }
 }
 
-/// Returns the errors that have another one inside.
+/// Returns the errors that have another error inside.
 fn error_of(io: io::Error, codec: codec::Error, message: MessageError) -> [Error; 3] {
     [Error::Io(io), Error::Codec(codec), Error::Message(message)]
 }
 
-/// Returns the number that a message is refused with, and there is no other refusal.
+/// Returns the number with which a message was refused. The match names every variant of the error.
 fn refused_with(error: MessageError) -> Option<u32> {
     match error {
         MessageError::Refused(number) => Some(number),
@@ -63,7 +63,7 @@ fn errors_of_others() {
     let _codec_of_io: fn(io::Error) -> codec::Error = <codec::Error as From<io::Error>>::from;
 }
 
-/// Returns the number of each size error, and there is no other.
+/// Returns a number for each error of a size. The match names every variant.
 fn number_of(error: SizeError) -> u8 {
     match error {
         SizeError::Empty => 0,
@@ -89,7 +89,7 @@ fn sizes() {
         size_from_value;
 }
 
-/// Returns the bytes of a size.
+/// Returns the number of bytes that a size stands for.
 fn bytes_of(size: ReadableSize) -> u64 {
     let ReadableSize(bytes) = size;
     bytes
@@ -103,7 +103,7 @@ fn utilities() {
     let _round_down: fn(usize, usize) -> usize = round_down;
 }
 
-/// Names the same utilities under the path of their module.
+/// Names the utilities again, under the path of their module.
 fn utilities_by_module() {
     let _hash_u64: fn(u64) -> u64 = util::hash_u64;
     let _crc32: fn(&[u8]) -> u32 = util::crc32;
@@ -122,7 +122,7 @@ fn utilities_by_module() {
     ];
 }
 
-/// Returns the number of a file, which is 64 bits wide.
+/// Returns the number of a file, which has 64 bits.
 fn number_of_file(seq: FileSeq) -> u64 {
     seq
 }
@@ -139,7 +139,7 @@ fn files() {
     let _to_u8: fn(CompressionType) -> u8 = CompressionType::to_u8;
 }
 
-/// Names the types under the paths of their modules.
+/// Names types under the paths of their modules.
 fn types_by_module() {
     let _entry: entry_index::EntryIndex = EntryIndex::default();
     let _compression: compression_type::CompressionType = CompressionType::None;
@@ -153,7 +153,7 @@ fn ready_of_reactive_bytes<T: ReactiveBytes>(bytes: &T) -> bool {
     T::ready(bytes)
 }
 
-/// Returns bytes by a loan, which are always ready.
+/// Returns borrowed bytes by the trait that hands out the bytes of a write.
 fn as_bytes_of_loans<'a, T: AsSlice<u8>>(
     bytes: &'a mut &'a T,
     context: &LogFileContext,
@@ -220,7 +220,7 @@ fn index_of_messages<S: Message, M: MessageExt>(entry: &M::Entry) -> u64 {
     M::index(entry)
 }
 
-/// Reads the fields of an entry and of its place, by name and type.
+/// Names the fields of an entry and of its place, with their types, and returns the index.
 fn fields(entry: EntryIndex) -> u64 {
     let EntryIndex {
         index,
@@ -238,7 +238,7 @@ fn fields(entry: EntryIndex) -> u64 {
     index
 }
 
-/// Returns an entry, its place and its file, by name and type.
+/// Makes an entry with its place and its file, by the names and types of all fields.
 fn entry(number: u64, seq: FileSeq, len: usize, entry_len: u32) -> (EntryIndex, LogFileContext) {
     let id = FileId {
         queue: LogQueue::Append,

@@ -1,4 +1,4 @@
-//! Numbers as bytes, from `raft_base`.
+//! Codecs of numbers, which `raft_base` exports.
 
 use raft_base::codec::{
     BytesSlice, Error, NumberEncoder, Result, append_var_u64, decode_i32_le, decode_i64,
@@ -9,14 +9,14 @@ use raft_base::codec::{
 use raft_base::{AllocResult, codec};
 use std::io;
 
-/// Returns what decoders read from as plain bytes.
+/// Returns the bytes that decoders read from as a plain slice.
 fn bytes_of<'a>(bytes: BytesSlice<'a>) -> &'a [u8] {
     bytes
 }
 
 fn is_writer<W: io::Write>() {}
 
-/// Tests that what numbers are encoded by is a writer.
+/// Compiles only if every `NumberEncoder` is a writer.
 fn is_encoder<W: NumberEncoder>() {
     is_writer::<W>();
 }
@@ -141,7 +141,7 @@ fn encode_var_i64_of_encoders<W: io::Write>(writer: &mut W, number: i64) -> Resu
     W::encode_var_i64(writer, number)
 }
 
-/// Returns a word for each error of numbers, and there is no other.
+/// Returns a word for each error of a codec. The match names every variant.
 fn word_of(error: &Error) -> &'static str {
     match error {
         Error::Io(_) => "io",
@@ -151,12 +151,12 @@ fn word_of(error: &Error) -> &'static str {
     }
 }
 
-/// Returns what a number is read with, by type.
+/// Returns the result of a read, under both names of its type.
 fn read_with(number: Result<u64>) -> std::result::Result<u64, codec::Error> {
     number
 }
 
-/// Returns the error of a reader or writer, if it is one.
+/// Returns the error of a reader or a writer, if that is the reason.
 fn io_of(error: Error) -> Option<io::Error> {
     match error {
         Error::Io(io) => Some(io),

@@ -1,4 +1,4 @@
-//! Contexts and the laws of histories, from `raft_memtable`.
+//! Contexts and the laws of histories, which `raft_memtable` exports.
 
 use raft_memtable::contexts::{exact_contexts_are_one_reading, merges_stand_for_both};
 use raft_memtable::effects::effects_are_stretches;
@@ -58,7 +58,7 @@ fn merge_of_machines<M: ReplayMachine>(machine: &mut M, rhs: M, queue: LogQueue)
 
 fn is_sent<T: Send>() {}
 
-/// Tests that what batches are replayed into may go to another thread.
+/// Compiles only if every machine that batches are replayed into can go to another thread.
 fn is_sent_machine<M: ReplayMachine>() {
     is_sent::<M>();
 }
@@ -79,7 +79,7 @@ fn laws() {
     regions_stand_for_steps();
 }
 
-/// Returns the numbers of what is kept, by name.
+/// Returns the numbers of what a context holds, by the names of all fields.
 fn numbers_of(kept: Kept) -> [u128; 6] {
     [
         kept.entries,

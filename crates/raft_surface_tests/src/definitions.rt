@@ -1,4 +1,5 @@
-//! Words of the definitions of each library, in conditions and promises of one who lists the four crates alone.
+//! Definitions of each library, named in contracts of a crate that lists only the four crates which users
+//! import from.
 
 ghost use Rattle.std.specs.Prelude.{◌≡◌, [], ◌∷◌, IfOk, IsTrue};
 ghost use Rattle.raft_base.specs.declared.pipe_log.LogQueue.TheVariants.{Append};
@@ -37,7 +38,7 @@ use std::alloc::Global;
 use std::str::FromStr;
 use std::thread::Threads;
 
-/// Names definitions of `raft_codec`.
+/// Names definitions of `raft_codec` in a condition on the caller.
 fn is_no_number(bytes: &[u8]) -> bool
     requires { HasNoFront IsVarint bytes.now }
 {
@@ -45,14 +46,14 @@ fn is_no_number(bytes: &[u8]) -> bool
     decode_var_u64(&mut rest).is_err()
 }
 
-/// Names definitions of `raft_codec`.
+/// Names definitions of `raft_codec` in a promise.
 fn number_in_front(bytes: &mut BytesSlice<'_>) -> codec::Result<u64>
     ensures { IfOk result (Reads IsNumber bytes.old.now bytes.new.now) }
 {
     decode_var_u64(bytes)
 }
 
-/// Names definitions of `raft_codec`.
+/// Names a definition of the errors of `raft_codec`.
 fn is_io(error: &codec::Error) -> bool
     requires { IsIo error.now }
 {

@@ -1,4 +1,4 @@
-//! The engine, from `raft_engine`.
+//! The engine, which `raft_engine` and `raft_opening` export.
 
 ghost use Rattle.std.specs.Prelude.{◌≡◌, [], map};
 ghost use Rattle.std.specs.Fn.{FnOnceReturnsAtMut};
@@ -97,7 +97,7 @@ where
     Engine::<F>::new(alloc, version, files)
 }
 
-/// Opens an engine over files that were found.
+/// Opens an engine over found files.
 fn open_engine<R: Threads + Sync, F: EngineFiles>(
     rt: &R,
     alloc: Global,
@@ -113,7 +113,7 @@ where
     Engine::<F>::open::<R>(rt, alloc, version, files, append, rewrite, workers)
 }
 
-/// Opens an engine over files that were found in a mode, and tells what was cut off from them.
+/// Opens an engine over found files in a mode, and returns what was cut off them too.
 fn open_engine_telling<R: Threads + Sync, F: EngineFiles>(
     rt: &R,
     alloc: Global,
@@ -150,7 +150,7 @@ where
     )
 }
 
-/// Opens an engine over files that contexts have read in a mode, and tells what was cut off from them.
+/// Opens an engine over files that contexts have read, in a mode, and returns what was cut off them too.
 fn open_engine_over_telling<F: EngineFiles>(
     alloc: Global,
     mode: RecoveryMode,
@@ -170,7 +170,7 @@ where
     )
 }
 
-/// Returns a recovery mode by its number.
+/// Returns a recovery mode by a number, so that each mode is named.
 fn recovery_mode_of_number(number: u32) -> RecoveryMode {
     match number {
         0 => RecoveryMode::AbsoluteConsistency,
@@ -180,27 +180,27 @@ fn recovery_mode_of_number(number: u32) -> RecoveryMode {
     }
 }
 
-/// Returns the tail that was cut off from the append queue.
+/// Returns the tail that was cut off the append queue, by the names of all fields.
 fn append_of_recovered(recovered: Recovered) -> Option<CutTail> {
     let Recovered { append, rewrite } = recovered;
     let _rewrite: Option<CutTail> = rewrite;
     append
 }
 
-/// Returns the reason why a tail was cut off.
+/// Returns the reason why a tail was cut off, by the names of all fields.
 fn error_of_cut_tail(tail: CutTail) -> Error {
     let _place: (FileSeq, u64, u64) = (tail.file, tail.offset, tail.len);
     tail.error
 }
 
-/// Returns what an opening told, and its engine.
+/// Returns the engine of what an opening returned, by the names of all fields.
 fn engine_of_opened<F: EngineFiles>(
     opened: Opened<F>,
 ) -> (Engine<F>, Recovered, Vec<DamagedBatch>) {
     (opened.engine, opened.recovered, opened.damaged)
 }
 
-/// Returns the refusal of the entries of a batch.
+/// Returns the error with which damaged entries are refused, by the names of all fields.
 fn error_of_damaged_batch(batch: DamagedBatch) -> Error {
     let _place: (FileSeq, u64) = (batch.file, batch.offset);
     batch.error
@@ -223,7 +223,7 @@ where
     Engine::<F>::open_over(alloc, version, files, append, rewrite, appended, rewritten)
 }
 
-/// Makes a change to the files of an engine that asks nothing of them.
+/// Calls `change` with the files of an engine; it asks nothing of them.
 fn change_files_of_engine<F: EngineFiles, T, C: FnOnce(&mut F) -> T>(
     engine: &mut Engine<F>,
     change: C,

@@ -1,4 +1,4 @@
-//! The files of an engine, from `raft_files`.
+//! The files of an engine, which `raft_files` exports.
 
 use raft_base::{FileBlockHandle, FileSeq, LogQueue, Result};
 use raft_files::{Asked, EngineFiles, MemoryFiles};
@@ -27,7 +27,7 @@ fn files_of_memory<'a>(files: &'a MemoryFiles, queue: LogQueue) -> &'a LogFiles 
     MemoryFiles::files(files, queue)
 }
 
-/// Makes each call of any files.
+/// Makes each call of the trait, on any files.
 fn calls<F: EngineFiles>(files: &mut F, queue: LogQueue, place: FileBlockHandle) -> Result<()> {
     F::rotate(files, queue, 1)?;
     F::append(files, queue, b"x")?;

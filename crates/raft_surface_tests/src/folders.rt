@@ -1,4 +1,4 @@
-//! The files of an engine in a folder, from `raft_folder`.
+//! The files of an engine in a folder, which `raft_folder` and `raft_opening` export.
 
 use raft_base::{Error, FileId, FileSeq, LogQueue, Result, Version};
 use raft_engine::{Opened, RecoveryMode};
@@ -13,7 +13,7 @@ use std::thread::Threads;
 
 type LogFiles = Vec<(FileSeq, Vec<u8>)>;
 
-/// Makes each call of an opened folder.
+/// Makes each call of a folder that is open.
 fn calls<R: FolderHost>(files: &FolderFiles<'_, R>, id: FileId) -> FolderResult<()> {
     let listed: Vec<FolderFile> = FolderFiles::list(files, id.queue)?;
     for file in listed {
@@ -27,7 +27,7 @@ fn calls<R: FolderHost>(files: &FolderFiles<'_, R>, id: FileId) -> FolderResult<
     Ok(())
 }
 
-/// Opens a folder.
+/// Opens a folder, and returns the files that were found in it.
 fn found(rt: &HostRuntime, path: &str) -> FolderResult<(LogFiles, LogFiles)> {
     let found: FoundFolder<'_, HostRuntime> = FolderFiles::open(rt, path)?;
     is_of_engine(&found.files);
@@ -37,7 +37,7 @@ fn found(rt: &HostRuntime, path: &str) -> FolderResult<(LogFiles, LogFiles)> {
 
 fn is_of_engine<F: EngineFiles>(_files: &F) {}
 
-/// Opens a folder without reading its files, and the engine of a folder.
+/// Opens a folder without reading its files, and then the engine of a folder.
 fn open_unread<'a, R: FolderHost + SharedFiles + Threads>(
     rt: &'a R,
     path: &'a str,
@@ -50,7 +50,7 @@ fn open_unread<'a, R: FolderHost + SharedFiles + Threads>(
 
 fn notes_found<F: NotesFound>(_files: &F) {}
 
-/// Opens a folder to read it.
+/// Opens a folder to read it, and makes each call of it.
 fn read<'a, R: FolderHost>(rt: &'a R, path: &'a str) -> FolderResult<LogFiles> {
     let folder: ReadFolder<'a, R> = ReadFolder::open(rt, path)?;
     let _listed: Vec<FolderFile> = ReadFolder::list(&folder, LogQueue::Append)?;
@@ -59,7 +59,7 @@ fn read<'a, R: FolderHost>(rt: &'a R, path: &'a str) -> FolderResult<LogFiles> {
     ReadFolder::bytes_of_files(&folder, LogQueue::Rewrite)
 }
 
-/// Returns the path that a refusal names.
+/// Returns the path that an error of a folder names. The match names every variant.
 fn path_in(error: FolderError) -> Option<String> {
     match error {
         FolderError::System(path, _error) => Some(path),

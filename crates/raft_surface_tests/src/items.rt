@@ -1,4 +1,4 @@
-//! Items and batches of items, from `raft_records`.
+//! Items and batches of items, which `raft_records` exports.
 
 use raft_records::codec::BytesSlice;
 use raft_records::{
@@ -125,7 +125,7 @@ fn groups() {
     let _is_reserved: fn(&[u8]) -> bool = is_reserved;
 }
 
-/// Returns a key value and an item, by name and type.
+/// Makes a key value and an item, by the names and types of all fields.
 fn item_of(raft_group_id: u64, key: Vec<u8>, value: Option<Vec<u8>>, file: FileId) -> LogItem {
     let content = LogItemContent::Kv(KeyValue {
         op_type: OpType::Put,
@@ -139,7 +139,7 @@ fn item_of(raft_group_id: u64, key: Vec<u8>, value: Option<Vec<u8>>, file: FileI
     }
 }
 
-/// Returns the entries of an item, by type.
+/// Returns the entries of an item, by the names and types of all fields; `None` for other contents.
 fn entries_of(item: LogItem) -> Option<Vec<EntryIndex>> {
     match item.content {
         LogItemContent::EntryIndexes(EntryIndexes(entries)) => Some(entries),
@@ -147,7 +147,7 @@ fn entries_of(item: LogItem) -> Option<Vec<EntryIndex>> {
     }
 }
 
-/// Returns the index of a command.
+/// Returns the index of a command. The match names every variant.
 fn index_of(command: &Command) -> Option<u64> {
     match command {
         Command::Clean => None,
@@ -156,7 +156,7 @@ fn index_of(command: &Command) -> Option<u64> {
     }
 }
 
-/// Returns the number of each status, and there is no other.
+/// Returns the number of a group marker's status. The match names every variant.
 fn number_of(status: AtomicGroupStatus) -> u8 {
     match status {
         AtomicGroupStatus::Begin => AtomicGroupStatus::Begin as u8,
@@ -165,7 +165,7 @@ fn number_of(status: AtomicGroupStatus) -> u8 {
     }
 }
 
-/// Returns what kind of change an item is, and there is no other.
+/// Returns a word for what an item says. The match names every variant.
 fn kind_of(item: &LogItem) -> &'static str {
     let LogItem {
         raft_group_id: _,

@@ -1,4 +1,4 @@
-//! Log batches, from `raft_records`.
+//! Log batches, which `raft_records` exports.
 
 use raft_records::codec::BytesSlice;
 use raft_records::{
@@ -71,7 +71,7 @@ fn encoded_bytes_of_writes<'a>(batch: &'a LogBatch) -> Option<&'a [u8]> {
     Some(LogBatch::encoded_bytes(batch))
 }
 
-/// Returns the bytes of a batch for a file.
+/// Returns the bytes of a batch, signed for a file; `None` if they aren't made yet.
 fn as_bytes_of_writes<'a>(batch: &'a mut LogBatch, context: &LogFileContext) -> Option<&'a [u8]> {
     if !batch.ready() {
         return None;

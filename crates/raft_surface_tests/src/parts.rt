@@ -1,4 +1,4 @@
-//! Parts of files, laws and printing, from `raft_records`, and what it hands on of `raft_base`.
+//! Parts of files, laws and printing, which `raft_records` exports, and what it exports of `raft_base`.
 
 use raft_records::laws::{
     batches_belong_to_one_file, contents_are_read_again, items_are_read_again,
@@ -26,7 +26,7 @@ fn parts() {
     let _readable_front: fn(&FilePart) -> (usize, Option<Error>) = readable_front;
 }
 
-/// Returns the first batch of bytes of a file, which are read from an offset below 2^32 on.
+/// Returns the first batch in the bytes of a file, which stand there from an offset below 2^32 on.
 fn next_in_of_parts(
     alloc: Global,
     file: &LogFileContext,
@@ -80,7 +80,7 @@ fn laws() {
     placed_items_are_read();
 }
 
-/// Uses the names of `raft_base`, as this crate hands them on.
+/// Names what `raft_records` exports of `raft_base`.
 fn names_of_the_base() {
     let _hash_u64: fn(u64) -> u64 = hash_u64;
     let _unhash_u64: fn(u64) -> u64 = unhash_u64;
@@ -96,7 +96,7 @@ fn names_of_the_base() {
     let _no_memory: AllocResult<u8> = Err(AllocError);
 }
 
-/// Uses the modules of `raft_base`, as this crate hands them on.
+/// Names the modules of `raft_base` that `raft_records` exports.
 fn modules_of_the_base() {
     let _entry: entry_index::EntryIndex = EntryIndex::default();
     let _compression = compression_type::CompressionType::None;

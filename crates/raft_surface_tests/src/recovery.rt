@@ -37,7 +37,7 @@ fn join_of_plans(alloc: Global, left: Plan, right: Plan) -> AllocResult<Plan> {
     Ok(Plan::Join(Box::new(alloc, left)?, Box::new(alloc, right)?))
 }
 
-/// Returns at least one share, of at least one byte.
+/// Returns equal shares: at least one is asked for, of at least one byte.
 fn equal_shares_of_plans(
     alloc: Global,
     segments: &[Segment],
@@ -67,7 +67,7 @@ fn merge_pieces_of_workers<M: ReplayMachine, F: Factory<M>, G: Gate, R: Threads 
     merge_pieces::<M, R>(rt, pieces, plan, queue)
 }
 
-/// Replays the batches of lent bytes, which are read from an offset below 2^32 on.
+/// Replays the batches in the bytes of a file, which stand there from an offset below 2^32 on.
 fn replay_bytes_of_machines<M: ReplayMachine>(
     machine: &mut M,
     alloc: Global,
@@ -82,7 +82,7 @@ fn replay_bytes_of_machines<M: ReplayMachine>(
     replay_bytes::<M>(machine, alloc, file, offset, bytes)
 }
 
-/// Returns machines as draws and a plan make them.
+/// Replays segments in a given schedule, with a given plan of merges.
 fn replay_scheduled_of_schedules(
     alloc: Global,
     factory: &MemTableRecoverContextFactory,
@@ -95,7 +95,7 @@ fn replay_scheduled_of_schedules(
     replay_scheduled(alloc, factory, segments, queue, workers, draws, plan)
 }
 
-/// Returns machines as workers make them.
+/// Replays segments by workers, each of which passes `gate` before it draws one.
 fn replay_segments_of_workers<R: Threads + Sync, G: Gate>(
     rt: &R,
     alloc: Global,
@@ -110,12 +110,12 @@ fn replay_segments_of_workers<R: Threads + Sync, G: Gate>(
 
 fn is_shared<T: Send + Sync>() {}
 
-/// Tests that what workers pass is seen by all of them.
+/// Compiles only if every gate can be used by several threads.
 fn is_shared_gate<G: Gate>() {
     is_shared::<G>();
 }
 
-/// Returns the status that the program ends with.
+/// Runs the program on these words, and returns the status to end with.
 fn run_of_programs<S: Files + AllocGlobal + Threads + Sync, R: Read, W: Write, E: Write>(
     rt: &S,
     words: &[String],
@@ -126,7 +126,7 @@ fn run_of_programs<S: Files + AllocGlobal + Threads + Sync, R: Read, W: Write, E
     run::<S, R, W, E>(rt, words, input, out, err)
 }
 
-/// Returns the status that the program ends with where it reads files in pieces.
+/// Runs the program that reads files in pieces on these words, and returns the status to end with.
 fn run_of_programs_in_pieces<
     S: SharedFiles + Files + AllocGlobal + Threads + Sync,
     R: Read,
@@ -136,7 +136,7 @@ fn run_of_programs_in_pieces<
     run_in_pieces::<S, R, W, E>(rt, words, input, out, err)
 }
 
-/// Reads a byte of a file, and returns how many it has.
+/// Reads the first byte of a file, and returns the length of the file.
 fn read_of_files<S: SharedFiles>(
     files: &S,
     path: &str,
@@ -146,7 +146,7 @@ fn read_of_files<S: SharedFiles>(
     files.file_len(path)
 }
 
-/// Returns the words of a command line, and what the program returns where there are none.
+/// Returns the words of the command line, or the status to end with if they can't be had.
 fn words_of_programs<S: Env + AllocGlobal, E: Write>(
     rt: &S,
     err: &mut E,
@@ -158,7 +158,7 @@ fn words_of_programs<S: Env + AllocGlobal, E: Write>(
     }
 }
 
-/// Returns the status that a scan of files ends with.
+/// Runs the scan of files on these words, and returns the status to end with.
 fn run_scan_of_scans<S: Files + AllocGlobal, W: Write, E: Write>(
     rt: &S,
     words: &[String],
@@ -176,7 +176,7 @@ fn scans() {
     let _append_scan: fn(Global, &FilePart, bool, &mut String) -> Result<bool> = append_scan;
 }
 
-/// Returns the parts of a segment.
+/// Returns the parts of a segment, which is a list of them.
 fn parts_of(segment: Segment) -> Vec<FilePart> {
     segment
 }
@@ -244,7 +244,7 @@ fn print_recovered_of_recoveries<R: Threads + Sync, W: Write>(
     print_recovered::<W>(alloc, accessor, writer)
 }
 
-/// Returns how many pieces a plan merges: one, or those of two plans, and there is no other.
+/// Returns how many pieces a plan merges. The match names every variant.
 fn leaves_of(plan: &Plan) -> usize {
     match plan {
         Plan::One => 1,

@@ -90,22 +90,22 @@ fn apply_rewrite_writes_of_items(
     MemTableAccessor::apply_rewrite_writes(accessor, items, watermark, new_file)
 }
 
-/// Applies the items of a batch, as it hands them out.
+/// Applies items to the tables as new ones of the append queue, in the form in which a batch hands them out.
 fn appended_items(accessor: &mut MemTableAccessor, items: vec::IntoIter<LogItem>) -> Result<()> {
     MemTableAccessor::apply_append_writes(accessor, items)
 }
 
-/// Replays the same in the append queue.
+/// Replays such items into the tables as ones of the append queue.
 fn replayed_items(accessor: &mut MemTableAccessor, items: vec::IntoIter<LogItem>) -> Result<()> {
     MemTableAccessor::replay_append_writes(accessor, items)
 }
 
-/// Replays the same in the rewrite queue.
+/// Replays such items into the tables as ones of the rewrite queue.
 fn replayed_rewrites(accessor: &mut MemTableAccessor, items: vec::IntoIter<LogItem>) -> Result<()> {
     MemTableAccessor::replay_rewrite_writes(accessor, items)
 }
 
-/// Rewrites the same to a file.
+/// Applies such items to the tables as rewritten to a file.
 fn rewritten_items(
     accessor: &mut MemTableAccessor,
     items: vec::IntoIter<LogItem>,
@@ -115,7 +115,7 @@ fn rewritten_items(
     MemTableAccessor::apply_rewrite_writes(accessor, items, watermark, new_file)
 }
 
-/// Returns how many tables a walk meets.
+/// Returns how many tables a walk over all of them visits.
 fn fold_of_walks(accessor: &MemTableAccessor) -> u64 {
     let init: u64 = 0;
     MemTableAccessor::fold(accessor, init, |count: u64, _: &MemTable| -> u64 {
@@ -123,14 +123,14 @@ fn fold_of_walks(accessor: &MemTableAccessor) -> u64 {
     })
 }
 
-/// Returns the tables of a region.
+/// Returns the tables of the region `id`, from a walk over all tables.
 fn collect_of_walks<'a>(accessor: &'a MemTableAccessor, id: u64) -> Result<Vec<&'a MemTable>> {
     MemTableAccessor::collect(accessor, |table: &MemTable| -> bool {
         table.region_id() == id
     })
 }
 
-/// Returns how many tables are met in none.
+/// Returns how many tables there are after empty lists of items were applied: none.
 fn met_in_none(alloc: Global) -> Result<u64> {
     let mut accessor = MemTableAccessor::new(alloc)?;
     apply_append_writes_of_items(&mut accessor, Vec::new(alloc))?;

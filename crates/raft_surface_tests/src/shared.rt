@@ -72,14 +72,14 @@ fn insert_of_tables<R: Wait>(
     SharedAccessor::insert::<R>(shared, rt, number, table)
 }
 
-/// Returns a region's id, if it has a table.
+/// Returns the region id of a table by a call on the table; `None` if the region has none.
 fn with_table_of_tables<R: Wait>(shared: &SharedAccessor, rt: &R, number: u64) -> Option<u64> {
     SharedAccessor::with_table(shared, rt, number, |table: &MemTable| -> u64 {
         table.region_id()
     })
 }
 
-/// Returns how many entries are dropped up to the last one.
+/// Drops all entries of a region but the last one, and returns how many were dropped.
 fn with_table_mut_of_tables<R: Wait>(shared: &SharedAccessor, rt: &R, number: u64) -> Result<u64> {
     let compact = |table: &MemTable| -> TableChange {
         match table.last_index() {
@@ -90,7 +90,7 @@ fn with_table_mut_of_tables<R: Wait>(shared: &SharedAccessor, rt: &R, number: u6
     SharedAccessor::with_table_mut(shared, rt, number, compact)
 }
 
-/// Returns how many tables a walk meets.
+/// Returns how many tables a walk over all of them visits.
 fn fold_of_tables<R: Wait>(shared: &SharedAccessor, rt: &R) -> u64 {
     let init: u64 = 0;
     SharedAccessor::fold(shared, rt, init, |count: u64, _: &MemTable| -> u64 {
@@ -98,7 +98,7 @@ fn fold_of_tables<R: Wait>(shared: &SharedAccessor, rt: &R) -> u64 {
     })
 }
 
-/// Returns the ids of tables without entries.
+/// Returns the ids of the regions whose tables have no entries.
 fn collect_of_tables<R: Wait>(shared: &SharedAccessor, rt: &R) -> Result<Vec<u64>> {
     SharedAccessor::collect(shared, rt, |table: &MemTable| -> bool {
         table.last_index().is_none()
@@ -123,7 +123,7 @@ fn apply_rewrite_writes_of_items<R: Wait>(
     SharedAccessor::apply_rewrite_writes(shared, rt, items, watermark, new_file)
 }
 
-/// Applies the items of a batch, as it hands them out.
+/// Applies items to the tables as new ones of the append queue, in the form in which a batch hands them out.
 fn appended_items<R: Wait>(
     shared: &SharedAccessor,
     rt: &R,
@@ -132,7 +132,7 @@ fn appended_items<R: Wait>(
     SharedAccessor::apply_append_writes(shared, rt, items)
 }
 
-/// Rewrites the same to a file.
+/// Applies such items to the tables as rewritten to a file.
 fn rewritten_items<R: Wait>(
     shared: &SharedAccessor,
     rt: &R,

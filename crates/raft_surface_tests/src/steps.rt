@@ -11,7 +11,7 @@ fn new_of_reads<'a>(alloc: Global, file: FileId) -> ReadBatch<'a> {
     ReadBatch::new(alloc, file)
 }
 
-/// Reads the first batch of bytes of a file, which are read from an offset below 2^32 on.
+/// Reads the first batch in the bytes of a file, which stand there from an offset below 2^32 on.
 fn read_next_of_reads<'a>(
     batch: &mut ReadBatch<'a>,
     file: &LogFileContext,
@@ -37,10 +37,10 @@ fn to_batch_of_reads(batch: &ReadBatch<'_>) -> Result<LogItemBatch> {
     ReadBatch::to_batch(batch, alloc)
 }
 
-/// What a content has: numbers, a command, a key and a value.
+/// What an item may have: the first index, the number of entries, a command, a key and a value.
 type Parts<'a> = (u64, usize, Option<Command>, &'a [u8], &'a [u8]);
 
-/// Returns the region and the parts of an item, and there are no other contents.
+/// Returns the region of an item, and what it has. The match names every variant of the content.
 fn parts_of_item<'a>(item: ReadItem<'a>) -> (u64, Parts<'a>) {
     let parts: Parts<'a> = match item.content {
         ReadContent::Run { first, count } => (first, count, None, b"", b""),
@@ -51,7 +51,7 @@ fn parts_of_item<'a>(item: ReadItem<'a>) -> (u64, Parts<'a>) {
     (item.region, parts)
 }
 
-/// What a step has: entries, numbers, a key and a value.
+/// What a step may have: entries, numbers, a key and a value.
 type StepParts = (
     Option<Vec<EntryIndex>>,
     [u64; 2],
@@ -59,7 +59,7 @@ type StepParts = (
     Option<(Vec<u8>, FileId)>,
 );
 
-/// Returns the parts of a step, and there are no other steps.
+/// Returns what a step has. The match names every variant.
 fn parts_of_step(step: Step) -> StepParts {
     match step {
         Step::Run(entries) => (Some(entries), [0, 0], None, None),
@@ -81,7 +81,7 @@ fn parts_of_step(step: Step) -> StepParts {
     }
 }
 
-/// Returns the region of a step and the step.
+/// Returns the region of a step, and the step itself.
 fn region_of(step: RegionStep) -> (u64, Step) {
     (step.region, step.step)
 }

@@ -70,7 +70,7 @@ fn get_of_keys<'a>(table: &'a MemTable, bytes: &[u8]) -> Option<&'a [u8]> {
     MemTable::get(table, bytes)
 }
 
-/// Scans the keys between two bounds, in order or reversed, until one is refused.
+/// Scans the keys between two bounds from the last one back, until the visitor returns `false`.
 fn scan_of_keys(table: &MemTable, start: Option<&[u8]>, end: Option<&[u8]>) -> Result<()> {
     let reverse: bool = true;
     MemTable::scan(
@@ -114,14 +114,14 @@ fn merges() {
     let _deleted_keys: fn(Global) -> DeletedKeys = DeletedKeys::new;
 }
 
-/// Returns the fields of a block, by name and type.
+/// Returns the spans of a block, by the names and types of all fields.
 fn spans_of(block: Block) -> VecDeque<(u32, u32)> {
     let Block { handle, spans } = block;
     let _handle: FileBlockHandle = handle;
     spans
 }
 
-/// Returns changes, by name and type.
+/// Makes the change that puts a key, by the names and types of all fields.
 fn put_change(key: Vec<u8>, value: Vec<u8>, file_id: FileId) -> TableChange {
     TableChange::Put {
         key,
@@ -151,7 +151,7 @@ fn index_changes(index: u64) -> (TableChange, TableChange) {
     )
 }
 
-/// Returns what kind of change it is, and there is no other.
+/// Returns a word for a change. The match names every variant.
 fn kind_of(change: &TableChange) -> &'static str {
     match change {
         TableChange::Keep => "keep",

@@ -34,14 +34,14 @@ fn is_serialized<T: Serialize + DeserializeOwned>() {}
 
 fn is_message<T: Message + Clone + PartialEq>() {}
 
-/// Tests that the entries of a `MessageExt` are messages, which is known in all threads.
+/// Compiles only if the entries of every `MessageExt` are messages, and it can be used by several threads.
 fn is_message_ext<M: MessageExt>() {
     is_message::<M::Entry>();
     is_sent::<M>();
     is_shared::<M>();
 }
 
-/// Tests that a factory is known in all threads.
+/// Compiles only if every factory can be used by several threads.
 fn is_factory<T, F: Factory<T>>() {
     is_sent::<F>();
     is_shared::<F>();

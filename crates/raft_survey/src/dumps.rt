@@ -12,13 +12,13 @@ use raft_reading::ReadFiles;
 use std::alloc::Global;
 use std::io::Write;
 
-/// Prints to `out`, in `form`, what stands in the files of both queues, batch by batch, as far as `selection` has it. `sizes`
-/// names the files and says how many bytes of each are read; all are of `version`, and `source` reads them. Returns `out` again,
-/// after an error too, and whether there was a place at which no batch could be read.
+/// Prints to `out` what stands in the files of both queues, batch by batch, in the form `form`. Only what `selection` has is printed.
+/// `sizes` names the files and says how many bytes of each are read; all are of `version`, and `source` reads them. Returns `out` again,
+/// after an error too, and whether there was a byte at which no batch could be read.
 ///
 /// # Errors
 ///
-/// `Io` where a read fails, or `out` takes no more; `Memory`. Some lines may have been printed then.
+/// `Io` if a read fails, or `out` takes no more; `Memory`. Some lines may have been printed then.
 pub fn print_dump<F: DumpForm + Drop, S: ReadFiles, W: Write + Drop>(
     alloc: Global,
     source: &S,

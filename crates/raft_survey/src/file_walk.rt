@@ -19,8 +19,8 @@ use raft_replay::cutting::batch_length;
 use std::alloc::Global;
 use std::mem;
 
-/// Shows `visitor` what stands in the files of both queues: the append queue's, then the rewrite queue's, oldest first. `sizes`
-/// names the files and says how many bytes of each are read; all are of `version`, and `source` reads them.
+/// Shows `visitor` what stands in the files of both queues: first those of the append queue, then those of the rewrite queue, oldest first.
+/// `sizes` names the files and says how many bytes of each are read; all are of `version`, and `source` reads them.
 ///
 /// # Errors
 ///
@@ -43,11 +43,11 @@ pub fn walk_files<V: PartVisitor, S: ReadFiles>(
     walk_queue(alloc, source, LogQueue::Rewrite, version, rewrite, visitor)
 }
 
-/// Shows `visitor` what stands in the files of `queue` that `sizes` names, oldest first.
+/// Shows `visitor` what stands in the files of `queue`, in the order of `sizes`, which names them and says how many bytes of each are read.
 ///
 /// # Errors
 ///
-/// Those of [`walk_file`].
+/// Those of [`walk_file`]. The visitor was shown what stands before the place of the error.
 fn walk_queue<V: PartVisitor, S: ReadFiles>(
     alloc: Global,
     source: &S,
@@ -68,11 +68,11 @@ fn walk_queue<V: PartVisitor, S: ReadFiles>(
     Ok(())
 }
 
-/// Shows `visitor` what stands in the file of `queue` with the number in `size`, as far as the length there goes.
+/// Shows `visitor` what stands in one file of `queue`: that with the number `size.seq`, of which the first `size.len` bytes are read.
 ///
 /// # Errors
 ///
-/// Those of [`walk_file`].
+/// Those of [`walk_file`]. The visitor was shown what stands before the place of the error.
 fn walk_sized_file<V: PartVisitor, S: ReadFiles>(
     alloc: Global,
     source: &S,
@@ -91,14 +91,14 @@ fn walk_sized_file<V: PartVisitor, S: ReadFiles>(
     walk_file(alloc, source, &file, size.len, visitor)
 }
 
-/// Shows `visitor` what stands in `file`, part by part. The file has `len` bytes and is read from `source` piece by piece, up to
-/// where no header says how long the next batch is; what was read behind that is the last part. One piece and the longest batch
-/// are in memory at once.
+/// Shows `visitor` what stands in `file`, of which the first `len` bytes are read from `source`, piece by piece. Whole batches are shown as
+/// soon as they are read. If no header says that another batch ends within the file, all that was read is shown as the last part, and no
+/// more is read. At most one piece and the longest batch are in memory at once.
 ///
 /// # Errors
 ///
-/// `Io`, whose text begins with the queue, the file and the offset, where a read fails, or gives another number of bytes than it
-/// was asked for; the visitor's; `Memory`. The visitor was shown what stands before the place of the error.
+/// `Io`, whose text begins with the queue, the file and the offset, if a read fails, or gives another number of bytes than it was asked
+/// for; those of the visitor; `Memory`. The visitor was shown what stands before the place of the error.
 pub fn walk_file<V: PartVisitor, S: ReadFiles>(
     alloc: Global,
     source: &S,
@@ -124,12 +124,12 @@ pub fn walk_file<V: PartVisitor, S: ReadFiles>(
     }
 }
 
-/// Shows `visitor` the batches that are whole in `piece`, which begins at `at` in the file, and takes them off it. Returns the
-/// offset in the file at which `piece` begins then.
+/// Takes off `piece` the batches at its start that are whole in it, by their headers, and shows them to `visitor`. `at` is the offset in
+/// the file at which `piece` begins. Returns the one at which it begins afterwards.
 ///
 /// # Errors
 ///
-/// The visitor's; `Memory`.
+/// Those of the visitor; `Memory`. The batches may have been taken off then.
 fn walk_whole_batches<V: PartVisitor>(
     file: &LogFileContext,
     at: u64,
@@ -165,11 +165,11 @@ fn take_whole_batches(piece: &mut Vec<u8>) -> Result<Vec<u8>>
     Ok(mem::replace(piece, rest))
 }
 
-/// Shows `visitor` what stands in `piece`, which begins at `at` in the file.
+/// Shows `visitor` what stands in `piece`, which begins at offset `at` of the file.
 ///
 /// # Errors
 ///
-/// The visitor's; `Memory`.
+/// Those of the visitor; `Memory`.
 fn walk_piece<V: PartVisitor>(
     file: &LogFileContext,
     at: u64,
@@ -184,7 +184,8 @@ fn walk_piece<V: PartVisitor>(
     walk_part(&part, visitor)
 }
 
-/// Returns how many of `bytes`, from the first one on, belong to batches that are whole in them by their headers.
+/// Returns the length in bytes of the whole batches at the start of `bytes`: header after header is read until there is none, or its batch
+/// ends after `bytes`.
 fn whole_batches(alloc: Global, bytes: &[u8]) -> usize
     ensures inside { result ≤ length bytes.now }
     ensures whole { AreBatchesByHeader (take result bytes.now) }

@@ -1,4 +1,4 @@
-//! Log files that are looked through in pieces: walks, scans for damage, and dumps. Nothing here changes a file.
+//! Looks through whole log files, which are read in pieces: walks, scans for damage, and dumps. Nothing here changes a file.
 #![tactic(auto)]
 
 pub mod dumps;

@@ -1,5 +1,5 @@
-//! The lines of a check: what a scan of a file finds, and which files are missing. Each call that appends fails for want of memory alone,
-//! and a part may then be appended.
+//! The lines of a check as text: what a scan of a file has found, and which files are missing. Each call that appends fails for want of
+//! memory alone, and some of its text may then be appended.
 
 ghost use Rattle.std.specs.Fmt.{decimal};
 ghost use Rattle.std.specs.Prelude.{◌≡◌, ◌++◌, codes, map, string_bytes, None, OnOk};
@@ -11,13 +11,15 @@ use raft_listing::{Damage, DamageKind, FileScan, Loss, append_reason, missing_be
 use raft_reading::FileSize;
 use raft_replay::segment::queue_name;
 
-/// Appends the lines of a scan of a file: which files are missing between the one with the number `last`, `None` where it is the first,
-/// and it; how many bytes it has, how many batches of it can be read, and up to which byte from its first one on; one for each place in it
-/// where something can't be read; and one for the bytes at its end that weren't searched.
+/// Appends the lines of the scan of one file:
+/// - a line for the files that are missing before it, if there are any: `last` is the number of the file before, `None` if it is the first;
+/// - a line with its length, the number of batches that can be read, and the offset up to which they can be from its first byte on;
+/// - a line for each place where something can't be read;
+/// - a line for the bytes at its end that weren't searched, if there are any.
 ///
 /// # Errors
 ///
-/// Want of memory. Some lines may then be appended.
+/// Fails only if there is no memory. Some lines may then be appended.
 pub fn append_scan(
     queue: LogQueue,
     last: Option<FileSeq>,
@@ -32,7 +34,7 @@ pub fn append_scan(
     append_unsearched_if_any(queue, scan, text)
 }
 
-/// Appends a line for the bytes at the end of a file that weren't searched for batches, if there are some.
+/// Appends a line for the bytes at the end of a file that weren't searched for batches; nothing if there are none.
 fn append_unsearched_if_any(queue: LogQueue, scan: &FileScan, text: &mut String) -> AllocResult<()>
     ensures { OnOk result (string_bytes text.new ≡ string_bytes text.old ++ unseen_line queue scan.now) }
 {
@@ -42,7 +44,7 @@ fn append_unsearched_if_any(queue: LogQueue, scan: &FileScan, text: &mut String)
     append_unsearched_line(queue, scan, text)
 }
 
-/// Appends the line of the bytes at the end of a file that weren't searched for batches.
+/// Appends a line for the `unseen` bytes at the end of a file that weren't searched for batches, with the offset at which they begin.
 fn append_unsearched_line(queue: LogQueue, scan: &FileScan, text: &mut String) -> AllocResult<()>
     ensures { OnOk result (string_bytes text.new ≡ string_bytes text.old ++ unsearched_line queue scan.now) }
 {
@@ -50,7 +52,7 @@ fn append_unsearched_line(queue: LogQueue, scan: &FileScan, text: &mut String) -
     append_unsearched_words(scan.unseen, text)
 }
 
-/// Appends that `count` bytes weren't searched for batches.
+/// Appends the words that say that `count` bytes weren't searched for batches, and ends the line.
 fn append_unsearched_words(count: u64, text: &mut String) -> AllocResult<()>
     ensures { OnOk result (string_bytes text.new ≡ string_bytes text.old ++ unsearched_words count) }
 {
@@ -60,7 +62,7 @@ fn append_unsearched_words(count: u64, text: &mut String) -> AllocResult<()>
     )
 }
 
-/// Appends the line of a file.
+/// Appends the line of a file: its length, the number of batches that can be read, and the offset up to which they can be.
 fn append_file_line(queue: LogQueue, scan: &FileScan, text: &mut String) -> AllocResult<()>
     ensures { OnOk result (string_bytes text.new ≡ string_bytes text.old ++ file_line queue scan.now) }
 {
@@ -69,14 +71,14 @@ fn append_file_line(queue: LogQueue, scan: &FileScan, text: &mut String) -> Allo
     append_read_end(scan.read, text)
 }
 
-/// Appends that a file can be read from its first byte up to `read`.
+/// Appends the words that say that a file can be read from its first byte up to the offset `read`, and ends the line.
 fn append_read_end(read: u64, text: &mut String) -> AllocResult<()>
     ensures { OnOk result (string_bytes text.new ≡ string_bytes text.old ++ end_words read) }
 {
     writeln!(text, ", read from offset 0 to {read}")
 }
 
-/// Appends the number `seq` of a file, and that it has `len` bytes.
+/// Appends the queue and the number of a file, and its length of `len` bytes.
 fn append_file_length(queue: LogQueue, seq: FileSeq, len: u64, text: &mut String) -> AllocResult<()>
     ensures { OnOk result (string_bytes text.new ≡ string_bytes text.old ++ length_words queue seq len) }
 {
@@ -84,7 +86,7 @@ fn append_file_length(queue: LogQueue, seq: FileSeq, len: u64, text: &mut String
     write!(text, "{name} file {seq}: {len} bytes, ")
 }
 
-/// Appends that there are `count` batches.
+/// Appends the number of batches, in the singular for 1.
 fn append_batch_count(count: u64, text: &mut String) -> AllocResult<()>
     ensures { OnOk result (string_bytes text.new ≡ string_bytes text.old ++ batches_words count) }
 {
@@ -94,7 +96,7 @@ fn append_batch_count(count: u64, text: &mut String) -> AllocResult<()>
     write!(text, "{count} batches")
 }
 
-/// Appends a line for each place in a file where something can't be read.
+/// Appends a line for each place in a file where something can't be read. `len` is the length of the file in bytes.
 fn append_damages(
     queue: LogQueue,
     seq: FileSeq,
@@ -111,7 +113,7 @@ fn append_damages(
     Ok(())
 }
 
-/// Appends the line of a place in a file where something can't be read.
+/// Appends the line of a place where something can't be read, in a file of `len` bytes.
 fn append_damage_line(
     queue: LogQueue,
     seq: FileSeq,
@@ -126,7 +128,7 @@ fn append_damage_line(
     text.push_str("\n")
 }
 
-/// Appends a place in a file.
+/// Appends the words with which the line of a place in a file begins: two spaces, the queue, the number of the file, and the offset.
 fn append_place(queue: LogQueue, seq: FileSeq, offset: u64, text: &mut String) -> AllocResult<()>
     ensures { OnOk result (string_bytes text.new ≡ string_bytes text.old ++ place_words queue seq offset) }
 {
@@ -134,7 +136,8 @@ fn append_place(queue: LogQueue, seq: FileSeq, offset: u64, text: &mut String) -
     write!(text, "  {name} file {seq} offset {offset}: ")
 }
 
-/// Appends what can't be read in a file of this length.
+/// Appends what can't be read at a place, and why. `len` is the length of the file, by which the line says how far before its end the place
+/// is.
 fn append_damage_words(len: u64, damage: &Damage, text: &mut String) -> AllocResult<()>
     ensures { OnOk result (string_bytes text.new
         ≡ string_bytes text.old ++ damage_words len damage.now.offset damage.now.kind) }
@@ -152,7 +155,7 @@ fn append_damage_words(len: u64, damage: &Damage, text: &mut String) -> AllocRes
     }
 }
 
-/// Appends that no batch can be read `left` bytes before the end of a file, and why.
+/// Appends that no batch can be read at a place `left` bytes before the end of its file, and the reason.
 fn append_unreadable(left: u64, reason: &Error, text: &mut String) -> AllocResult<()>
     ensures { OnOk result (string_bytes text.new ≡ string_bytes text.old ++ unreadable_words left reason.now) }
 {
@@ -163,7 +166,7 @@ fn append_unreadable(left: u64, reason: &Error, text: &mut String) -> AllocResul
     append_reason(reason, text)
 }
 
-/// Appends that the entries of a region from the index `first` to the index `last` can't be read, and why.
+/// Appends that the entries of `region` with the indexes `first` to `last`, both included, can't be read, and the reason.
 fn append_lost_entries(
     region: u64,
     first: u64,
@@ -178,7 +181,7 @@ fn append_lost_entries(
     append_of_region(region, why, text)
 }
 
-/// Appends that they are entries of a region that can't be read, and `why`.
+/// Appends the end of a sentence about entries: that they are of `region` and can't be read, and the reason `why`.
 fn append_of_region(region: u64, why: &str, text: &mut String) -> AllocResult<()>
     ensures { OnOk result (string_bytes text.new
         ≡ string_bytes text.old ++ (codes " of region " ++ (decimal region ++ (codes " can't be read: " ++ why.now)))) }
@@ -186,7 +189,7 @@ fn append_of_region(region: u64, why: &str, text: &mut String) -> AllocResult<()
     write!(text, " of region {region} can't be read: {why}")
 }
 
-/// Appends the first and the last index of entries; one alone where they are the same.
+/// Appends the indexes `first` to `last` of entries, both included; one index if they are the same.
 fn append_entries(first: u64, last: u64, text: &mut String) -> AllocResult<()>
     ensures { OnOk result (string_bytes text.new ≡ string_bytes text.old ++ entries_words first last) }
 {
@@ -196,7 +199,8 @@ fn append_entries(first: u64, last: u64, text: &mut String) -> AllocResult<()>
     write!(text, "entries {first} to {last}")
 }
 
-/// Appends a line for files that are missing, by the first and the last of their `numbers`; nothing for `None`.
+/// Appends a line for the files that are missing in a gap. `numbers` are the first and the last number missing there; for `None` nothing is
+/// appended.
 fn append_missing(
     queue: LogQueue,
     numbers: Option<(FileSeq, FileSeq)>,
@@ -211,7 +215,7 @@ fn append_missing(
     append_missing_words(first, last, text)
 }
 
-/// Appends that the files with the numbers `first` to `last` are missing.
+/// Appends that the files with the numbers `first` to `last`, both included, are missing, and ends the line.
 fn append_missing_words(first: FileSeq, last: FileSeq, text: &mut String) -> AllocResult<()>
     ensures { OnOk result (string_bytes text.new ≡ string_bytes text.old ++ missing_words first last) }
 {
@@ -221,11 +225,12 @@ fn append_missing_words(first: FileSeq, last: FileSeq, text: &mut String) -> All
     writeln!(text, " files {first} to {last}: missing")
 }
 
-/// Appends a line for each gap between the numbers of a queue's files: the first and the last number that are missing there.
+/// Appends a line for each gap between the file numbers of a queue, with the first and the last number that are missing there. `sizes` has
+/// the files that are there, oldest first.
 ///
 /// # Errors
 ///
-/// Want of memory. Some lines may then be appended.
+/// Fails only if there is no memory. Some lines may then be appended.
 pub fn append_missing_files(
     queue: LogQueue,
     sizes: &[FileSize],
@@ -246,7 +251,7 @@ pub fn append_missing_files(
 ///
 /// # Errors
 ///
-/// Want of memory. Some of it may then be appended.
+/// Fails only if there is no memory. Some of the line may then be appended.
 pub fn append_no_files(queue: LogQueue, text: &mut String) -> AllocResult<()>
     ensures { OnOk result (string_bytes text.new ≡ string_bytes text.old ++ no_files_line queue) }
 {

@@ -1,4 +1,4 @@
-//! Scans of files.
+//! Scans of whole files for damage.
 
 ghost use Rattle.std.specs.Prelude.{◌≡◌, ◌≢◌, IfErr, IfOk};
 ghost use Rattle.raft_records.specs.Lines.{IsIoError};
@@ -11,11 +11,13 @@ use raft_listing::FileScan;
 use raft_reading::{FileSize, ReadFiles};
 use std::alloc::Global;
 
-/// Scans the file of a queue that has the number and the size of `size`; it is read in pieces.
+/// Scans one file of `queue` for damage: that with the number `size.seq`, of which the first `size.len` bytes are read from `source` in
+/// pieces, in `version`. Damage is what the scan returns, and no error.
 ///
 /// # Errors
 ///
-/// Those of [`walk_file`]: `Io` where a read fails, `Memory`.
+/// `Io`, whose text begins with the queue, the file and the offset, if a read fails, or gives another number of bytes than it was asked
+/// for; `Memory`.
 pub fn scan_file<S: ReadFiles>(
     alloc: Global,
     source: &S,

@@ -1,4 +1,4 @@
-//! Calls of a table through the log store of a Raft node, and what is left of the store.
+//! Tests calls of a table through the log store of a Raft node: what they return, and what the store has then.
 
 use crate::rows::{Row, lists};
 use crate::store::Answer::{Corruption, Done, Full, InvalidArgument};
@@ -9,7 +9,8 @@ use raft_trials::again;
 use std::alloc::Global;
 use std::process::Abort;
 
-/// Tests whether these are the blocks of a table, each told by the number of its file and by how many entries it has.
+/// Tests whether a table keeps its entries in these blocks, each given as the number of its file and how many entries
+/// it has.
 fn has_blocks(table: &MemTable, want: &[(FileSeq, usize)]) -> bool {
     let blocks = table.blocks();
     blocks.len() == want.len()
@@ -18,7 +19,8 @@ fn has_blocks(table: &MemTable, want: &[(FileSeq, usize)]) -> bool {
             && block.spans.len() == want.1)
 }
 
-/// Makes the calls of the rows on an empty store.
+/// Makes the calls of rows on an empty store, and tests each row: once by the calls themselves, and once by changes
+/// that are values.
 fn follow(rt: &impl Abort, alloc: Global, rows: &[Row]) -> Result<()> {
     for &by_value in &[false, true] {
         let mut store = LogStore::new(alloc);
@@ -41,11 +43,11 @@ fn calls_change_the_store(rt: HostRuntime) -> Result<()> {
 
 const MAX: u64 = u64::MAX;
 
-/// A call on a store, a run of a queue that is tried then, whether it is put, and the store after it.
+/// A call on an empty store, a queue and a run that is tried then, whether the run is put, and the store after it.
 type TriedRow = (Call, LogQueue, Run, bool, Shape);
 
-/// Runs that are tried on a store with the entries from 10 on and below 20 in the append queue, on one with them in the
-/// rewrite queue, and on one without entries that has room for three.
+/// Runs that are tried on a store with the entries 10 to 19 in the append queue, on one with these in the rewrite
+/// queue, and on one without entries that has room for three.
 static TRIED: [TriedRow; 9] = [
     (
         Append((10, 20, 1)),
@@ -112,11 +114,12 @@ static TRIED: [TriedRow; 9] = [
     ),
 ];
 
+/// Returns the rows of runs that are tried.
 fn tried() -> &'static [TriedRow] {
     &TRIED
 }
 
-/// Tries a run after a call, and returns whether it was put, and the store after it.
+/// Makes a call on an empty store, and tries a run. Returns whether the run was put, and the store after it.
 fn try_run(alloc: Global, call: Call, queue: LogQueue, run: Run) -> Result<(bool, Shape)> {
     let mut store = LogStore::new(alloc);
     store.direct(call)?;
@@ -133,11 +136,11 @@ fn runs_are_put_where_they_may(rt: HostRuntime) -> Result<()> {
     Ok(())
 }
 
-/// A call on each of two stores, whether the table of the second is merged as an append table or as the newer neighbor,
-/// the answer of the merge, and the first store after it.
+/// A call on each of two empty stores, whether the second table is merged into the first as the appended one (or else
+/// as the newer neighbor), the answer of the merge, and the first store after it.
 type MergeRow = (Call, Call, bool, Answer, Shape);
 
-/// In the second half one table or both are empty.
+/// Merges. In the second half one table is empty, or both.
 static MERGES: [MergeRow; 19] = [
     (
         Append((10, 20, 1)),
@@ -274,16 +277,18 @@ static MERGES: [MergeRow; 19] = [
     ),
 ];
 
+/// Returns the rows of merges.
 fn merges() -> &'static [MergeRow] {
     &MERGES
 }
 
-/// What is seen of a table by itself: its first index and its last, how many keys it has, and the files of its group.
+/// What a table has: its first and its last index, how many keys, and the files of its atomic group.
 type Seen = (Option<u64>, Option<u64>, usize, Option<(FileSeq, FileSeq)>);
 
-/// What is seen of a table that holds nothing.
+/// What an empty table has.
 const EMPTY: Seen = (None, None, 0, None);
 
+/// Returns what a table has.
 fn seen(table: &MemTable) -> Seen {
     (
         table.first_index(),
@@ -293,8 +298,8 @@ fn seen(table: &MemTable) -> Seen {
     )
 }
 
-/// Merges the second store's table into the first's. Returns the result, the first store, and whether the second table
-/// is then empty, or as it was where the merge was refused.
+/// Makes a call on each of two empty stores, and merges the second table into the first. Returns the answer, the first
+/// store, and whether the second table is then empty, or, where the merge was refused, as it was.
 fn merged(
     alloc: Global,
     older: Call,
@@ -319,11 +324,11 @@ fn tables_merge(rt: HostRuntime) -> Result<()> {
     Ok(())
 }
 
-/// The text of a refused run of region 7 that leaves a hole.
+/// The text of the error for a run of region 7 that leaves a hole.
 const HOLE: &str =
     "region 7: a run from index 25 on leaves a hole behind the entries, which end before index 20";
 
-/// Tests whether a call was refused as corruption with this text.
+/// Tests whether a call was refused as `Corruption` with this text.
 fn is_refused_as(given: Result<u64>, text: &str) -> bool {
     match given {
         Err(Error::Corruption(found)) => found.as_str() == text,
@@ -331,7 +336,8 @@ fn is_refused_as(given: Result<u64>, text: &str) -> bool {
     }
 }
 
-/// Leaves a hole by an append, by a replayed run, and by a table that is merged, and returns whether each is refused with its text.
+/// Tests whether a hole is refused with its text: one that an append leaves, a replayed run, and a table that is
+/// merged.
 fn names_holes(alloc: Global) -> Result<bool> {
     let (older, newer) = ((10, 20, 1), (25, 30, 2));
     let mut store = LogStore::after(alloc, &[Append(older)])?;

@@ -1,4 +1,4 @@
-//! Calls on an empty store that change keys and counts.
+//! Rows of calls on an empty store that change keys and counts.
 
 use crate::rows::Row;
 use crate::store::Answer::{Corruption, Done, Dropped, Full};
@@ -7,7 +7,7 @@ use raft_memtable::LogQueue;
 
 const MAX: u64 = u64::MAX;
 
-/// A key that is put, rewritten and deleted.
+/// Calls that put, rewrite and delete a key.
 pub const KEYS: &[Row] = &[
     (
         Put(LogQueue::Append, 2),
@@ -55,7 +55,7 @@ pub const KEYS: &[Row] = &[
     ),
 ];
 
-/// An atomic group, which lowers the least file.
+/// Calls that set an atomic group, which lowers the least file.
 pub const GROUPS: &[Row] = &[
     (Group(3, 7), Done, ((0, 0), (0, 0), (0, 0, 0)), &[]),
     (
@@ -78,7 +78,7 @@ pub const GROUPS: &[Row] = &[
     ),
 ];
 
-/// Calls for which the counts have no room.
+/// Calls with which a count would pass its limit.
 pub const FULL: &[Row] = &[
     (
         Count(LogQueue::Append, MAX - 10),
@@ -136,7 +136,7 @@ pub const FULL: &[Row] = &[
     ),
 ];
 
-/// Deleted records make room once.
+/// Calls after which deleted records make room for as many others, once.
 pub const ROOM: &[Row] = &[
     (
         Replay(LogQueue::Rewrite, (0, 10, 50)),

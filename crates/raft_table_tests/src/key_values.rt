@@ -1,4 +1,4 @@
-//! Walks over keys, pairs that are handed out, and the pairs of two tables that are joined.
+//! Tests walks over keys, pairs that are fetched, and the pairs of two tables that are merged.
 
 use crate::store::LogStore;
 use raft_memtable::{FileId, FileSeq, LogQueue, MemTable, Result, TableChange};
@@ -6,7 +6,7 @@ use raft_trials::again;
 use std::alloc::Global;
 use std::process::Abort;
 
-/// Returns a store of three keys, of which the second is rewritten.
+/// Returns a store with the keys 1, 2 and 3, the second of which is rewritten.
 fn store_of_keys(alloc: Global) -> Result<LogStore> {
     let mut store = LogStore::new(alloc);
     for &(key, queue, seq) in &[
@@ -19,7 +19,7 @@ fn store_of_keys(alloc: Global) -> Result<LogStore> {
     Ok(store)
 }
 
-/// Returns how many pairs are fetched, and whether the first is of the key 1.
+/// Fetches the pairs of a table. Returns how many there are, and whether the first has the key 1.
 fn fetch_pairs(alloc: Global, table: &MemTable) -> Result<(usize, bool)> {
     let mut pairs = Vec::new(alloc);
     table.fetch_kvs_before(2, &mut pairs)?;
@@ -30,15 +30,15 @@ fn fetch_pairs(alloc: Global, table: &MemTable) -> Result<(usize, bool)> {
     Ok((pairs.len(), first))
 }
 
-/// A bound of a walk.
+/// A bound of a walk: a key, or none.
 type Bound = Option<&'static [u8]>;
 
 const ONE: Bound = Some(b"1");
 
 const TWO: Bound = Some(b"2");
 
-/// Where a walk over the keys 1, 2 and 3 starts and ends, whether it goes back, the number at which it is told
-/// to end, and the decimal number of the keys that it meets, one after the other.
+/// A walk over the keys 1, 2 and 3: its start, its end, whether it goes backwards, and the number at which it ends
+/// early; and the keys that it meets, as the digits of a number.
 type Walk = (Bound, Bound, bool, u64, u64);
 
 static WALKS: [Walk; 10] = [
@@ -54,11 +54,13 @@ static WALKS: [Walk; 10] = [
     (TWO, ONE, false, 1000, 0),
 ];
 
+/// Returns the rows of walks.
 fn walks() -> &'static [Walk] {
     &WALKS
 }
 
-/// Returns the number of the keys that a walk meets.
+/// Walks over the keys of a table, and returns those that it meets as the digits of a number. It ends early once that
+/// number isn't below `limit`.
 fn seen(table: &MemTable, start: Bound, end: Bound, reverse: bool, limit: u64) -> Result<u64> {
     let mut seen = 0u64;
     table.scan(start, end, reverse, |key, _| {
@@ -69,6 +71,7 @@ fn seen(table: &MemTable, start: Bound, end: Bound, reverse: bool, limit: u64) -
     Ok(seen)
 }
 
+/// Tests what a table returns for its keys.
 fn ask(rt: &impl Abort, alloc: Global) -> Result<()> {
     let store = store_of_keys(alloc)?;
     let table = &store.table;
@@ -86,7 +89,7 @@ fn keys_are_walked_and_pairs_handed_out(rt: HostRuntime) -> Result<()> {
     again!(ask(&rt, rt.alloc()))
 }
 
-/// Returns a store of these keys in one file.
+/// Returns a store with these keys and values in a file.
 fn store_of_pairs(alloc: Global, file: FileId, pairs: &[(&[u8], &[u8])]) -> Result<LogStore> {
     let mut store = LogStore::new(alloc);
     for (key, value) in pairs {
@@ -95,7 +98,7 @@ fn store_of_pairs(alloc: Global, file: FileId, pairs: &[(&[u8], &[u8])]) -> Resu
     Ok(store)
 }
 
-/// Returns a store with two rewritten keys under two appended ones, of which one is the same.
+/// Returns a store with two rewritten keys, into which two appended ones were merged. One key is in both.
 fn joined(alloc: Global) -> Result<LogStore> {
     let rewritten = FileId::new(LogQueue::Rewrite, 7);
     let mut store = store_of_pairs(alloc, rewritten, &[(b"j", b"1"), (b"k", b"2")])?;
@@ -106,20 +109,20 @@ fn joined(alloc: Global) -> Result<LogStore> {
     Ok(store)
 }
 
-/// Tests whether the store has these values of the keys j, k and l.
+/// Tests whether a store has these values of the keys j, k and l.
 fn has_values(store: &LogStore, values: [Bound; 3]) -> bool {
     let table = &store.table;
     [table.get(b"j"), table.get(b"k"), table.get(b"l")] == values
 }
 
-/// Returns how many pairs lie in the append queue's files up to one.
+/// Returns how many pairs of a table are in append files up to the one numbered `gate`.
 fn count_before(alloc: Global, table: &MemTable, gate: FileSeq) -> Result<usize> {
     let mut pairs = Vec::new(alloc);
     table.fetch_kvs_before(gate, &mut pairs)?;
     Ok(pairs.len())
 }
 
-/// Returns how many keys there are, how many of them are rewritten, and the least file of the others.
+/// Returns how many keys a table has, how many of them are rewritten, and the oldest append file that it needs.
 fn counts(table: &MemTable) -> (usize, u128, Option<FileSeq>) {
     (
         table.key_count(),
@@ -128,6 +131,7 @@ fn counts(table: &MemTable) -> (usize, u128, Option<FileSeq>) {
     )
 }
 
+/// Rewrites a key into rewrite file 50, if it is in an append file up to 9.
 fn rewrite_key(alloc: Global, store: &mut LogStore, key: &[u8]) -> Result<()> {
     let key = Vec::from_slice(alloc, key)?;
     store.make(TableChange::RewriteKey {
@@ -138,12 +142,14 @@ fn rewrite_key(alloc: Global, store: &mut LogStore, key: &[u8]) -> Result<()> {
     Ok(())
 }
 
+/// Deletes a key.
 fn delete_key(alloc: Global, store: &mut LogStore, key: &[u8]) -> Result<()> {
     let key = Vec::from_slice(alloc, key)?;
     store.make(TableChange::Delete { key })?;
     Ok(())
 }
 
+/// Tests a merged table, and again after each of a rewriting and a deletion.
 fn join(rt: &impl Abort, alloc: Global) -> Result<()> {
     let mut store = joined(alloc)?;
     assert!(rt; has_values(&store, [Some(b"1"), Some(b"3"), Some(b"4")]));

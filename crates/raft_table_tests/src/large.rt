@@ -1,4 +1,4 @@
-//! Long runs over many places, merges of long tables, and a long value.
+//! Tests long runs over many places, merges of long tables, and a long value.
 
 use crate::store::Call::{Append, Replay, Rewrite};
 use crate::store::{Call, LogStore};
@@ -6,10 +6,11 @@ use raft_memtable::{FileId, LogQueue, MemTable, Result, TableChange};
 use raft_trials::again;
 use std::alloc::Global;
 
-/// The first index and the last, how many entries are rewritten, how many blocks there are, and how many entries are
-/// fetched.
+/// What a table has: its first and its last index, how many entries are rewritten, how many blocks there are, and how
+/// many entries are fetched.
 type Shape = (Option<u64>, Option<u64>, usize, usize, usize);
 
+/// Returns the indexes and the counts of a table, and how many entries it returns.
 fn shape(alloc: Global, table: &MemTable) -> Result<Shape> {
     let (first, last) = (table.first_index(), table.last_index());
     let mut fetched = Vec::new(alloc);
@@ -20,7 +21,7 @@ fn shape(alloc: Global, table: &MemTable) -> Result<Shape> {
     Ok((first, last, table.rewrite_count(), blocks, fetched.len()))
 }
 
-/// Tests whether a list of 5,000 entries in 100 blocks is appended, and its older half is rewritten, each as a change.
+/// Tests whether 5,000 entries in 100 blocks are appended, and their older half is rewritten, each by a single change.
 fn is_rewritten(alloc: Global) -> Result<bool> {
     let mut store = LogStore::new(alloc);
     let _appended = store.apply(Append((0, 5_000, 1)), true)?;
@@ -32,8 +33,8 @@ fn is_rewritten(alloc: Global) -> Result<bool> {
     )
 }
 
-/// A call on each of two stores, whether the table of the second is merged as an append table or as the newer neighbor,
-/// and the table then.
+/// A call on each of two empty stores, whether the second table is merged into the first as the appended one (or else
+/// as the newer neighbor), and the table then.
 type MergeRow = (Call, Call, bool, Shape);
 
 static MERGES: [MergeRow; 3] = [
@@ -57,11 +58,12 @@ static MERGES: [MergeRow; 3] = [
     ),
 ];
 
+/// Returns the rows of merges.
 fn merges() -> &'static [MergeRow] {
     &MERGES
 }
 
-/// Tests whether both tables are merged so.
+/// Tests whether the tables of a row are merged into the table that it has.
 fn is_merged(alloc: Global, row: &MergeRow) -> Result<bool> {
     let (older, newer, is_append, merged) = *row;
     let mut store = LogStore::after(alloc, &[older])?;
@@ -70,7 +72,7 @@ fn is_merged(alloc: Global, row: &MergeRow) -> Result<bool> {
     Ok(shape(alloc, &store.table)? == merged)
 }
 
-/// Tests whether the empty key has a value of 64 KiB, until it is deleted.
+/// Tests whether the empty key gets a value of 64 KiB, and has none once it is deleted.
 fn is_deleted(alloc: Global) -> Result<bool> {
     let mut store = LogStore::new(alloc);
     let mut value = Vec::new(alloc);
@@ -82,6 +84,7 @@ fn is_deleted(alloc: Global) -> Result<bool> {
     Ok(has_value && store.table.get(b"").is_none() && store.table.key_count() == 0)
 }
 
+/// Tests each row, a rewriting and a long value.
 fn all_are_large(alloc: Global) -> Result<bool> {
     for row in merges() {
         if !is_merged(alloc, row)? {

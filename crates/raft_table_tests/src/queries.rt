@@ -1,4 +1,4 @@
-//! What a table returns of its entries.
+//! Tests what a table returns of its entries.
 
 use crate::store::Answer::{Compacted, Done, InvalidArgument, NotFound};
 use crate::store::Call::{Append, Group, Rewrite};
@@ -10,12 +10,12 @@ use raft_trials::again;
 use std::alloc::Global;
 use std::process::Abort;
 
-/// An entry's index, and the queue that it lies in, if it lies somewhere.
+/// The index of an entry, and the queue that it is in; `None` where it has no place.
 type ListedEntry = (u64, Option<LogQueue>);
 
 const HERE: Option<LogQueue> = Some(LogQueue::Append);
 
-/// Lists, and what an append of them returns.
+/// Lists of entries, and what an append of each returns.
 static LISTS: [(&[ListedEntry], Answer); 6] = [
     (&[], Done),
     (&[(u64::MAX - 2, HERE), (u64::MAX - 1, HERE)], Done),
@@ -25,6 +25,7 @@ static LISTS: [(&[ListedEntry], Answer); 6] = [
     (&[(1, Some(LogQueue::Rewrite))], InvalidArgument),
 ];
 
+/// Returns the rows of lists.
 fn list_rows() -> &'static [(&'static [ListedEntry], Answer)] {
     &LISTS
 }
@@ -46,7 +47,7 @@ fn listed(alloc: Global, list: &[ListedEntry]) -> Result<Vec<EntryIndex>> {
     Ok(entries)
 }
 
-/// Returns whether a list is a run, and what its append returns.
+/// Appends a list. Returns whether it is a run of the append queue, and the answer.
 fn append(alloc: Global, store: &mut LogStore, list: &[ListedEntry]) -> Result<(bool, Answer)> {
     let entries = listed(alloc, list)?;
     let is_run = is_run(&entries, LogQueue::Append);
@@ -54,6 +55,7 @@ fn append(alloc: Global, store: &mut LogStore, list: &[ListedEntry]) -> Result<(
     Ok((is_run, answer))
 }
 
+/// Tests whether the lists of the rows are appended to one table, or refused, one after another.
 fn make_lists(rt: &impl Abort, alloc: Global) -> Result<()> {
     let mut store = LogStore::new(alloc);
     for (list, want) in list_rows() {
@@ -69,8 +71,8 @@ fn lists_are_runs_or_refused(rt: HostRuntime) -> Result<()> {
     again!(make_lists(&rt, rt.alloc()))
 }
 
-/// The lengths of entries from the index 10 on, a fetch's range and limit, what it returns, and how many entries
-/// it gives.
+/// The lengths of entries from index 10 on; the range and the limit of a fetch; its answer, and how many entries it
+/// gives.
 type Fetch = (&'static [u32], u64, u64, Option<usize>, Answer, usize);
 
 static FETCHES: [Fetch; 11] = [
@@ -87,6 +89,7 @@ static FETCHES: [Fetch; 11] = [
     (&[u32::MAX, u32::MAX], 10, 12, Some(1 << 32), Done, 1),
 ];
 
+/// Returns the rows of fetches.
 fn fetch_rows() -> &'static [Fetch] {
     &FETCHES
 }
@@ -111,7 +114,7 @@ fn entries(alloc: Global, lens: &[u32]) -> Result<Vec<EntryIndex>> {
     Ok(entries)
 }
 
-/// Tests whether the entries have the indexes from this one on.
+/// Tests whether entries have the indexes from `first` on.
 fn are_from(entries: &[EntryIndex], first: u64) -> bool {
     let mut index = first;
     for entry in entries {
@@ -123,7 +126,7 @@ fn are_from(entries: &[EntryIndex], first: u64) -> bool {
     true
 }
 
-/// Returns the result of a fetch, how many entries it gives, and whether they are those from its start on.
+/// Fetches entries. Returns the answer, how many entries it gives, and whether these are the ones from `begin` on.
 fn fetch(
     alloc: Global,
     table: &MemTable,
@@ -137,7 +140,7 @@ fn fetch(
     Ok((answer, fetched.len(), are_from(fetched.as_slice(), begin)))
 }
 
-/// Tests whether a fetch returns what its row says.
+/// Tests whether the fetch of a row gives what the row says.
 fn holds(alloc: Global, row: &Fetch) -> Result<bool> {
     let (lens, begin, end, limit, want, count) = *row;
     let mut store = LogStore::new(alloc);
@@ -154,13 +157,15 @@ fn fetches_end_at_limits(rt: HostRuntime) -> Result<()> {
     Ok(())
 }
 
+/// Tests whether a table says that it has at least `count` entries in append files up to `seq`.
 fn has_before(table: &MemTable, seq: FileSeq, count: usize) -> bool {
     let gate = FileId::new(LogQueue::Append, seq);
     count > 0 && table.has_at_least_some_entries_before(gate, count)
 }
 
-/// Returns how many entries lie in the first file and, after them, in the second, and how many with those that are
-/// rewritten; and whether those of the second are the ones from 10 on, and the rewritten ones those from 0 on.
+/// Fetches the appended entries up to file 1, those up to file 2, and the rewritten ones, into one list. Returns how
+/// long the list is after each fetch; and whether the appended entries in it are those from 10 on, and the rewritten
+/// ones those from 0 on.
 fn fetch_queues(alloc: Global, table: &MemTable) -> Result<([usize; 3], bool)> {
     let mut fetched = Vec::new(alloc);
     table.fetch_entry_indexes_before(1, &mut fetched)?;
@@ -174,7 +179,7 @@ fn fetch_queues(alloc: Global, table: &MemTable) -> Result<([usize; 3], bool)> {
     Ok(([first, second, fetched.len()], are_theirs))
 }
 
-/// Returns how many blocks there are, how many rewritten entries, and how many records of the append queue.
+/// Returns how many blocks, how many rewritten entries, and how many records of the append queue a table has.
 fn counts(table: &MemTable) -> (usize, usize, u128) {
     (
         table.block_count(),
@@ -183,7 +188,7 @@ fn counts(table: &MemTable) -> (usize, usize, u128) {
     )
 }
 
-/// Returns the number of the file that an entry lies in.
+/// Returns the number of the file that an entry is in; `None` where there is no such entry.
 fn seq_at(table: &MemTable, index: u64) -> Option<FileSeq> {
     table
         .get_entry(index)
@@ -191,7 +196,7 @@ fn seq_at(table: &MemTable, index: u64) -> Option<FileSeq> {
         .map(|place| place.id.seq)
 }
 
-/// Asks a store of two appended files, of which the first is rewritten.
+/// Tests what a table returns of entries in two append files, those of the first of which are then rewritten.
 fn ask_queues(rt: &impl Abort, alloc: Global) -> Result<()> {
     let calls = [
         Append((0, 10, 1)),

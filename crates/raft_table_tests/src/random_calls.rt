@@ -1,4 +1,4 @@
-//! Random calls of a table, beside a plain list of its entries.
+//! Compares a table after random calls with a plain list of its entries.
 
 ghost use Rattle.std.specs.Prelude.{◌<◌};
 
@@ -7,14 +7,14 @@ use raft_memtable::{EntryIndex, Error, FileSeq, LogQueue, Mark, MemTable, Result
 use raft_trials::again;
 use std::alloc::Global;
 
-/// Numbers of a linear congruential generator.
+/// Random numbers of a linear congruential generator.
 #[derive(Drop)]
 struct Numbers {
     state: u64,
 }
 
 impl Numbers {
-    /// Returns the next number, below another.
+    /// Returns the next number, which is below `end`.
     fn below(&mut self, end: u64) -> u64
         requires { 0 < end }
         ensures { result < end }
@@ -31,11 +31,11 @@ impl Numbers {
 #[derive(Clone, Copy, Debug)]
 enum Change {
     Call(Call),
-    /// The table of a run is merged as the newer neighbor.
+    /// Merges the table of a run as the newer neighbor.
     MergeNewer(LogQueue, Run),
-    /// The table of a run is merged as the appended one.
+    /// Merges the table of a run as the appended one.
     MergeAppended(Run),
-    /// The table of a run is merged under a region mark, before whose run the entries off some bounds are dropped.
+    /// Merges the table of a run under a region mark that first drops the entries outside of some bounds.
     JoinUnder(LogQueue, Bounds, Run),
 }
 
@@ -47,13 +47,14 @@ struct Bounds {
 }
 
 impl Bounds {
+    /// Tests whether an entry is within the bounds.
     fn hold(&self, entry: &EntryIndex) -> bool {
         self.floor <= entry.index && entry.index < self.cut
     }
 }
 
-/// Returns a run of up to three entries in a file from 1 to 3, that starts near the entries of a list or, less
-/// often, anywhere; all indexes stay below 27.
+/// Draws a run of up to three entries in one of the files 1 to 3. It starts near the entries of a list, or, more
+/// rarely, anywhere. All indexes are below 27.
 fn random_run(numbers: &mut Numbers, list: &List) -> Run {
     let near = list
         .start()
@@ -68,7 +69,7 @@ fn random_run(numbers: &mut Numbers, list: &List) -> Run {
     (first, first.saturating_add(count), 1 + numbers.below(3))
 }
 
-/// Returns some change.
+/// Draws a change.
 fn random_change(numbers: &mut Numbers, list: &List) -> Change {
     let run = random_run(numbers, list);
     let gate = 1 + numbers.below(3);
@@ -96,7 +97,7 @@ fn table_of(alloc: Global, queue: LogQueue, run: Run) -> Result<MemTable> {
     Ok(LogStore::after(alloc, &[Call::Replay(queue, run)])?.table)
 }
 
-/// Makes a change.
+/// Makes a change of a store.
 fn make(alloc: Global, store: &mut LogStore, change: Change) -> Result<()> {
     match change {
         Change::Call(call) => {
@@ -132,12 +133,13 @@ fn join_under(
     store.join_under(queue, &mut table_of(alloc, queue, run)?, &mark)
 }
 
-/// The entries of a table, by rising index.
+/// The entries of a table, by rising index, as a plain list.
 #[derive(Drop)]
 struct List {
     entries: Vec<EntryIndex>,
 }
 
+/// Tests whether a run has an entry at an index.
 fn holds(run: Run, index: u64) -> bool {
     let (first, end, _) = run;
     first <= index && index < end
@@ -177,11 +179,12 @@ impl List {
         }
     }
 
-    /// Returns the end of the entries within bounds, 0 where there are none.
+    /// Returns the index past the last entry within bounds, 0 where there is none.
     fn end_within(&self, bounds: Bounds) -> u64 {
         end_of(self.entries.iter().filter(|e| bounds.hold(e)).last())
     }
 
+    /// Returns the entry at an index; `None` where there is none.
     fn get(&self, index: u64) -> Option<EntryIndex> {
         for entry in &self.entries {
             if entry.index == index {
@@ -196,13 +199,13 @@ impl List {
         self.entries.iter().filter(|e| is_in(e, queue)).count()
     }
 
-    /// Tests whether a run in place of the entries from its start on leaves no hole.
+    /// Tests whether a run leaves no hole if it replaces the entries from its start on.
     fn meets(&self, run: Run) -> bool {
         self.entries.is_empty() || run.0 <= end_of(self.entries.last())
     }
 
-    /// Tests whether a rewriting may begin where it does: after no more than the rewritten entries, and with a gate
-    /// right after them.
+    /// Tests whether a rewriting by a run may begin where it does: not behind the first entry that isn't rewritten, and
+    /// with a gate exactly there.
     fn may_rewrite(&self, run: Run, gate: Option<FileSeq>) -> bool {
         let (first, _, _) = run;
         if !self.entries.iter().any(|e| holds(run, e.index)) {
@@ -213,7 +216,7 @@ impl List {
         before == rewritten || before < rewritten && gate.is_none()
     }
 
-    /// Tests whether a change is accepted.
+    /// Tests whether a change of the list is to be accepted.
     fn accepts(&self, change: Change) -> bool {
         let appended = self.count_in(LogQueue::Append) > 0;
         let rewritten = self.count_in(LogQueue::Rewrite) > 0;
@@ -234,7 +237,7 @@ impl List {
         }
     }
 
-    /// Makes a change that is accepted.
+    /// Makes a change of the list, one that is accepted.
     fn make(&mut self, change: Change) -> Result<()> {
         match change {
             Change::Call(Call::Append(run)) | Change::MergeAppended(run) => {
@@ -263,7 +266,7 @@ impl List {
         }
     }
 
-    /// Puts a run in place of the entries from its start on, and of all where it leaves a hole.
+    /// Puts a run in place of the entries from its start on, or of all entries where it would leave a hole.
     fn put(&mut self, queue: LogQueue, run: Run) -> Result<()> {
         if !self.meets(run) {
             self.entries.clear();
@@ -276,7 +279,7 @@ impl List {
         Ok(())
     }
 
-    /// Gives the entries the places of a run, up to the first that may not move.
+    /// Gives entries the places that a run has for them, up to the first entry that may not move.
     fn move_places(&mut self, run: Run, gate: Option<FileSeq>) {
         for entry in &mut self.entries {
             if holds(run, entry.index) {
@@ -289,14 +292,15 @@ impl List {
     }
 }
 
-/// Tests whether a table has the entries of a list, and is counted.
+/// Tests whether a table has the entries of a list, and the counts are right.
 fn is_same(store: &LogStore, list: &List) -> bool {
     (0..32).all(|index| store.table.get_entry(index) == list.get(index))
         && store.stats.live_entries(LogQueue::Append) == list.count_in(LogQueue::Append)
         && store.stats.live_entries(LogQueue::Rewrite) == list.count_in(LogQueue::Rewrite)
 }
 
-/// Tests whether a change is accepted as it should be, and leaves the table with the entries of the list.
+/// Makes a change of the table, and of the list where that accepts it. Tests whether both accept it or neither does,
+/// and both have the same entries then.
 fn agree(alloc: Global, store: &mut LogStore, list: &mut List, change: Change) -> Result<bool> {
     let accepted = match make(alloc, store, change) {
         Err(Error::Memory) => return Err(Error::Memory),
@@ -311,7 +315,8 @@ fn agree(alloc: Global, store: &mut LogStore, list: &mut List, change: Change) -
     Ok(is_same(store, list))
 }
 
-/// Returns the first of so many changes in which the table and the list differ, if there is one.
+/// Makes `changes` random changes, and returns the first one after which the table and the list differ; `None` where
+/// they never do.
 fn first_fault(alloc: Global, changes: u32) -> Result<Option<Change>> {
     let mut numbers = Numbers { state: 2024 };
     let mut store = LogStore::new(alloc);

@@ -1,4 +1,4 @@
-//! Calls on an empty store, one after the other, and the store after each.
+//! Rows of calls on an empty store, one after the other, with the store after each.
 
 use crate::counts::{FULL, GROUPS, KEYS, ROOM};
 use crate::store::Answer::{Corruption, Done, Dropped};
@@ -6,8 +6,8 @@ use crate::store::Call::{Append, Compact, Replay, Rewrite, Truncate};
 use crate::store::{Answer, Call, Shape};
 use raft_memtable::{FileSeq, LogQueue};
 
-/// A call, what it returns, the store after it, and the blocks in which the table keeps its entries then, each told by
-/// the number of its file and by how many entries it has.
+/// A call, what it returns, the store after it, and the blocks in which the table keeps its entries then, each given as
+/// the number of its file and how many entries it has.
 pub type Row = (Call, Answer, Shape, &'static [(FileSeq, usize)]);
 
 const MAX: u64 = u64::MAX;
@@ -383,6 +383,7 @@ static ROWS: [&[Row]; 14] = [
     ROOM,
 ];
 
+/// Returns the lists of rows, each of which begins with an empty store.
 pub fn lists() -> &'static [&'static [Row]] {
     &ROWS
 }

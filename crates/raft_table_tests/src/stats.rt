@@ -1,4 +1,4 @@
-//! Counts of live records: of a table, and by themselves.
+//! Tests counts of live records: those of a table, and by themselves.
 
 use crate::store::Call::{Append, Put};
 use crate::store::LogStore;
@@ -17,8 +17,8 @@ fn counts(stats: &GlobalStats) -> [usize; 3] {
     ]
 }
 
-/// Counts a table of ten appended entries and a rewritten key among all, takes it off, and counts it again where there is
-/// no room.
+/// Tests the counts when a table of ten appended entries and a rewritten key is added, subtracted, and added again
+/// where there is no room.
 fn count_table(rt: &impl Abort, table: &MemTable) -> Result<()> {
     let mut stats = GlobalStats::default();
     stats.add_table(table)?;
@@ -31,6 +31,7 @@ fn count_table(rt: &impl Abort, table: &MemTable) -> Result<()> {
     Ok(())
 }
 
+/// Tests the counts of a table with appended entries and a rewritten key.
 fn count(rt: &impl Abort, alloc: Global) -> Result<()> {
     let calls = [Append((0, 10, 1)), Put(LogQueue::Rewrite, 5)];
     let store = LogStore::after(alloc, &calls)?;

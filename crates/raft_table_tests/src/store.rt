@@ -21,15 +21,15 @@ pub struct LogStore {
     ghost counted: { IsCounted table stats },
 }
 
-/// A run, told by its first index, the index past its last, and the number of its file.
+/// A run of entries: its first index, the index past its last, and the number of its file.
 pub type Run = (u64, u64, FileSeq);
 
-/// What is done to a store. There is one key.
+/// A call that changes a store. There is a single key.
 #[derive(Clone, Copy, Debug)]
 pub enum Call {
     Append(Run),
     Replay(LogQueue, Run),
-    /// With the gate.
+    /// Rewrites a run, with a gate.
     Rewrite(Run, Option<FileSeq>),
     Compact(u64),
     Truncate(u64),
@@ -37,7 +37,7 @@ pub enum Call {
     Delete,
     RewriteKey(Option<FileSeq>, FileSeq),
     Group(FileSeq, FileSeq),
-    /// So many records of another region.
+    /// Counts so many records of another region.
     Count(LogQueue, u64),
 }
 
@@ -53,13 +53,13 @@ pub enum Answer {
     Compacted,
 }
 
-/// What is seen of a store: the first index and the one past the last, 0 without entries; how many records are live in
-/// the append queue, and their least file; how many were written to the rewrite queue and deleted from it, and the
-/// least file of those that are live. A least file is 0 without records.
+/// What a store has: the first index and the one past the last, 0 without entries; how many records are live in the
+/// append queue, and their oldest file; how many were written to the rewrite queue and how many deleted from it, and
+/// the oldest file of those that are live. The oldest file is 0 where there are no records.
 pub type Shape = ((u64, u64), (u64, FileSeq), (u64, u64, FileSeq));
 
-/// Returns what a call returned, but for the number of a compaction or a truncation that drops nothing. Want of memory
-/// and other faults are handed on.
+/// Returns the result of a call as an answer: a number of dropped entries only if that isn't 0. `Memory` and errors
+/// that no answer stands for are passed on.
 pub fn answered(given: Result<u64>) -> Result<Answer> {
     match given {
         Ok(0) => Ok(Answer::Done),
@@ -73,10 +73,10 @@ pub fn answered(given: Result<u64>) -> Result<Answer> {
     }
 }
 
-/// How many indexes lie in one block of a file.
+/// How many entries of consecutive indexes are in one block of a file.
 const BLOCK: u64 = 50;
 
-/// Returns an entry of a run, whose span tells where the run starts.
+/// Returns the entry of a run at an index. Its span depends on where the run starts.
 pub fn entry_of(queue: LogQueue, run: Run, index: u64) -> EntryIndex {
     let (first, _, seq) = run;
     EntryIndex {
@@ -93,6 +93,7 @@ pub fn entry_of(queue: LogQueue, run: Run, index: u64) -> EntryIndex {
 }
 
 impl LogStore {
+    /// Returns an empty store.
     pub fn new(alloc: Global) -> LogStore {
         LogStore {
             alloc,
@@ -101,7 +102,7 @@ impl LogStore {
         }
     }
 
-    /// Returns a store on which these calls were made.
+    /// Returns a new store on which these calls were made.
     pub fn after(alloc: Global, calls: &[Call]) -> Result<LogStore> {
         let mut store = LogStore::new(alloc);
         for call in calls {
@@ -110,6 +111,7 @@ impl LogStore {
         Ok(store)
     }
 
+    /// Returns a copy of a text.
     fn bytes(&self, text: &[u8]) -> Result<Vec<u8>> {
         Ok(Vec::from_slice(self.alloc, text)?)
     }
@@ -130,7 +132,7 @@ impl LogStore {
         }
     }
 
-    /// Returns the call as a value, if there is one for it.
+    /// Returns a call as a change that is a value; `None` where there is no such change.
     fn change(&self, call: Call) -> Result<Option<TableChange>> {
         Ok(match call {
             Call::Append(run) => Some(TableChange::Append(self.entries(LogQueue::Append, run)?)),
@@ -157,7 +159,7 @@ impl LogStore {
         })
     }
 
-    /// Makes the call itself.
+    /// Makes a call by the method of the table.
     pub fn direct(&mut self, call: Call) -> Result<u64> {
         match call {
             Call::Append(run) => {
@@ -193,7 +195,7 @@ impl LogStore {
         Ok(0)
     }
 
-    /// Replays a run; `Failed` for one of the rewrite queue where there are appended records.
+    /// Replays a run. `Failed` where it is of the rewrite queue, and there are appended records.
     fn replay(&mut self, queue: LogQueue, run: Vec<EntryIndex>) -> Result<()>
         requires { IsRunIn queue run.items }
     {
@@ -204,7 +206,8 @@ impl LogStore {
         }
     }
 
-    /// Tries a run that is replayed, once more where it isn't put, as for want of memory. Returns whether it was put.
+    /// Tries to replay a run, and once more where it isn't put, which may be for lack of memory. Returns whether it was
+    /// put.
     pub fn try_replay(&mut self, queue: LogQueue, run: Run) -> Result<bool> {
         let entries = self.entries(queue, run)?;
         let run = raft_memtable::Run::Entries(&entries);
@@ -214,7 +217,7 @@ impl LogStore {
         )
     }
 
-    /// Makes the call, as a value where there is one for it and that is asked.
+    /// Makes a call, with `by_value` as a change that is a value, where there is one for it.
     fn call(&mut self, call: Call, by_value: bool) -> Result<u64> {
         if by_value && let Some(change) = self.change(call)? {
             return self.table.change(change, &mut self.stats);
@@ -222,7 +225,7 @@ impl LogStore {
         self.direct(call)
     }
 
-    /// Makes the call, once more where it found no memory: it has changed nothing then.
+    /// Makes a call, and once more where it found no memory, since nothing has changed then.
     pub fn apply(&mut self, call: Call, by_value: bool) -> Result<Answer> {
         answered(again!(self.call(call, by_value)))
     }
@@ -243,7 +246,7 @@ impl LogStore {
         Ok(())
     }
 
-    /// Merges a table into this store's, as an append table or as its newer neighbor.
+    /// Merges a table into the store's: as the appended one, or else as the newer neighbor.
     pub fn merge(&mut self, other: &mut MemTable, is_append: bool) -> Result<()> {
         if self.table.region_id() != other.region_id() {
             return Err(Error::Failed);
@@ -255,7 +258,7 @@ impl LogStore {
         }
     }
 
-    /// Merges a table of a queue into this store's, under its region mark.
+    /// Merges a newer table of a queue into the store's, under the newer one's region mark.
     pub fn join_under(&mut self, queue: LogQueue, newer: &mut MemTable, mark: &Mark) -> Result<()> {
         let other = match queue {
             LogQueue::Append => LogQueue::Rewrite,
@@ -271,6 +274,7 @@ impl LogStore {
         Ok(())
     }
 
+    /// Returns the indexes of the store, and its counts and its least file in each queue; 0 where there is none.
     pub fn shape(&self) -> Shape {
         let last = self.table.last_index();
         let appended = self.stats.live_entries(LogQueue::Append) as u64;

@@ -1,4 +1,4 @@
-//! Batches that are broken off.
+//! Recognizes batches of which the end is missing.
 
 ghost use Rattle.std.specs.Prelude.{◌≡◌, ◌↔◌, ◌≤◌, drop, length, IfErr, IfOk, IsTrue};
 ghost use Rattle.raft_codec.specs.Reading.{HasNoFront};
@@ -10,8 +10,8 @@ use raft_base::{Error, LogFileContext, Result};
 use raft_records::FilePart;
 use std::alloc::Global;
 
-/// Tests whether the bytes from position `at` of a part to its end can be all that is left of one batch, as
-/// a crash leaves it. `at` must be at most the number of bytes.
+/// Tests whether the bytes of `part` from position `at` to its end can be all that is left of one batch, as a
+/// crash leaves it. `at` must be at most the number of bytes.
 ///
 /// # Errors
 ///
@@ -26,9 +26,9 @@ pub fn is_broken_off(part: &FilePart, at: usize) -> Result<bool>
     is_broken(part.allocator(), rest, file.get_signature())
 }
 
-/// Tests whether `bytes` can be all that is left of one batch, which was to be signed with `signature`:
-/// either they are too few for a header, or they have one, are fewer than it says, and don't have whole items
-/// where it says.
+/// Tests whether `bytes` can be all that is left of one batch that was to be signed with `signature`: they
+/// are too few for a header, or they have one, are fewer than it says, and have no whole items where it says
+/// that they begin.
 ///
 /// # Errors
 ///
@@ -46,8 +46,8 @@ fn is_broken(alloc: Global, bytes: &[u8], signature: Option<u32>) -> Result<bool
     }
 }
 
-/// Tests whether there are no whole items at `offset` of `bytes`, with their checksum signed with `signature`
-/// right behind them.
+/// Tests whether no whole items stand at `offset` of `bytes`, that is items with their checksum, signed with
+/// `signature`, right after them.
 ///
 /// # Errors
 ///

@@ -1,4 +1,4 @@
-//! Batches of other files behind a byte.
+//! Searches for batches that were signed for another file.
 
 ghost use Rattle.std.specs.Prelude.{◌≡◌, ◌↔◌, ◌<◌, length, Some, IfErr, IfOk, IsTrue, MatchOption};
 ghost use Rattle.raft_base.specs.Signature.{signature_in};
@@ -12,18 +12,19 @@ use raft_checksum::crc32;
 use raft_codec::codec;
 use raft_records::{FilePart, next_in};
 
-/// Files with this number or above aren't looked for: bytes may give any number of 32 bits by chance.
+/// Batches signed for a file with this number or a higher one aren't looked for: bytes may give any number of
+/// 32 bits by chance.
 const SEQ_LIMIT: FileSeq = 1 << 24;
 
-/// The length of a checksum in bytes.
+/// The length of a checksum, in bytes.
 const LOG_BATCH_CHECKSUM_LEN: usize = 4;
 
-/// Returns the first position from `from` on at which there is a batch that can't be read in the part's file,
-/// but in another file of version 2, with the number of that file, which is below 2^24. Returns `None` if
-/// there is none. In version 1 no batch says which file it was written for.
+/// Returns the first position from `from` on at which a batch stands that can't be read in the part's file,
+/// but in another file, numbered 1 to 2^24 - 1. Returns it with the number of that file, or `None` if there
+/// is no such position. In version 1 there is none: a batch doesn't say which file it was written for.
 ///
-/// Each position costs a look at the 16 bytes there. If these can be the header of a batch that ends within
-/// the part, the checksum of its items is computed.
+/// At each position it looks at 16 bytes. If these can be the header of a batch that ends within the part, it
+/// computes the checksum of its items.
 ///
 /// # Errors
 ///
@@ -44,8 +45,9 @@ pub fn signed_elsewhere(part: &FilePart, from: usize) -> Result<Option<(usize, F
     Ok(None)
 }
 
-/// Returns the number of the other file that the batch at position `at` was signed for, or `None` if there is
-/// no such batch. `own` is the signature of the part's file.
+/// Returns the number of the other file that the batch at position `at` of `part` was signed for. Returns
+/// `None` if no batch stands there, it can be read in the part's file, whose signature is `own`, or the
+/// number isn't 1 to 2^24 - 1.
 ///
 /// # Errors
 ///
@@ -73,8 +75,9 @@ fn other_file_at(part: &FilePart, own: u32, at: usize) -> Result<Option<FileSeq>
     }
 }
 
-/// Returns the only signature that a batch at the start of `bytes` can have, by the checksum of its items, or
-/// `None` if no batch can be there.
+/// Returns the one signature with which a batch at the start of `bytes` can be signed, by the checksum of its
+/// items. A signature is the low 32 bits of a file's number. Returns `None` if no header stands there, the
+/// bytes end before its batch does, or the batch has no items.
 #[inline(always)]
 fn signer_in(bytes: &[u8]) -> Option<u32>
     ensures { IsSigner bytes.now result }
@@ -89,9 +92,10 @@ fn signer_in(bytes: &[u8]) -> Option<u32>
     }
 }
 
-/// Takes all of `bytes` for an item batch, whose last 4 bytes are its checksum, and returns the signature with which that
-/// checksum is right: the CRC-32 of the other bytes, combined by exclusive or with the checksum that stands there. Whether the
-/// items can be read isn't tested. `None` if there are no bytes before a checksum.
+/// Takes all of `bytes` for an item batch, whose last 4 bytes are its checksum, and returns the signature
+/// with which that checksum is right: the CRC-32 of the other bytes, combined by exclusive or with the
+/// checksum that stands there. Whether the items can be read isn't tested. Returns `None` if there are no
+/// bytes before a checksum.
 #[inline(never)]
 fn signer_of(bytes: &[u8]) -> Option<u32>
     ensures { IsItemSigner bytes.now result }
@@ -106,7 +110,8 @@ fn signer_of(bytes: &[u8]) -> Option<u32>
     }
 }
 
-/// Tests whether there is a batch at position `at` that can be read in the file numbered `seq`.
+/// Tests whether the batch at position `at` of `part` could be read if the part were of the file numbered
+/// `seq`.
 ///
 /// # Errors
 ///

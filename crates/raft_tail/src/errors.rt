@@ -1,10 +1,11 @@
-//! The refusals of readings.
+//! Tells lack of memory from the other errors of reading a batch.
 
 ghost use Rattle.std.specs.Prelude.{◌≡◌, ◌≢◌, IfErr, OnOk};
 
 use raft_base::{Error, Result};
 
-/// Returns `Ok` for any refusal of a reading other than want of memory: only that one has to be passed on.
+/// Checks that `error` isn't `Memory`: any other error of reading a batch only says that none can be read
+/// there.
 ///
 /// # Errors
 ///

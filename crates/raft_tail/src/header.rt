@@ -1,4 +1,4 @@
-//! Headers of batches, looked at without an error value.
+//! Reads headers of batches without making an error value where there is none.
 
 ghost use Rattle.std.specs.Prelude.{◌≡◌, ◌+◌, ◌≤◌, length, IfNone, IfSome};
 ghost use Rattle.raft_codec.specs.Fixed.{IsBig};
@@ -11,9 +11,10 @@ use raft_codec::codec;
 /// The length of the header of a log batch, in bytes.
 pub(crate) const LOG_BATCH_HEADER_LEN: usize = 16;
 
-/// Returns the offset of the item batch and the length of the batch, both in bytes, from the header at the
-/// start of `bytes`. Returns `None` if there is no header. Unlike `LogBatch::decode_header` it makes no
-/// error, which a look at each byte of a file would pay for.
+/// Reads the header of a batch at the start of `bytes`. Returns the offset of the item batch in the batch,
+/// and the length of the whole batch, both in bytes. Returns `None` if there is no header. Unlike
+/// `LogBatch::decode_header` it makes no error value, which would cost too much in a search that looks at
+/// each byte of a file.
 #[inline(always)]
 pub(crate) fn header_in(bytes: &[u8]) -> Option<(usize, usize)>
     ensures some { IfSome result (λ header. HasHeader bytes.now header.0 header.1) }
@@ -31,8 +32,8 @@ pub(crate) fn header_in(bytes: &[u8]) -> Option<(usize, usize)>
     Some((offset as usize, len as usize))
 }
 
-/// Reads a number of eight bytes, the highest first, from the start of `bytes`, and returns it with the bytes
-/// behind it. There are at least eight.
+/// Reads a number of eight bytes, the highest first, from the start of `bytes`. Returns it with the bytes
+/// after it. There must be at least eight.
 #[inline(always)]
 fn parse_u64(bytes: &[u8]) -> (u64, &[u8])
     requires { 8 ≤ length bytes.now }

@@ -1,4 +1,5 @@
-//! Items at the start of bytes whose end isn't known: they are passed over, and nothing is kept of them.
+//! Recognizes items at the start of bytes whose end isn't known. Items are passed over, and nothing is kept
+//! of them.
 
 ghost use Rattle.std.specs.Prelude.{◌≡◌, ◌↔◌, ◌-◌, ◌^◌, ◌<◌, ◌≤◌, IfErr, IfOk, IfSome, IsTrue, MatchOption, OnSome};
 ghost use Rattle.raft_codec.specs.Reading.{HasNoFront, Reads};
@@ -23,8 +24,8 @@ const TYPE_COMMAND: u8 = 2;
 /// The type byte of an item of a change of a key.
 const TYPE_KV: u8 = 3;
 
-/// Tests whether there are items at the start of `bytes`, with their count before them and their checksum,
-/// signed with `signature`, right behind them.
+/// Tests whether whole items stand at the start of `bytes`: their count, as many items, and right after them
+/// their checksum, signed with `signature`. More bytes may follow.
 ///
 /// # Errors
 ///
@@ -43,8 +44,8 @@ pub(crate) fn are_whole(alloc: Global, bytes: &[u8], signature: Option<u32>) -> 
     }
 }
 
-/// Signs `checksum` by an exclusive or with `signature`, or takes that signature off again: both are the
-/// same. Without a signature it returns `checksum`.
+/// Signs `checksum` with `signature`, by exclusive or; the same call takes a signature off again. Without a
+/// signature it returns `checksum`.
 fn sign(checksum: u32, signature: Option<u32>) -> u32
     ensures { result ≡ signed_crc signature checksum }
 {
@@ -54,8 +55,8 @@ fn sign(checksum: u32, signature: Option<u32>) -> u32
     }
 }
 
-/// Returns the bytes behind a count of items and that many items, or `None` if there are none at the start of
-/// `bytes`.
+/// Returns the bytes after a count of items and that many items, or `None` if these don't stand at the start
+/// of `bytes`.
 ///
 /// # Errors
 ///
@@ -71,7 +72,7 @@ fn pass_count_and_items(alloc: Global, bytes: &[u8]) -> Result<Option<&[u8]>>
     }
 }
 
-/// Returns the bytes behind `count` items, or `None` if there aren't as many at the start of `bytes`.
+/// Returns the bytes after `count` items, or `None` if fewer stand at the start of `bytes`.
 ///
 /// # Errors
 ///
@@ -93,8 +94,9 @@ fn pass_items(alloc: Global, bytes: &[u8], count: u64) -> Result<Option<&[u8]>>
     Ok(Some(rest))
 }
 
-/// Returns where the bytes of the entries of one item end, which begin at `start`, and the bytes behind the
-/// item. Returns `None` if there is no item at the start of `bytes`.
+/// Passes over the item at the start of `bytes`, whose entries begin at offset `start` of the entry bytes of
+/// the batch. Returns the offset at which its entries end (`start` if it has none), and the bytes after the
+/// item. Returns `None` if no item stands there.
 ///
 /// # Errors
 ///
@@ -110,7 +112,9 @@ fn pass_item(alloc: Global, bytes: &[u8], start: u32) -> Result<Option<(u32, &[u
     }
 }
 
-/// Does what [`pass_item`] does, if `bytes` begin behind an item's region id.
+/// Passes over an item whose region id was passed over already: `bytes` begin with its type byte. Its entries
+/// begin at offset `start` of the entry bytes of the batch. Returns the offset at which they end (`start` if
+/// it has none), and the bytes after the item. Returns `None` if the rest of an item doesn't stand there.
 ///
 /// # Errors
 ///
@@ -137,7 +141,7 @@ fn pass_content(alloc: Global, bytes: &[u8], start: u32) -> Result<Option<(u32, 
     }
 }
 
-/// Returns the bytes behind a command, or `None` if there is none at the start of `bytes`.
+/// Returns the bytes after a command, or `None` if none stands at the start of `bytes`.
 fn pass_command(alloc: Global, bytes: &[u8]) -> Option<&[u8]>
     ensures { MatchOption result (HasNoFront IsCommand bytes.now)
         (λ rest. Passes IsCommand bytes.now rest.now) }
@@ -149,7 +153,7 @@ fn pass_command(alloc: Global, bytes: &[u8]) -> Option<&[u8]>
     }
 }
 
-/// Returns the bytes behind a change of a key, or `None` if there is none at the start of `bytes`.
+/// Returns the bytes after a change of a key, or `None` if none stands at the start of `bytes`.
 ///
 /// # Errors
 ///
@@ -167,8 +171,9 @@ fn pass_change(alloc: Global, bytes: &[u8]) -> Result<Option<&[u8]>>
     }
 }
 
-/// Returns where the bytes of the entries of an item end, which begin at `start`, and the bytes behind these
-/// entries. Returns `None` if there are none at the start of `bytes`.
+/// Passes over the indexes of entries at the start of `bytes`. The entries begin at offset `start` of the
+/// entry bytes of the batch. Returns the offset at which they end, and the bytes after the indexes. Returns
+/// `None` if no such indexes stand there.
 fn pass_entries(bytes: &[u8], start: u32) -> Option<(u32, &[u8])>
     ensures { MatchOption result (HasNoFront (IsEntries start) bytes.now)
         (λ entries. EntriesPass start bytes.now entries.1.now entries.0) }
@@ -181,9 +186,10 @@ fn pass_entries(bytes: &[u8], start: u32) -> Option<(u32, &[u8])>
     pass_tails(tails, count, first, start)
 }
 
-/// Returns the last one of `count` tail offsets of entries, whose indexes rise from `first` on and whose
-/// bytes begin at `start`, and the bytes behind them. Returns `None` if there aren't as many at the start of
-/// `bytes`.
+/// Passes over `count` tail offsets at the start of `bytes`: the offsets at which entries end in the entry
+/// bytes of the batch. The indexes of the entries rise from `first` on, and the first entry begins at offset
+/// `start`. Returns the last tail offset (`start` if `count` is 0), and the bytes after it. Returns `None` if
+/// there aren't as many.
 fn pass_tails(bytes: &[u8], count: u64, first: u64, start: u32) -> Option<(u32, &[u8])>
     ensures { MatchOption result (HasNoFront (AreTails count (first, start)) bytes.now)
         (λ tails. TailsPass count (first, start) bytes.now tails.1.now tails.0) }
@@ -200,9 +206,9 @@ fn pass_tails(bytes: &[u8], count: u64, first: u64, start: u32) -> Option<(u32, 
     Some((offset, rest))
 }
 
-/// Returns the tail offset of the entry `index`, whose bytes begin at `offset`, and the bytes behind it.
-/// Returns `None` if there is none at the start of `bytes`, it is below `offset` or above 2^32 - 1, or the
-/// index is 2^64 - 1.
+/// Reads the tail offset of the entry with the index `index`, which begins at `offset`, from the start of
+/// `bytes`. Returns it with the bytes after it. Returns `None` if there is none, it is below `offset` or
+/// above 2^32 - 1, or the index is 2^64 - 1.
 fn pass_tail(bytes: &[u8], index: u64, offset: u32) -> Option<(u32, &[u8])>
     ensures tail { MatchOption result (HasNoFront (IsTail (index, offset)) bytes.now) (λ tail.
         Reads (IsTail (index, offset)) bytes.now tail.1.now (entry_between index offset tail.0)) }
@@ -219,8 +225,8 @@ fn pass_tail(bytes: &[u8], index: u64, offset: u32) -> Option<(u32, &[u8])>
     Some((tail as u32, rest))
 }
 
-/// Returns the number in base 128 at the start of `bytes`, and the bytes behind it, or `None` if there is
-/// none.
+/// Reads a number in base 128 from the start of `bytes`. Returns it with the bytes after it, or `None` if
+/// none stands there.
 #[inline(always)]
 fn number_in(bytes: &[u8]) -> Option<(u64, &[u8])>
     ensures { MatchOption result (HasNoFront IsVarint bytes.now)

@@ -1,4 +1,4 @@
-//! Laws of batches that are broken off. Each is a function with an empty body.
+//! A law on batches that are broken off, as a function with an empty body.
 
 ghost use Rattle.std.specs.Prelude.{◌≡◌, ◌≢◌, ℕ, ◌+◌, ◌^◌, ◌<◌, List, [], ◌++◌, length, Option};
 ghost use Rattle.raft_base.specs.declared.compression_type.CompressionType.{CompressionType};
@@ -8,10 +8,11 @@ ghost use Rattle.raft_records.specs.LogBatch.{IsBatchOf, IsLaidOut, encoded_leng
 ghost use Rattle.raft_records.specs.Range.{AreInRange};
 ghost use Rattle.raft_tail.specs.Tails.{AreWhole, IsBroken};
 
-/// States what is broken off. A proper prefix of the bytes of a written batch is, whatever its entries, keys
-/// and values are; so is that of every readable batch that has nothing between its items and their checksum.
-/// A prefix of bytes that are broken off is so too. Bytes aren't broken off if there are whole items where a
-/// header says, whatever length it gives.
+/// States which bytes are broken off, that is can be all that is left of one batch. A proper prefix of the
+/// bytes of a written batch is broken off, whatever its entries, keys and values are; so is that of every
+/// readable batch that has nothing between its items and their checksum. Any prefix of bytes that are broken
+/// off is so too. Bytes aren't broken off if whole items stand where their header says, whatever length it
+/// gives. This is a law: it computes nothing.
 #[tactic(auto, using(crate::proofs::BrokenLemmas::less_broken))]
 pub fn parts_of_batches_are_broken_off()
     ensures written { (bytes part rest : List ℕ) (signature other : Option ℕ) (items : List Item) (entry_bytes : List ℕ)

@@ -1,5 +1,5 @@
-//! What stands in a part of a file where its reading stops: batches behind it, batches of other files, or a batch that is
-//! broken off.
+//! What stands in a part of a file at the place where no batch can be read: a batch that is broken off, or
+//! batches further on, of this file or signed for another.
 #![tactic(auto)]
 
 pub mod broken;

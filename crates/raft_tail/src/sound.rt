@@ -1,4 +1,4 @@
-//! Sound batches behind a byte.
+//! Searches for batches that can be read in their file (sound batches).
 
 ghost use Rattle.std.specs.Prelude.{◌≡◌, ◌↔◌, ◌<◌, length, IfErr, IfOk, IsTrue};
 ghost use Rattle.raft_tail.specs.Tails.{IsNextSound, IsSoundAt};
@@ -8,11 +8,11 @@ use crate::header::header_in;
 use raft_base::{Error, Result};
 use raft_records::{FilePart, next_batch};
 
-/// Returns the first position from `from` on at which there is a batch that can be read in the part's file,
-/// or `None` if there is none.
+/// Returns the first position from `from` on at which a batch stands that can be read in the part's file, or
+/// `None` if there is none.
 ///
-/// Each position costs a look at the 16 bytes there. If these can be the header of a batch that ends within
-/// the part, its items are read.
+/// At each position it looks at 16 bytes. If these can be the header of a batch that ends within the part, it
+/// reads the items of that batch.
 ///
 /// # Errors
 ///
@@ -29,8 +29,8 @@ pub fn next_sound(part: &FilePart, from: usize) -> Result<Option<usize>>
     Ok(None)
 }
 
-/// Tests whether there is a batch at position `at` that can be read in the part's file. Bytes that are no
-/// header are refused at once.
+/// Tests whether a batch that can be read in the part's file stands at position `at`. If no header stands
+/// there, or its batch would end after the part, that is seen at once.
 ///
 /// # Errors
 ///
@@ -48,7 +48,7 @@ fn is_sound(part: &FilePart, at: usize) -> Result<bool>
     }
 }
 
-/// Does what [`is_sound`] does, by reading the batch at position `at`.
+/// Tests whether a batch that can be read in the part's file stands at position `at`, by reading it.
 ///
 /// # Errors
 ///

@@ -1,4 +1,4 @@
-//! Numbers from 0 on, which threads draw, each once.
+//! Tickets: the numbers from 0 on, which threads draw without a lock, each number once.
 #![tactic(auto)]
 
 mod drawing;

@@ -1,4 +1,4 @@
-//! Numbers that threads draw, each once.
+//! Tickets: numbers that threads draw, each number once.
 
 ghost use Rattle.std.specs.Prelude.{◌≡◌, ℕ, ◌+◌, ◌^◌, ◌<◌, [], ◌∷◌, All, IfOk, IfErr, OnOk, List, replicate, vec_len};
 ghost use Rattle.raft_tickets.specs.Draws.{IsSeatOf, IsNewSeatOf, Rises, Draw, once_below, IsOpenRefusal};
@@ -11,11 +11,11 @@ use raft_base::{Error, Result};
 use std::alloc::Global;
 use std::marker::Model;
 
-/// The limit that numbers and seats stay below, so that the counter, which never passes twice as much, can't
-/// wrap.
+/// What the number of tickets and that of seats must stay below. The counter never passes twice as much, so
+/// it can't wrap.
 const LIMIT: usize = 1 << 62;
 
-/// The numbers from 0 on, each to be drawn once, by some seat. Those below the total are returned.
+/// The numbers from 0 on, each of which is drawn once, by some seat. A draw returns those below a total.
 #[derive(Drop)]
 pub struct Tickets {
     table: Table<(), Lists, Sizes, Drawing, Global>,
@@ -37,11 +37,11 @@ impl Model for Tickets {
 }
 
 impl Tickets {
-    /// Returns tickets of the numbers below `total`, and `seats` seats, which have drawn nothing.
+    /// Makes tickets of the numbers below `total`, and `seats` seats, which have drawn nothing yet.
     ///
     /// # Errors
     ///
-    /// `InvalidArgument` for no seats, and for 2^62 numbers or seats or more; `Memory`.
+    /// `InvalidArgument` if `seats` is 0, or `seats` or `total` is 2^62 or more; `Memory`.
     pub fn open(alloc: Global, total: usize, seats: usize) -> Result<(Tickets, Vec<TicketSeat>)>
         ensures tickets { IfOk result (λ r. (r.0.total ≡ total) × (r.0.seats ≡ seats)) }
         ensures seats { IfOk result (λ r. (vec_len r.1 ≡ seats) × All (IsNewSeatOf r.0) r.1.items) }
@@ -67,8 +67,8 @@ impl Tickets {
     }
 
     /// Draws the next number, by one atomic addition to the counter, and returns it if it is below the total.
-    /// Returns `None` once all numbers below the total are drawn. A seat that got `None` draws no more, and
-    /// leaves the counter alone.
+    /// Returns `None` once all numbers below the total are drawn. A seat that has got `None` draws no more:
+    /// it always gets `None`, and leaves the counter alone. `seat` must be one of these tickets' own.
     pub fn draw(&self, seat: &mut TicketSeat) -> Option<usize>
         requires { IsSeatOf self.now seat.old }
         ensures same { IsSeatOf self.now seat.new }
@@ -87,8 +87,8 @@ impl Tickets {
         }
     }
 
-    /// Returns how many numbers were drawn by all seats; `seats` has all of them, given back. Numbers at or
-    /// above the total, which were drawn in vain, count too.
+    /// Returns how many numbers all seats drew. `seats` must be all seats of these tickets, given back.
+    /// Numbers at or above the total, which were drawn in vain, count too.
     pub fn close(self, mut seats: Vec<TicketSeat>) -> usize
         requires { (vec_len seats ≡ self.seats) × All (IsSeatOf self) seats.items }
         ensures { (x : ℕ) → weigh (λ s. occurrences x s.drawn) seats.items ≡ once_below x result }
@@ -107,7 +107,8 @@ impl Tickets {
     }
 }
 
-/// Splits a seat into `count` seats, which have drawn nothing.
+/// Splits the seat `root` into `count` seats of numbers below `total`, which have drawn nothing. `count` is
+/// at least 1.
 ///
 /// # Errors
 ///
@@ -135,7 +136,7 @@ fn split_seats(
     Ok(seats)
 }
 
-/// Returns a ticket seat over `seat`, of numbers below `total`, which has drawn nothing.
+/// Returns a ticket seat over `seat`, for numbers below `total`. It has drawn nothing yet.
 fn new_seat(seat: Seat<(), Lists>, total: u64) -> TicketSeat
     requires { seat.me ≡ ([] ∷ [], []) }
     ensures { (result.table ≡ seat.table_id) × (result.total ≡ total) × (result.drawn ≡ []) }
@@ -147,7 +148,7 @@ fn new_seat(seat: Seat<(), Lists>, total: u64) -> TicketSeat
     }
 }
 
-/// Joins seats that were given back into `seat`, which then has drawn everything that they drew.
+/// Joins `seats`, which were given back, into `seat`, which then has drawn all that they drew.
 fn join_seats(shared: &Word, seat: &mut Seat<(), Lists>, mut seats: Vec<TicketSeat>)
     requires word { 0 < shared.now.table_id.words }
     requires seat { seat.old.table_id ≡ shared.now.table_id }
@@ -161,7 +162,7 @@ fn join_seats(shared: &Word, seat: &mut Seat<(), Lists>, mut seats: Vec<TicketSe
     }
 }
 
-/// Joins a seat that was given back into `seat`, which then has drawn everything that both drew.
+/// Joins `other`, which was given back, into `seat`, which then has drawn all that both drew.
 fn join_seat(shared: &Word, seat: &mut Seat<(), Lists>, other: TicketSeat)
     requires word { 0 < shared.now.table_id.words }
     requires seat { seat.old.table_id ≡ shared.now.table_id }

@@ -1,4 +1,4 @@
-//! `raftlog check`.
+//! The command `raftlog check`: what can't be read, and what an opening would do.
 
 ghost use Rattle.std.specs.Prelude.{◌≡◌, ◌↔◌, ◌<◌, ◌≤◌, codes, IfOk, OnErr};
 ghost use Rattle.raft_inspect.specs.CutShort.{IsCheckCutShort};
@@ -19,11 +19,11 @@ use raft_survey::BothSizes;
 use std::io::Write;
 use std::thread::Threads;
 
-/// Prints what can't be read of the files that words name, and what an opening would do. Returns the status.
+/// Prints what can't be read of the files that the words name, and what an opening would do. Returns the status to end with.
 ///
 /// # Errors
 ///
-/// Those of the files and of the output, `Memory`.
+/// `Misused` if the words name no files; those of the files and of the output; `Memory`. Some lines may be printed then.
 pub(crate) fn check<'a, R: Host, W: Write>(
     rt: &'a R,
     words: &ArgMatches<'a>,
@@ -47,11 +47,12 @@ pub(crate) fn check<'a, R: Host, W: Write>(
     checked
 }
 
-/// Prints what can't be read of found files, and what an opening would do with them. Returns the status.
+/// Prints what can't be read of the files that `sizes` names and `source` reads, and what an opening by `workers` threads would do with
+/// them. Returns the status to end with.
 ///
 /// # Errors
 ///
-/// Those of the files and of the output, `Memory`. A prefix of the lines, but not all of them, is then printed.
+/// Those of the files and of the output; `Memory`. A prefix of the lines, but not all of them, is then printed.
 fn check_files<R: Threads + Sync + AllocGlobal, S: ReadFiles, W: Write>(
     rt: &R,
     source: &S,
@@ -71,7 +72,7 @@ fn check_files<R: Threads + Sync + AllocGlobal, S: ReadFiles, W: Write>(
     Ok(status_of(&findings))
 }
 
-/// Returns the status of a check: [`DONE`] where its verdict is `sound`, else [`WRONG`].
+/// Returns the status of a check: [`DONE`] if its verdict is `sound`, else [`WRONG`].
 fn status_of(findings: &Findings) -> u8
     ensures { (result ≡ 0) ↔ (verdict_word findings.now ≡ codes "sound") }
 {

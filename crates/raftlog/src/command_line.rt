@@ -1,13 +1,13 @@
-//! The words of the commands that look into a folder.
+//! The parser of the command line, for the commands that look into a folder, and what `--help` prints.
 
 use clap::{Arg, ArgAction, Command, value_parser};
 use raft_base::AllocResult;
 use std::alloc::Global;
 
-/// The version that the program says.
+/// The version that `--version` prints.
 const VERSION: &str = "0.1.0";
 
-/// What `--help` says behind the commands.
+/// What `raftlog --help` prints below the list of commands.
 const AFTER_HELP: &str = "\
 To see what is wrong with a folder: raftlog check FOLDER
 To see which entries stand where: raftlog dump FOLDER
@@ -23,7 +23,7 @@ Status:
      standard error says why it isn't done
   2  the words ask for nothing that can be done";
 
-/// What `check --help` says behind the options.
+/// What `check --help` prints below the options.
 const CHECK_HELP: &str = "\
 Below the line of a file comes one for each place in it where something can't be read:
   - entries that are lost, by region, first and last index. The rest of their batch can be read:
@@ -57,7 +57,7 @@ have no entries. Of files named one by one what isn't named isn't looked for.
 Files are read in pieces: besides the tables some MiB for each worker are in memory, what stands in
 a queue's last file behind the first batch that can't be read, and what is said of one file.";
 
-/// What `regions --help` says behind the options.
+/// What `regions --help` prints below the options.
 const REGIONS_HELP: &str = "\
 7 entries 3..7 keys 1 append 2 rewrite -
   Region 7 has the entries with the indexes 3 to 6 and one key, and its oldest record stands in
@@ -67,7 +67,7 @@ cleaned 4 9
 live 50 0
   So many records are still needed: 50 of the append queue and none of the rewrite queue.";
 
-/// What `dump --help` says behind the options.
+/// What `dump --help` prints below the options.
 const DUMP_HELP: &str = "\
 `entries 3..7` are those with the indexes 3 to 6. --from and --to select among entries alone, and
 other items are printed as without them. Values and entries are printed in quotes where all is
@@ -77,7 +77,7 @@ Numbers of files that are missing, bytes at which no batch can be read, and with
 that can't be, have a line of their own, and the status is then 1. So it is where nothing is printed
 of a --region.";
 
-/// What `files --help` says behind the options.
+/// What `files --help` prints below the options.
 const FILES_HELP: &str = "\
 Of each file: its bytes, how much of it are bytes of entries that are live (items, keys, values and
 headers aren't counted), and the regions whose oldest file it is. A file can go once it is the
@@ -86,60 +86,69 @@ oldest one of no region, and no older one is left.
 The picture of --svg is written to a file that isn't there yet; one that is there stays as it is,
 and the status is 1.";
 
-/// What `cut --help` says behind the options.
+/// What `cut --help` prints below the options.
 const CUT_HELP: &str = "\
 What is cut off from a file is kept beside it, as NUMBER.raftlog.OFFSET.cut or
 NUMBER.rewrite.OFFSET.cut, and where one is there, with other bytes, as NUMBER.raftlog.OFFSET.2.cut.
 An engine that is opened over the folder does the same. --yes makes a file LOCK in the folder, and
 leaves it there. Status 1: the files are refused, and nothing is cut, or it isn't done.";
 
-/// What `recover --help` says behind the options.
+/// What `recover --help` prints below the options.
 const RECOVER_HELP: &str = "\
 Files that are refused are refused in a word. Which file it is, where in it and why, and both queues
 together: raftlog check (or regions) --append SEQ=PATH ..
 Status: 0 the lines are printed; 1 it is refused; 2 the words aren't these.";
 
-/// What `batch --help` says behind the options.
+/// What `batch --help` prints below the options.
 const BATCH_HELP: &str = "\
 An item batch is a batch without its header and its entries. Whole files: raftlog dump --append SEQ=PATH ..
 Status: 0 the lines are printed; 1 it is refused; 2 the words aren't these.";
 
-/// How a word of a command is read.
+/// How a word of a command is given: as an option with a name, or by its position.
 enum Kind {
-    /// It stands without a name in front, and may be left out.
+    /// By its position; it may be left out.
     Optional,
-    /// It stands without a name in front, and has to be there.
+    /// By its position; it has to be there.
     Needed,
-    /// So it is, as often as is wanted.
+    /// By its position, once or more.
     Rest,
-    /// Its name alone, `--json`.
+    /// An option without a value, as `--json`.
     Flag,
-    /// Its name, and a text behind it.
+    /// An option with a text after it.
     Text,
-    /// So it is, as often as is wanted.
+    /// An option with a text after it, as often as is wanted.
     Texts,
-    /// Its name, and a number behind it.
+    /// An option with a number of 64 bits after it.
     Number,
-    /// Its name, and a number behind it from 1 to this one.
+    /// An option with a number after it, from 1 to this one.
     UpTo(i64),
 }
 
-/// A word of a command: its name, what stands for its value in the help, and what it says there.
+/// A word of a command: an option, or what is given by its position.
 struct Word {
+    /// Its name: for an option what follows `--`.
     name: &'static str,
+    /// What stands for its value in the help.
     value: &'static str,
+    /// How it is given.
     kind: Kind,
+    /// What the help says of it.
     help: &'static str,
 }
 
-/// A command, with its words and what its help says.
+/// A command, with its words and its help.
 struct CommandWords {
+    /// The name of the command.
     name: &'static str,
+    /// What the list of commands says of it.
     about: &'static str,
+    /// Its words, in the order of the help.
     words: &'static [&'static Word],
+    /// What its own help prints below the options.
     after: &'static str,
 }
 
+/// The folder of the commands that may also be given single files.
 const FOLDER: Word = Word {
     name: "folder",
     value: "FOLDER",
@@ -147,6 +156,7 @@ const FOLDER: Word = Word {
     help: "The folder with the files of both queues",
 };
 
+/// The folder of `cut`, which takes no single files.
 const CUT_FOLDER: Word = Word {
     name: "folder",
     value: "FOLDER",
@@ -154,6 +164,7 @@ const CUT_FOLDER: Word = Word {
     help: "The folder with the files of both queues",
 };
 
+/// A single file of the append queue.
 const APPEND: Word = Word {
     name: "append",
     value: "SEQ=PATH",
@@ -161,6 +172,7 @@ const APPEND: Word = Word {
     help: "A file of the append queue: its number and its path",
 };
 
+/// A single file of the rewrite queue.
 const REWRITE: Word = Word {
     name: "rewrite",
     value: "SEQ=PATH",
@@ -168,6 +180,7 @@ const REWRITE: Word = Word {
     help: "A file of the rewrite queue: its number and its path",
 };
 
+/// The option to print lines of JSON.
 const JSON: Word = Word {
     name: "json",
     value: "",
@@ -175,6 +188,7 @@ const JSON: Word = Word {
     help: "Prints lines of JSON",
 };
 
+/// The format version of all files.
 const FORMAT: Word = Word {
     name: "format",
     value: "VERSION",
@@ -182,6 +196,7 @@ const FORMAT: Word = Word {
     help: "The format version of the files: 1 or 2; else 2",
 };
 
+/// The greatest number of threads.
 const WORKERS: Word = Word {
     name: "workers",
     value: "COUNT",
@@ -189,6 +204,7 @@ const WORKERS: Word = Word {
     help: "How many threads recover the tables at most: 1 to 256; else as many as there are processors",
 };
 
+/// The only region that is printed.
 const REGION: Word = Word {
     name: "region",
     value: "REGION",
@@ -196,6 +212,7 @@ const REGION: Word = Word {
     help: "Prints this region alone; regions prints it with its keys",
 };
 
+/// The first index of the entries that are printed.
 const FROM: Word = Word {
     name: "from",
     value: "INDEX",
@@ -203,6 +220,7 @@ const FROM: Word = Word {
     help: "Prints entries from this index on",
 };
 
+/// The index after the last one of the entries that are printed.
 const TO: Word = Word {
     name: "to",
     value: "INDEX",
@@ -210,6 +228,7 @@ const TO: Word = Word {
     help: "Prints entries below this index",
 };
 
+/// The option to print values, and the bytes of entries.
 const VALUES: Word = Word {
     name: "values",
     value: "",
@@ -217,6 +236,7 @@ const VALUES: Word = Word {
     help: "Prints values too; dump also the bytes of entries",
 };
 
+/// The path at which a picture is written.
 const PICTURE: Word = Word {
     name: "svg",
     value: "FILE",
@@ -224,6 +244,7 @@ const PICTURE: Word = Word {
     help: "Draws them as a picture in SVG, which is written to this new file",
 };
 
+/// The option of `cut` to change nothing.
 const DRY_RUN: Word = Word {
     name: "dry-run",
     value: "",
@@ -231,6 +252,7 @@ const DRY_RUN: Word = Word {
     help: "Changes nothing, and says what would be cut off",
 };
 
+/// The option of `cut` without which it cuts nothing off.
 const YES: Word = Word {
     name: "yes",
     value: "",
@@ -238,6 +260,7 @@ const YES: Word = Word {
     help: "Cuts it off",
 };
 
+/// The queue of `recover` and `batch`.
 const QUEUE: Word = Word {
     name: "queue",
     value: "queue",
@@ -245,6 +268,7 @@ const QUEUE: Word = Word {
     help: "append or rewrite: to which of the two it belongs",
 };
 
+/// The file number of `batch`.
 const SEQ: Word = Word {
     name: "seq",
     value: "seq",
@@ -252,6 +276,7 @@ const SEQ: Word = Word {
     help: "The number of the file",
 };
 
+/// The format version of `recover` and `batch`.
 const VERSION_WORD: Word = Word {
     name: "version",
     value: "version",
@@ -259,6 +284,7 @@ const VERSION_WORD: Word = Word {
     help: "1 or 2: the format version",
 };
 
+/// The greatest number of threads of `recover`.
 const WORKERS_WORD: Word = Word {
     name: "workers",
     value: "workers",
@@ -266,6 +292,7 @@ const WORKERS_WORD: Word = Word {
     help: "1 to 256: how many threads read the files at most",
 };
 
+/// The files of `recover`.
 const FILES_WORD: Word = Word {
     name: "seq=path",
     value: "seq=path",
@@ -273,7 +300,7 @@ const FILES_WORD: Word = Word {
     help: "The number of a file and its path; files are given by rising numbers",
 };
 
-/// The commands, in the order of the help. `recover` and `batch` are here for their help alone: their words are read elsewhere.
+/// The commands, in the order of the help. `recover` and `batch` are here for their help alone: their words are parsed elsewhere.
 const COMMANDS: [CommandWords; 7] = [
     CommandWords {
         name: "check",
@@ -325,11 +352,11 @@ const COMMANDS: [CommandWords; 7] = [
     },
 ];
 
-/// Returns the parser of the words.
+/// Returns the parser of the command line, with all commands.
 ///
 /// # Errors
 ///
-/// Want of memory.
+/// Fails only if there is no memory.
 pub(crate) fn command_line<'a>(alloc: Global) -> AllocResult<Command<'a>> {
     let mut command = Command::new(alloc, "raftlog")
         .bin_name("raftlog")?
@@ -349,7 +376,7 @@ pub(crate) fn command_line<'a>(alloc: Global) -> AllocResult<Command<'a>> {
 ///
 /// # Errors
 ///
-/// `AllocError`, if there is no memory for it.
+/// Fails only if there is no memory.
 fn command_of<'a>(alloc: Global, words: &CommandWords) -> AllocResult<Command<'a>> {
     let mut command = Command::new(alloc, words.name)
         .about(words.about)
@@ -360,7 +387,7 @@ fn command_of<'a>(alloc: Global, words: &CommandWords) -> AllocResult<Command<'a
     Ok(command)
 }
 
-/// Returns the parser of a word.
+/// Returns the parser of a word, by how the word is given.
 fn arg_of<'a>(alloc: Global, word: &Word) -> Arg<'a> {
     let arg = Arg::new(alloc, word.name).help(word.help);
     match word.kind {

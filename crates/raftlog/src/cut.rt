@@ -1,4 +1,4 @@
-//! `raftlog cut`.
+//! The command `raftlog cut`: cuts off what an opening would cut off.
 
 ghost use Rattle.std.specs.Prelude.{◌≡◌, ◌↔◌};
 ghost use Rattle.raftlog.specs.Commands.{IsOpened};
@@ -15,12 +15,12 @@ use raft_inspect::{Opening, cut_as_opened, print_opening, try_opening};
 use raft_report::{Form, append_json_kept, write_text};
 use std::io::Write;
 
-/// Cuts off what an opening would cut off, or prints what that is. Returns the status.
+/// Cuts off what an opening of the folder would, with `--yes`, or prints what that is, with `--dry-run`. Returns the status to end with.
 ///
 /// # Errors
 ///
-/// `Misused` where the words have neither `--dry-run` nor `--yes`, or both; those of the folder and of the output; `Memory`. What was cut
-/// off by then is printed.
+/// `Misused` if the words have neither `--dry-run` nor `--yes`, or both; those of the folder and of the output; `Memory`. With `--yes`
+/// something may be cut off after an error. What was cut off by then is printed, if the output takes it.
 pub(crate) fn cut<'a, R: Host, W: Write>(
     rt: &'a R,
     words: &ArgMatches<'a>,
@@ -39,11 +39,11 @@ pub(crate) fn cut<'a, R: Host, W: Write>(
     }
 }
 
-/// Prints what an opening would cut off. Returns the status.
+/// Prints what an opening of the folder at `path` would cut off, and changes nothing. Returns the status to end with.
 ///
 /// # Errors
 ///
-/// Those of the folder and of the output, `Memory`.
+/// Those of the folder and of the output; `Memory`.
 fn print_cut<'a, R: Host, W: Write>(
     rt: &'a R,
     words: &ArgMatches<'a>,
@@ -60,11 +60,12 @@ fn print_cut<'a, R: Host, W: Write>(
     Ok(status_of(&opening))
 }
 
-/// Cuts off what an opening would, and prints where it is kept. A folder that isn't there is refused, and not made. Returns the status.
+/// Cuts off what an opening of the folder at `path` would, and prints where it is kept. A folder that isn't there is refused, and not made.
+/// Returns the status to end with.
 ///
 /// # Errors
 ///
-/// Those of the folder and of the output, `Memory`.
+/// Those of the folder and of the output; `Memory`. Something may be cut off then.
 fn cut_folder<R: Host, W: Write>(
     rt: &R,
     words: &ArgMatches<'_>,
@@ -80,7 +81,8 @@ fn cut_folder<R: Host, W: Write>(
     Ok(status_of(&cut?))
 }
 
-/// Cuts off from files of a folder what an opening would, and takes the bar away. Returns what the opening would do.
+/// Prints what an opening would do with the files of a folder, and cuts off what it would. Clears the progress bar, after an error too.
+/// Returns what the opening would do.
 ///
 /// # Errors
 ///
@@ -102,7 +104,7 @@ fn cut_files<R: Host, W: Write>(
     Ok(cut?)
 }
 
-/// Returns the status for what an opening does: [`DONE`] where it accepts the files, else [`WRONG`].
+/// Returns the status for what an opening would do: [`DONE`] if it accepts the files, else [`WRONG`].
 fn status_of(opening: &Opening) -> u8
     ensures { (result ≡ 0) ↔ IsOpened opening.now }
 {
@@ -112,22 +114,22 @@ fn status_of(opening: &Opening) -> u8
     }
 }
 
-/// Refuses a folder that isn't there: who opens one to write to it makes it.
+/// Checks that there is a folder at `path`: opening one to write to it would make it.
 ///
 /// # Errors
 ///
-/// `NoFolder` where a file stands at the path; those of [`ReadFolder`].
+/// `NoFolder` if a file stands at the path; those of [`ReadFolder::open`] as `Folder`; `Memory`.
 fn refuse_missing_folder<R: Host>(rt: &R, path: &str) -> ToolResult<()> {
     refuse_file(rt, path)?;
     let _folder = ReadFolder::open(rt, path)?;
     Ok(())
 }
 
-/// Prints how many bytes were cut off, and which files keep them.
+/// Prints how many bytes were cut off, and which files keep them; nothing if none were.
 ///
 /// # Errors
 ///
-/// `Output` where the output takes no more, `Memory`.
+/// `Output` if the output takes no more; `Memory`. Some lines may be printed after the first.
 fn print_kept<R: Host, W: Write>(
     rt: &R,
     form: Form,

@@ -1,4 +1,4 @@
-//! `raftlog dump`.
+//! The command `raftlog dump`: the batches of files, item by item.
 
 ghost use Rattle.std.specs.Prelude.{◌<◌, IfOk};
 ghost use Rattle.raft_survey.specs.DumpedFiles.{AreDumped};
@@ -21,12 +21,12 @@ use raft_survey::{BothSizes, append_missing_files, print_dump, walk_files};
 use std::alloc::Global;
 use std::io::Write;
 
-/// Prints which files are missing, and the batches of the others, item by item. Returns the status.
+/// Prints which files are missing, and the batches of the files that are there, item by item. Returns the status to end with.
 ///
 /// # Errors
 ///
-/// `Misused` where no index is at or above that of `--from` and below that of `--to`; `NothingOf` where nothing is printed of the region of
-/// `--region`; those of the files and of the output, `Memory`.
+/// `Misused` if no index is at or above that of `--from` and below that of `--to`; `NothingOf` if nothing is printed of the region of
+/// `--region`; those of the files and of the output; `Memory`. Some lines may be printed then.
 pub(crate) fn dump<'a, R: Host, W: Write>(
     rt: &'a R,
     words: &ArgMatches<'a>,
@@ -41,11 +41,11 @@ pub(crate) fn dump<'a, R: Host, W: Write>(
     Ok(if dumped? || has_missing { WRONG } else { DONE })
 }
 
-/// Returns what the words select.
+/// Returns what the words of the command select. If they name no indexes, these are all below 2^64 - 1.
 ///
 /// # Errors
 ///
-/// `Misused` where they select no index at all.
+/// `Misused` if they select no index at all.
 fn selection_of(words: &ArgMatches<'_>) -> ToolResult<Selection>
     ensures asked { IfOk result (IsSelectionAsked words.now) }
     ensures some { IfOk result (λ selection. selection.from < selection.to) }
@@ -62,11 +62,11 @@ fn selection_of(words: &ArgMatches<'_>) -> ToolResult<Selection>
     Ok(selection)
 }
 
-/// Prints a line for each gap between the numbers of a queue's files, of both queues. Returns whether there is one.
+/// Prints a line for each gap between the file numbers of a queue, for both queues. Returns whether there is a gap.
 ///
 /// # Errors
 ///
-/// `Output` where the output takes no more, `Memory`.
+/// `Output` if the output takes no more; `Memory`. Some lines may be printed after the first.
 fn print_missing<W: Write>(
     alloc: Global,
     sizes: &BothSizes,
@@ -80,11 +80,11 @@ fn print_missing<W: Write>(
     Ok(!text.is_empty())
 }
 
-/// Appends a line for each gap between the numbers of a queue's files, as text or as JSON.
+/// Appends a line for each gap between the file numbers of one queue, as text or as JSON.
 ///
 /// # Errors
 ///
-/// Want of memory. A part may then be appended.
+/// Fails only if there is no memory. Some lines may then be appended.
 fn append_missing(
     form: Form,
     queue: LogQueue,
@@ -97,12 +97,12 @@ fn append_missing(
     }
 }
 
-/// Prints the selected items of found files, batch by batch. Returns whether a batch, or with `--values` a selected entry, can't be
-/// read; entries are looked at in a second walk then.
+/// Prints the selected items of found files, batch by batch. Returns whether a batch can't be read, or with `--values` a selected entry
+/// can't be. For the latter the files are walked through once more, unless a batch couldn't be read anyway.
 ///
 /// # Errors
 ///
-/// `NothingOf` where nothing is printed of the selected region; those of the files and of the output; `Memory`. Lines may be printed by
+/// `NothingOf` if nothing is printed of the selected region; those of the files and of the output; `Memory`. Some lines may be printed
 /// then.
 fn dump_selected<R: Host, W: Write>(
     rt: &R,
@@ -133,20 +133,20 @@ fn dump_selected<R: Host, W: Write>(
     Ok(look.is_any)
 }
 
-/// What was dumped.
+/// What came of a dump.
 #[derive(Clone, Copy, PartialEq, Eq, Debug)]
 struct Dumped {
     /// Whether nothing was printed.
     is_empty: bool,
-    /// Whether some batch couldn't be read.
+    /// Whether there was a byte at which no batch could be read.
     is_damaged: bool,
 }
 
-/// Prints what stands in the files of both queues, many lines at once. Returns the output again, and what was dumped.
+/// Prints what stands in the files of both queues, many lines at once. Returns the output again, and what came of the dump.
 ///
 /// # Errors
 ///
-/// Those of the files and of the output, `Memory`. Some lines may then be printed.
+/// Those of the files and of the output; `Memory`. Some lines may then be printed, and the output is lost.
 fn dump_files<S: ReadFiles, W: Write + Drop>(
     alloc: Global,
     source: &S,
@@ -172,8 +172,8 @@ fn dump_files<S: ReadFiles, W: Write + Drop>(
     ))
 }
 
-/// Prints what stands in the files of both queues in a form. Returns the output again, and whether some batch couldn't be read, or the
-/// error of [`print_dump`].
+/// Prints what stands in the files of both queues, as text or as JSON. Returns the output again, and whether there was a byte at which no
+/// batch could be read, or the error of [`print_dump`].
 fn print_batches<S: ReadFiles, W: Write + Drop>(
     alloc: Global,
     source: &S,

@@ -1,4 +1,4 @@
-//! `raftlog files`.
+//! The command `raftlog files`: how much of each file is live.
 
 use crate::errors::{ToolError, ToolResult};
 use crate::host::Host;
@@ -19,18 +19,22 @@ use std::fs::OpenOptions;
 use std::io;
 use std::io::Write;
 
-/// What tables need of the files of both queues.
+/// What the tables need of the files of both queues.
 #[derive(Drop)]
 struct BothUses {
+    /// What they need of the append files.
     append: FileUses,
+    /// What they need of the rewrite files.
     rewrite: FileUses,
 }
 
-/// Prints how much of each file is live, and which regions hold it. Returns the status.
+/// Prints how much of each file is live, and which regions hold it; with `--svg` also draws that into a new file. Returns the status to end
+/// with.
 ///
 /// # Errors
 ///
-/// Those of the files, of an opening, and of the output; `File` where a file is at the path of the picture; `Memory`.
+/// Those of the files, of an opening, and of the output; `File` if a file is at the path of the picture, or the picture can't be written;
+/// `Memory`. The lines may be printed then.
 pub(crate) fn print_files<'a, R: Host, W: Write>(
     rt: &'a R,
     words: &ArgMatches<'a>,
@@ -46,22 +50,22 @@ pub(crate) fn print_files<'a, R: Host, W: Write>(
     Ok(DONE)
 }
 
-/// Returns what tables need of the files of both queues.
+/// Returns what the tables need of the files of both queues.
 ///
 /// # Errors
 ///
-/// `Memory`.
+/// `Memory` alone, as `Raft`.
 fn uses_of_both(alloc: Global, tables: &MemTableAccessor) -> ToolResult<BothUses> {
     let append = uses_of(alloc, tables, LogQueue::Append)?;
     let rewrite = uses_of(alloc, tables, LogQueue::Rewrite)?;
     Ok(BothUses { append, rewrite })
 }
 
-/// Prints a line for each file.
+/// Prints a line for each file, those of the append queue first, as text or as JSON.
 ///
 /// # Errors
 ///
-/// `Output` where the output takes no more, `Memory`.
+/// `Output` if the output takes no more; `Memory`. Some lines may then be printed.
 fn print_uses<W: Write>(
     alloc: Global,
     form: Form,
@@ -84,12 +88,12 @@ fn print_uses<W: Write>(
     Ok(())
 }
 
-/// Draws the files as a picture, which is written to a file that isn't there yet. After an `Err` a prefix of the picture may stand in the new
-/// file.
+/// Draws the files as a picture into a new file at `path`.
 ///
 /// # Errors
 ///
-/// `File` where a file is at the path, or can't be written; `Memory`.
+/// `File` if a file is at the path, which stays as it is, or if the new one can't be made or written; `Memory`. The start of the picture
+/// may stand in the new file then.
 fn draw_picture<R: Host>(rt: &R, path: &str, sizes: &BothSizes, uses: &BothUses) -> ToolResult<()> {
     let _streams = hold_streams(rt)?;
     let mut picture = String::new(rt.alloc());
@@ -104,11 +108,12 @@ fn draw_picture<R: Host>(rt: &R, path: &str, sizes: &BothSizes, uses: &BothUses)
     }
 }
 
-/// Makes a file, and writes text to it.
+/// Makes a file at `path`, and writes `text` to it.
 ///
 /// # Errors
 ///
-/// Those of the system; of the kind `AlreadyExists` where a file is at the path, which stays as it is.
+/// Those of the system: of the kind `AlreadyExists` if a file is at the path, which stays as it is. After another one the start of the text
+/// may stand in the new file.
 fn write_new<R: Host>(rt: &R, path: &str, text: &str) -> io::Result<()> {
     let mut how = OpenOptions::new();
     how.write(true).create_new(true);

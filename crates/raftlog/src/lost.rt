@@ -1,4 +1,4 @@
-//! Whether entries that a dump names can't be read.
+//! A walk that finds out whether the bytes of selected entries can be read.
 
 ghost use Rattle.std.specs.Prelude.{IfSome};
 ghost use Rattle.raft_listing.specs.ReadBlocks.{IsReadBlock};
@@ -7,16 +7,17 @@ use raft_base::{EntryIndex, Error, Result};
 use raft_listing::{BytesOfEntry, PartVisitor, ReadBlock, Selection, bytes_of_entry, needed_block};
 use raft_records::{FilePart, LogItem, LogItemContent};
 
-/// A look at the bytes of the entries that are selected.
+/// A visitor that reads the bytes of the selected entries, and notes whether some can't be read.
 #[derive(Drop)]
 pub(crate) struct LostEntries {
+    /// Which entries are looked at.
     selection: Selection,
-    /// Whether the bytes of an entry couldn't be read so far.
+    /// Whether the bytes of a selected entry couldn't be read so far.
     pub(crate) is_any: bool,
 }
 
 impl LostEntries {
-    /// Makes a look that has seen nothing yet.
+    /// Makes a visitor that has seen nothing yet.
     pub(crate) fn new(selection: Selection) -> LostEntries {
         LostEntries {
             selection,
@@ -24,11 +25,12 @@ impl LostEntries {
         }
     }
 
-    /// Looks at the bytes of the selected ones of an item's entries.
+    /// Reads the bytes of those of `entries` that are selected by their indexes, and notes whether some can't be read. `known` is the entry
+    /// block that was read already.
     ///
     /// # Errors
     ///
-    /// `Memory`.
+    /// `Memory` alone.
     fn look_at_entries(
         &mut self,
         part: &FilePart,
@@ -52,6 +54,11 @@ impl PartVisitor for LostEntries {
 
     ghost may_fail = { λ _. Unit {0} };
 
+    /// Reads the bytes of the selected entries of a batch.
+    ///
+    /// # Errors
+    ///
+    /// `Memory` alone.
     fn visit_batch(
         &mut self,
         part: &FilePart,
@@ -70,6 +77,7 @@ impl PartVisitor for LostEntries {
         Ok(())
     }
 
+    /// Does nothing: a byte at which no batch can be read has no entries.
     fn visit_damage(
         &mut self,
         _part: &FilePart,

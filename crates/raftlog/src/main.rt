@@ -1,4 +1,5 @@
-//! Looks into the log files of an engine: prints an item batch, the tables that files give, or what stands in a folder.
+//! The program `raftlog`: it looks into the log files of an engine. It prints an item batch, the tables that files give, or what stands in
+//! a folder.
 #![tactic(auto)]
 
 mod check;

@@ -1,4 +1,4 @@
-//! What the words of all commands say.
+//! The values of the options that several commands have.
 
 ghost use Rattle.std.specs.Prelude.{◌<◌, ◌≤◌};
 ghost use Rattle.raftlog.specs.Words.{IsFlag, IsFormAsked, IsNumberIfNamed, IsVersionAsked};
@@ -10,21 +10,21 @@ use raft_recover::MAX_WORKERS;
 use raft_report::Form;
 use std::thread::available_parallelism;
 
-/// Returns the number that words name by an option, `None` where they name none.
+/// Returns the number that the words of a command name by the option `name`; `None` if they name none.
 pub(crate) fn number_of(words: &ArgMatches<'_>, name: &str) -> Option<u64>
     ensures { IsNumberIfNamed words.now name.now result }
 {
     words.get_one::<u64>(name)
 }
 
-/// Tests whether words have a flag.
+/// Tests whether the words of a command have the flag `name`.
 pub(crate) fn has_flag(words: &ArgMatches<'_>, name: &str) -> bool
     ensures { IsFlag words.now name.now result }
 {
     words.get_flag(name)
 }
 
-/// Returns the format version that words name, 2 where they name none.
+/// Returns the format version that the words of a command name; version 2 if they name none.
 pub(crate) fn version_of(words: &ArgMatches<'_>) -> Version
     ensures { IsVersionAsked words.now result }
 {
@@ -34,7 +34,7 @@ pub(crate) fn version_of(words: &ArgMatches<'_>) -> Version
     }
 }
 
-/// Returns the form that words ask for: JSON where they have `--json`, else text.
+/// Returns the form in which to print: JSON if the words of a command have `--json`, else text.
 pub(crate) fn form_of(words: &ArgMatches<'_>) -> Form
     ensures { IsFormAsked words.now result }
 {
@@ -45,7 +45,8 @@ pub(crate) fn form_of(words: &ArgMatches<'_>) -> Form
     }
 }
 
-/// Returns how many threads words name, or how many processors there are where they name none: 1 to 256.
+/// Returns how many threads to use, 1 to 256: as many as the words of a command name, or as the machine has processors if they name none; 1
+/// if that isn't known.
 pub(crate) fn workers_of<R: Host>(rt: &R, words: &ArgMatches<'_>) -> usize
     ensures { (0 < result) × (result ≤ 256) }
 {

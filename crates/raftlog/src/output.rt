@@ -1,4 +1,4 @@
-//! Where the commands write.
+//! The outputs that the commands write to.
 
 ghost use Rattle.std.specs.Prelude.{◌≡◌, [], IfOk};
 ghost use Rattle.std.specs.Io.KnownBytes.{Keeps, append_known};
@@ -12,25 +12,27 @@ use std::alloc::Global;
 use std::io;
 use std::io::{BufWriter, Write};
 
-/// How many bytes are kept before they are written.
+/// The number of bytes that are kept before they are written.
 const KEPT: usize = 1 << 16;
 
-/// Lines that are written many at once.
+/// An output that keeps lines and writes many at once. It remembers whether anything was written to it, and whether the output behind it
+/// failed.
 #[derive(Drop)]
 pub(crate) struct Lines<W: Write + Drop> {
+    /// The output, with the bytes that aren't written yet.
     out: BufWriter<W>,
-    /// Whether the output took no more.
+    /// Whether a write to the output failed.
     has_failed: bool,
-    /// Whether something came to be written.
+    /// Whether any byte was given to be written.
     is_any: bool,
 }
 
 impl<W: Write + Drop> Lines<W> {
-    /// Makes lines that are written to an output. None came yet.
+    /// Makes an output that keeps lines and writes them to `out`. Nothing was written to it yet.
     ///
     /// # Errors
     ///
-    /// `Memory`.
+    /// `Memory` alone. `out` is lost then.
     pub(crate) fn new(alloc: Global, out: W) -> ToolResult<Lines<W>>
         ensures { IfOk result (λ lines. lines_contents W.contents lines ≡ append_known (W.contents out) []) }
     {
@@ -44,16 +46,17 @@ impl<W: Write + Drop> Lines<W> {
         }
     }
 
-    /// Tests whether nothing came to be written.
+    /// Tests whether no byte was given to be written.
     pub(crate) fn is_empty(&self) -> bool {
         !self.is_any
     }
 
-    /// Writes the lines that are kept. Returns the output, and what `made` has.
+    /// Writes the lines that are still kept. Returns the output, and the value that `made` holds: what the call that wrote them returned.
     ///
     /// # Errors
     ///
-    /// `Output` where the output takes no more; else the error of `made`, as `Raft`. Lines that are kept are written then as far as they can be.
+    /// `Output` if the output takes no more; else the error in `made`, as `Raft`. The lines that are kept are written then as far as they
+    /// can be, and the output is lost.
     pub(crate) fn end<T: Drop>(self, made: Result<T>) -> ToolResult<(W, T)>
         ensures made { IfOk result (λ ended. made ≡ Ok ended.1) }
         ensures whole { IfOk result (λ ended. Keeps (lines_contents W.contents self) (W.contents ended.0)) }
@@ -74,6 +77,7 @@ impl<W: Write + Drop> Write for Lines<W> {
 
     ghost contents = { lines_contents W.contents };
 
+    /// Keeps the bytes, or writes what is kept to make room. Notes whether that failed.
     fn write(&mut self, buf: &[u8]) -> io::Result<usize> {
         let written = self.out.write(buf);
         self.is_any = self.is_any || !buf.is_empty();
@@ -81,6 +85,7 @@ impl<W: Write + Drop> Write for Lines<W> {
         written
     }
 
+    /// Writes what is kept. Notes whether that failed.
     fn flush(&mut self) -> io::Result<()> {
         let flushed = self.out.flush();
         self.has_failed = self.has_failed || flushed.is_err();
@@ -88,16 +93,19 @@ impl<W: Write + Drop> Write for Lines<W> {
     }
 }
 
-/// An output that takes the bar away before something is written, so that no line stands behind what is left of it.
+/// An output that clears the progress bar before something is written, so that no line follows what is left of the bar.
 #[derive(Drop)]
 pub(crate) struct OverBar<'a, R: Screen, W: Write> {
+    /// The machine, whose standard error has the bar.
     rt: &'a R,
+    /// How far the reading is; it knows whether the bar is shown.
     progress: &'a Progress,
+    /// The output that is written to.
     out: &'a mut W,
 }
 
 impl<'a, R: Screen, W: Write> OverBar<'a, R, W> {
-    /// Makes an output of another one, and of the bar that may stand where that is seen.
+    /// Makes an output that writes to `out`, and clears the bar of `progress` first.
     pub(crate) fn new(rt: &'a R, progress: &'a Progress, out: &'a mut W) -> OverBar<'a, R, W> {
         OverBar { rt, progress, out }
     }
@@ -106,6 +114,7 @@ impl<'a, R: Screen, W: Write> OverBar<'a, R, W> {
 impl<R: Screen, W: Write> Write for OverBar<'_, R, W> {
     ghost contents = { λ over. W.contents over.out.now };
 
+    /// Clears the bar if it is shown, and writes.
     fn write(&mut self, buf: &[u8]) -> io::Result<usize> {
         if let Some(clear) = self.progress.clear() {
             self.rt.show(clear);
@@ -113,6 +122,7 @@ impl<R: Screen, W: Write> Write for OverBar<'_, R, W> {
         self.out.write(buf)
     }
 
+    /// Clears the bar if it is shown, and writes all bytes.
     fn write_all(&mut self, buf: &[u8]) -> io::Result<()> {
         if let Some(clear) = self.progress.clear() {
             self.rt.show(clear);
@@ -120,6 +130,7 @@ impl<R: Screen, W: Write> Write for OverBar<'_, R, W> {
         self.out.write_all(buf)
     }
 
+    /// Flushes the output. The bar stays.
     fn flush(&mut self) -> io::Result<()> {
         self.out.flush()
     }

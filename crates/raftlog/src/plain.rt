@@ -13,7 +13,7 @@ use std::io;
 use std::io::{ErrorKind, Write};
 use std::rt::Files;
 
-/// Tests whether the words of a command line begin with `recover --plain`. Words that do are at least two.
+/// Tests whether the words of a command line begin with `recover --plain`. If they do, there are at least two of them.
 pub(crate) fn begin_plain_recovery(words: &[String]) -> bool
     ensures { IsTrue result → 1 < length words.now }
 {
@@ -23,8 +23,9 @@ pub(crate) fn begin_plain_recovery(words: &[String]) -> bool
     command.as_str() == "recover" && option.as_str() == "--plain"
 }
 
-/// Does slowly what the words of `recover` ask for, here without `--plain`, and returns the status to end with: 0 where it is done,
-/// 1 where it is refused, 2 where they ask for no recovery. A refusal and a hint at the words are a line on `err`.
+/// Recovers files by the slow program, and prints their tables on `out`. `words` are those of `recover`, without `--plain`. Returns the
+/// status to end with: 0 if it is done, 1 if it is refused, 2 if the words ask for no recovery. A refusal, and a hint at the right words,
+/// is a line on `err`. After 1 the first lines may be printed on `out`, after 2 none is.
 pub(crate) fn run_plainly<S: Files + AllocGlobal, W: Write, E: Write>(
     rt: &S,
     words: &[String],
@@ -51,11 +52,12 @@ pub(crate) fn run_plainly<S: Files + AllocGlobal, W: Write, E: Write>(
     }
 }
 
-/// Prints the tables of the files that words name.
+/// Reads the files that `asked` names, and prints their tables on `out`.
 ///
 /// # Errors
 ///
-/// Those of `recover`.
+/// `Io` if a file can't be read, or the output takes no more; `InvalidArgument` unless there are 1 to 256 workers; the refusals of a
+/// recovery; `Memory`. Some lines may be printed then.
 fn print_tables<S: Files + AllocGlobal, W: Write>(
     rt: &S,
     asked: &RecoverWords<'_>,
@@ -74,7 +76,7 @@ fn print_tables<S: Files + AllocGlobal, W: Write>(
     print_files_plainly(rt.alloc(), asked.queue, asked.version, files, out)
 }
 
-/// Prints on `err` why a recovery is refused. Returns the status to end with.
+/// Prints on `err` why a recovery is refused. Returns the status to end with, 1.
 fn refuse_recovery<E: Write>(error: &Error, err: &mut E) -> u8
     ensures { result ≡ 1 }
 {

@@ -1,37 +1,38 @@
-//! A bar that says how far the reading of files is.
+//! A progress bar for the reading of files.
 
 use raft_base::AllocResult;
 use std::alloc::Global;
 use std::sync::atomic::{AtomicBool, AtomicU64, Ordering};
 
-/// After how many milliseconds the bar is shown.
+/// The number of milliseconds after which the bar is first shown.
 const FIRST: u64 = 1000;
 
-/// How many milliseconds lie between two showings of the bar.
+/// The number of milliseconds between two showings of the bar.
 const NEXT: u64 = 200;
 
-/// How wide the bar is: with the numbers behind it, it fits into 40 columns.
+/// The width of the bar in characters: with the numbers after it, it fits into 40 columns.
 const WIDTH: u64 = 12;
 
-/// What clears the line of the bar.
+/// The text that clears the line of the bar.
 const CLEAR: &str = "\r\x1b[K";
 
-/// How far the reading of files is. Where it takes more than a second, a bar says so.
+/// How far the reading of files is. If it takes more than a second, a bar shows it. Any number of threads may count their reads at once.
 #[derive(Drop)]
 pub(crate) struct Progress {
+    /// What the text of the bar is allocated with.
     alloc: Global,
-    /// How many bytes are to be read.
+    /// The number of bytes that will be read.
     total: u64,
-    /// How many were asked for.
+    /// The number of bytes that were asked for so far.
     done: AtomicU64,
-    /// When the bar is shown next, in milliseconds since some moment.
+    /// When the bar is shown next, in milliseconds of [`Screen::millis`](crate::host::Screen::millis); 2^64 - 1 for never.
     due: AtomicU64,
-    /// Whether it is shown.
+    /// Whether the bar is shown.
     is_shown: AtomicBool,
 }
 
 impl Progress {
-    /// Begins a reading of `total` bytes. `now` is the time in milliseconds; where it is `None` no bar is shown.
+    /// Begins a reading of `total` bytes. `now` is the time in milliseconds; `None` if no bar is to be shown.
     pub(crate) fn new(alloc: Global, now: Option<u64>, total: u64) -> Progress {
         let due = match now {
             Some(now) => now.saturating_add(FIRST),
@@ -46,7 +47,8 @@ impl Progress {
         }
     }
 
-    /// Counts `bytes` as read. Returns the bar, if it is to be shown `now`, which is the time in milliseconds.
+    /// Counts `bytes` as read. Returns the text of the bar if it is due at `now`, the time in milliseconds; it counts as shown then. `None`
+    /// if it isn't due, `now` is `None`, or there is no memory for the text.
     pub(crate) fn add(&self, now: Option<u64>, bytes: u64) -> Option<String> {
         self.done.fetch_add(bytes, Ordering::SeqCst);
         let now = now?;
@@ -62,7 +64,7 @@ impl Progress {
     ///
     /// # Errors
     ///
-    /// Want of memory.
+    /// Fails only if there is no memory.
     fn bar(&self) -> AllocResult<String> {
         let done = self.done.load(Ordering::SeqCst).min(self.total);
         let full = match done.saturating_mul(WIDTH).checked_div(self.total) {
@@ -74,7 +76,8 @@ impl Progress {
         Ok(text)
     }
 
-    /// Returns the text that takes the bar away, `None` where it isn't shown. The bar comes again where the reading goes on.
+    /// Returns the text that clears the bar, which then counts as not shown; `None` if it isn't shown. It comes again if the reading goes
+    /// on.
     pub(crate) fn clear(&self) -> Option<&'static str> {
         if self.is_shown.swap(false, Ordering::SeqCst) {
             Some(CLEAR)
@@ -84,7 +87,7 @@ impl Progress {
     }
 }
 
-/// Appends the bar, of which `full` columns are filled, and that `done` of `total` bytes are read.
+/// Appends the bar, of which `full` characters are filled, and how many of the `total` bytes are read, in MiB: `done` are.
 fn append_bar(full: u64, done: u64, total: u64, text: &mut String) -> AllocResult<()> {
     text.push_str(CLEAR)?;
     text.push('[')?;

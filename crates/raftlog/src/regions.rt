@@ -1,4 +1,4 @@
-//! `raftlog regions`.
+//! The command `raftlog regions`: the tables that an engine would have.
 
 ghost use Rattle.std.specs.Prelude.{◌≡◌, ◌⊎◌, ◌<◌, ◌≤◌, IfOk, OnErr, OnOk};
 ghost use Rattle.std.specs.Io.KnownBytes.{Keeps};
@@ -21,11 +21,13 @@ use std::alloc::Global;
 use std::io::Write;
 use std::thread::Threads;
 
-/// Prints the tables that an engine would have, or one of them with its keys. Returns the status.
+/// Prints the tables that an engine would have which is opened over the files, or with `--region` one of them with its keys. Returns the
+/// status to end with.
 ///
 /// # Errors
 ///
-/// `Misused` where the words ask for values and name no region; `NoTable` where the region has no table; those of the files, of an opening, and of the output; `Memory`.
+/// `Misused` if the words ask for values and name no region; `NoTable` if the region has no table; those of the files, of an opening, and
+/// of the output; `Memory`. Some lines may be printed then.
 pub(crate) fn show_regions<'a, R: Host, W: Write>(
     rt: &'a R,
     words: &ArgMatches<'a>,
@@ -60,11 +62,11 @@ pub(crate) fn show_regions<'a, R: Host, W: Write>(
     }
 }
 
-/// Returns the tables of an engine that would be opened over found files, and takes the bar away.
+/// Returns the tables that an engine would have which is opened over the found files. Clears the progress bar, after an error too.
 ///
 /// # Errors
 ///
-/// Those of the files and of an opening, `Memory`.
+/// Those of the files, the refusals of an opening, and `Memory`, all as `Raft`.
 pub(crate) fn tables_of<R: Host>(
     rt: &R,
     words: &ArgMatches<'_>,
@@ -77,7 +79,8 @@ pub(crate) fn tables_of<R: Host>(
     Ok(tables?)
 }
 
-/// Prints all tables of an engine that would be opened over found files. Returns the status.
+/// Prints all tables that an engine would have which is opened over the files that `sizes` names and `source` reads. Returns the status to
+/// end with.
 ///
 /// # Errors
 ///
@@ -101,11 +104,11 @@ fn print_regions<R: Threads + Sync + AllocGlobal, S: ReadFiles, W: Write>(
     print_all_regions(rt.alloc(), &tables, form, out)
 }
 
-/// Prints all tables, as text or as lines of JSON. Returns the status.
+/// Prints all tables, as text or as lines of JSON. Returns the status to end with.
 ///
 /// # Errors
 ///
-/// `Output` where the output takes no more; `Raft` with `Memory`. Nothing is printed then, or a prefix, but not all of it.
+/// `Output` if the output takes no more; `Raft` of `Memory`. Nothing is printed then, or a prefix, but not all of it.
 fn print_all_regions<W: Write>(
     alloc: Global,
     accessor: &MemTableAccessor,
@@ -123,11 +126,11 @@ fn print_all_regions<W: Write>(
     }
 }
 
-/// Prints all tables as text. Returns the status.
+/// Prints all tables as text. Returns the status to end with.
 ///
 /// # Errors
 ///
-/// `Output` where the output takes no more; `Raft` with `Memory`. Nothing is printed then, or a prefix, but not all of it.
+/// `Output` if the output takes no more; `Raft` of `Memory`. Nothing is printed then, or a prefix, but not all of it.
 fn print_text_regions<W: Write>(
     alloc: Global,
     accessor: &MemTableAccessor,
@@ -145,11 +148,11 @@ fn print_text_regions<W: Write>(
     }
 }
 
-/// Prints all tables as lines of JSON. Returns the status.
+/// Prints all tables as lines of JSON. Returns the status to end with.
 ///
 /// # Errors
 ///
-/// `Output` where the output takes no more; `Raft` with `Memory`. Nothing is printed then, or a prefix, but not all of it.
+/// `Output` if the output takes no more; `Raft` of `Memory`. Nothing is printed then, or a prefix, but not all of it.
 fn print_json_regions<W: Write>(
     alloc: Global,
     accessor: &MemTableAccessor,
@@ -165,11 +168,12 @@ fn print_json_regions<W: Write>(
     Ok(DONE)
 }
 
-/// Prints the table of a region with its keys. Returns the status.
+/// Prints the table of one region, and its keys. As text a key has its value with `values`, else the length of it; as JSON it always has
+/// the value. Returns the status to end with.
 ///
 /// # Errors
 ///
-/// `NoTable` where the region has no table, `Output` where the output takes no more, `Memory`.
+/// `NoTable` if the region has no table; `Memory`; nothing is printed then. `Output` if the output takes no more.
 fn print_region<W: Write>(
     alloc: Global,
     accessor: &MemTableAccessor,

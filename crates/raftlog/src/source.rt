@@ -1,4 +1,4 @@
-//! The files that a command looks into.
+//! The files that a command looks into: those of a folder, or files that are named one by one.
 
 ghost use Rattle.std.specs.Prelude.{◌≡◌, map, IfOk, IfSome};
 ghost use Rattle.raft_recover.specs.FileRecovery.{AreSizesOf, IsNamed};
@@ -24,33 +24,41 @@ const FOREIGN_HEADER: &[u8] = b"RAFT-LOG-FILE-HEADER";
 /// The numbers and the paths of the files of a queue, by rising numbers.
 type Paths = Vec<(FileSeq, String)>;
 
-/// The files of both queues, by their paths.
+/// The files of both queues by their paths, to be read at offsets by several threads. Each read moves the progress bar on.
 #[derive(Drop)]
 pub(crate) struct Source<'a, R: SharedFiles + Screen> {
+    /// The machine that has the files.
     rt: &'a R,
+    /// What the texts of errors are allocated with.
     alloc: Global,
+    /// The files of the append queue.
     append: Paths,
+    /// The files of the rewrite queue.
     rewrite: Paths,
+    /// How far the reading is, for the bar.
     progress: Progress,
 }
 
-/// The files that a command looks into, with their sizes. A folder is locked as long as this value lives.
+/// The files that a command looks into, with their lengths. A folder that was opened for it stays locked as long as this value lives.
 #[derive(Drop)]
 pub(crate) struct Found<'a, R: Host> {
+    /// The files, to be read.
     pub(crate) source: Source<'a, R>,
+    /// The numbers and the lengths of the files.
     pub(crate) sizes: BothSizes,
+    /// The folder that is locked; `None` if files were named one by one, or the caller has the folder.
     folder: Option<ReadFolder<'a, R>>,
 }
 
 impl<R: SharedFiles + Screen> Source<'_, R> {
-    /// Takes the bar away that says how far the reading is.
+    /// Clears the progress bar, if it is shown.
     pub(crate) fn end_progress(&self) {
         if let Some(clear) = self.progress.clear() {
             self.rt.show(clear);
         }
     }
 
-    /// Returns an output that takes the bar away before it writes to another one.
+    /// Returns an output that writes to `out`, and clears the progress bar first.
     pub(crate) fn over_bar<'b, W: Write>(&'b self, out: &'b mut W) -> OverBar<'b, R, W> {
         OverBar::new(self.rt, &self.progress, out)
     }
@@ -64,6 +72,12 @@ impl<R: SharedFiles + Screen> ReadFiles for Source<'_, R> {
     ghost gives = { λ source file. NamedGives (R.gives source.rt.now)
         (of_queue file.queue (map path_shown source.append.items) (map path_shown source.rewrite.items)) file };
 
+    /// Appends `len` bytes of the file, from `offset` on, to `bytes`, or fewer if the file ends before. Shows the bar if it is due.
+    ///
+    /// # Errors
+    ///
+    /// Those of the system, with the path at the start of their text; of the kind `NotFound` if no file of the queue has the number. Some
+    /// of the bytes may have been appended then.
     fn read(&self, file: FileId, offset: u64, len: usize, bytes: &mut Vec<u8>) -> io::Result<()> {
         let Some(path) = path_of(paths_of(file.queue, &self.append, &self.rewrite), file.seq) else {
             return Err(io::Error::from(ErrorKind::NotFound));
@@ -78,7 +92,7 @@ impl<R: SharedFiles + Screen> ReadFiles for Source<'_, R> {
     }
 }
 
-/// Returns the files of a queue.
+/// Returns the files of one queue.
 fn paths_of<'p>(queue: LogQueue, append: &'p Paths, rewrite: &'p Paths) -> &'p [(FileSeq, String)]
     ensures { map path_shown result.now
         ≡ of_queue queue (map path_shown append.now.items) (map path_shown rewrite.now.items) }
@@ -89,7 +103,7 @@ fn paths_of<'p>(queue: LogQueue, append: &'p Paths, rewrite: &'p Paths) -> &'p [
     }
 }
 
-/// Returns the path of the file with the number `seq`, of files by rising numbers; `None` where there is none.
+/// Returns the path of the file with the number `seq`; `None` if there is none. `paths` are by rising numbers.
 fn path_of(paths: &[(FileSeq, String)], seq: FileSeq) -> Option<&str>
     ensures { IfSome result (λ path. IsNamed (map path_shown paths.now) seq path.now) }
 {
@@ -99,7 +113,7 @@ fn path_of(paths: &[(FileSeq, String)], seq: FileSeq) -> Option<&str>
     }
 }
 
-/// Returns an error with a path in front of its words, or as it is where there is no memory.
+/// Returns `error` with `path` at the start of its text. If there is no memory for that, it is returned unchanged.
 fn error_with_path(alloc: Global, path: &str, error: io::Error) -> io::Error {
     match format!(in alloc; "{path}: {error}") {
         Ok(text) => io::Error::new(error.kind(), text.as_str()),
@@ -107,12 +121,13 @@ fn error_with_path(alloc: Global, path: &str, error: io::Error) -> io::Error {
     }
 }
 
-/// Finds the files that words name: a folder's, or files that are named one by one. `times` says how often they are to be read.
+/// Finds the files that the words of a command name: those of a folder, which is then locked against engines that write, or files that are
+/// named one by one. `times` says how often each byte will be read, for the progress bar.
 ///
 /// # Errors
 ///
-/// `Misused` where the words name neither, or both; those of [`ReadFolder`]; `File` where a file can't be read; `Foreign` where it is one of
-/// raft-engine; `Memory`.
+/// `Misused` if the words name neither a folder nor files, or both, or name a file wrongly; those of [`files_in_folder`]; `File` if a file
+/// can't be read; `Folder` of `Foreign` if one begins with raft-engine's header; `Memory`.
 pub(crate) fn find_files<'a, R: Host>(
     rt: &'a R,
     words: &ArgMatches<'a>,
@@ -137,11 +152,13 @@ pub(crate) fn find_files<'a, R: Host>(
     }
 }
 
-/// Finds the files of a folder. `times` says how often they are to be read.
+/// Finds the files of the folder at `path`, and locks the folder against engines that write. `times` says how often each byte will be read,
+/// for the progress bar.
 ///
 /// # Errors
 ///
-/// `NoFolder` where a file stands at the path; those of [`ReadFolder`]; `Foreign` where a file is one of raft-engine.
+/// `NoFolder` if a file stands at the path; those of [`ReadFolder::open`] as `Folder`; `File` if a file can't be read; `Folder` of
+/// `Foreign` if one begins with raft-engine's header; `Memory`.
 pub(crate) fn files_in_folder<'a, R: Host>(
     rt: &'a R,
     path: &'a str,
@@ -160,11 +177,12 @@ pub(crate) fn files_in_folder<'a, R: Host>(
     files_at_paths(rt, append, rewrite, Some(folder), times)
 }
 
-/// Finds the files of a folder that is open to be changed. They are read once.
+/// Finds the files of a folder that the caller has opened to change it. Each byte will be read once.
 ///
 /// # Errors
 ///
-/// Those of [`FolderFiles`]; `Foreign` where a file is one of raft-engine.
+/// Those of [`FolderFiles`] as `Folder`; `File` if a file can't be read; `Folder` of `Foreign` if one begins with raft-engine's header;
+/// `Memory`.
 pub(crate) fn files_in_open_folder<'a, R: Host>(
     rt: &'a R,
     folder: &FolderFiles<'a, R>,
@@ -176,11 +194,12 @@ pub(crate) fn files_in_open_folder<'a, R: Host>(
     files_at_paths(rt, append, rewrite, None, 1)
 }
 
-/// Refuses a file in place of a folder.
+/// Checks that no file stands at `path`, where a folder has to be. Whatever else is there, or that nothing is, is no error here: the
+/// opening of the folder tells it.
 ///
 /// # Errors
 ///
-/// `NoFolder` where a file stands at the path, `Memory`.
+/// `NoFolder` if a file stands there; `Memory`.
 pub(crate) fn refuse_file<R: Host>(rt: &R, path: &str) -> ToolResult<()> {
     match rt.file_len(path) {
         Ok(Some(_)) => Err(ToolError::NoFolder(String::from_str(rt.alloc(), path)?)),
@@ -188,11 +207,11 @@ pub(crate) fn refuse_file<R: Host>(rt: &R, path: &str) -> ToolResult<()> {
     }
 }
 
-/// Returns the numbers and the paths of the files that words name one by one.
+/// Returns the numbers and the paths of the files of a queue that `words` name one by one.
 ///
 /// # Errors
 ///
-/// `Misused` where a word isn't a number, `=` and a path, or the numbers don't rise; `Memory`.
+/// `Misused` if a word isn't a number, `=` and a path, or the numbers don't rise; `Memory`.
 fn named_files<R: Host>(rt: &R, words: &[&str]) -> ToolResult<Paths> {
     let mut paths: Paths = Vec::new(rt.alloc());
     for word in words {
@@ -207,7 +226,7 @@ fn named_files<R: Host>(rt: &R, words: &[&str]) -> ToolResult<Paths> {
     Ok(paths)
 }
 
-/// Returns the number and the path of the file that a word names; `None` where it isn't a number, `=` and a path.
+/// Returns the number and the path of the file that a word names. `None` if the word isn't a number, `=` and a path that isn't empty.
 fn named_file(word: &str) -> Option<(FileSeq, &str)> {
     let (seq, path) = word.split_once('=')?;
     if path.is_empty() {
@@ -216,11 +235,12 @@ fn named_file(word: &str) -> Option<(FileSeq, &str)> {
     Some((seq.parse::<u64>().ok()?, path))
 }
 
-/// Returns the files at paths, with their sizes, to be read as often as `times` says.
+/// Returns the files at the given paths, with their lengths, to be read. `folder` is the folder that stays locked with them. `times` says
+/// how often each byte will be read, for the progress bar.
 ///
 /// # Errors
 ///
-/// `File` where one isn't a regular file that can be read; `Foreign` where it is one of raft-engine; `Memory`.
+/// `File` if a path leads to no regular file that can be read; `Folder` of `Foreign` if a file begins with raft-engine's header; `Memory`.
 fn files_at_paths<'a, R: Host>(
     rt: &'a R,
     append: Paths,
@@ -253,7 +273,7 @@ fn files_at_paths<'a, R: Host>(
     })
 }
 
-/// Returns how many bytes files have together, at most 2^64 - 1.
+/// Returns the length of all files together in bytes, at most 2^64 - 1.
 fn bytes_of(sizes: &[FileSize]) -> u64 {
     let mut bytes: u64 = 0;
     for size in sizes {
@@ -282,7 +302,7 @@ fn sizes_of<R: Host>(rt: &R, paths: &[(FileSeq, String)]) -> ToolResult<Vec<File
 ///
 /// # Errors
 ///
-/// `File` where it isn't a regular file that can be read; `Foreign` where it is one of raft-engine; `Memory`.
+/// `File` if it isn't a regular file that can be read; `Folder` of `Foreign` if it begins with raft-engine's header; `Memory`.
 fn size_of<R: Host>(rt: &R, file: &(FileSeq, String)) -> ToolResult<FileSize>
     ensures { IfOk result (λ size. size.seq ≡ file.now.0) }
 {
@@ -296,17 +316,17 @@ fn size_of<R: Host>(rt: &R, file: &(FileSeq, String)) -> ToolResult<FileSize>
     Ok(FileSize { seq: *seq, len })
 }
 
-/// Returns the refusal of what is no regular file, which couldn't be read at an offset.
+/// Returns the error for a path that leads to no regular file, which couldn't be read at an offset.
 fn irregular_file_error<R: Host>(rt: &R, path: &String) -> ToolError {
     let error = io::Error::new(ErrorKind::InvalidInput, "it isn't a regular file");
     ToolError::file(rt.alloc(), path.as_str(), error)
 }
 
-/// Refuses a file that begins with raft-engine's header.
+/// Checks that the file at `path` doesn't begin with raft-engine's header.
 ///
 /// # Errors
 ///
-/// `Foreign` where it does; `File` where it can't be read; `Memory`.
+/// `Folder` of `Foreign` if it does; `File` if it can't be read; `Memory`.
 fn refuse_foreign<R: Host>(rt: &R, path: &String) -> ToolResult<()> {
     let mut begin = Vec::new(rt.alloc());
     if let Err(error) = rt.read_file(path.as_str(), 0, FOREIGN_HEADER.len(), &mut begin) {

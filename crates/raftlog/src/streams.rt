@@ -1,4 +1,4 @@
-//! Standard streams that are closed.
+//! Protection of files against standard streams that are closed.
 
 use crate::errors::{ToolError, ToolResult};
 use crate::host::Host;
@@ -8,15 +8,15 @@ use std::fs::File;
 /// What is opened for reading in place of a standard stream that is closed.
 const NOTHING: &str = "/dev/null";
 
-/// How many standard streams there are.
+/// The number of standard streams.
 const STREAMS: usize = 3;
 
-/// Makes sure that no file which is opened while the result lives gets the number of a standard stream that is closed: what is printed would
-/// be written into that file. Printing to a closed stream fails as it did.
+/// Opens [`NOTHING`] three times, so that the numbers of closed standard streams are taken while the result lives. A file that is opened
+/// then can't get such a number; else what is printed would be written into that file. Printing to a closed stream still fails.
 ///
 /// # Errors
 ///
-/// `File` where [`NOTHING`] can't be opened, `Memory`.
+/// `File` if [`NOTHING`] can't be opened; `Memory`.
 pub(crate) fn hold_streams<R: Host>(rt: &R) -> ToolResult<Vec<File>> {
     let mut held = Vec::new(rt.alloc());
     for _ in 0..STREAMS {

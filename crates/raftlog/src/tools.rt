@@ -1,4 +1,4 @@
-//! The commands that look into a folder.
+//! Dispatch of the commands that look into a folder, and the statuses with which they end.
 
 use crate::check::check;
 use crate::command_line::command_line;
@@ -11,13 +11,13 @@ use crate::regions::show_regions;
 use clap::ArgMatches;
 use std::io::Write;
 
-/// The first words that ask for a command that looks into a folder, or for help.
+/// The first words that ask for a command which looks into a folder, or for help.
 const FIRST_WORDS: [&str; 6] = ["check", "regions", "dump", "files", "cut", "help"];
 
-/// The words that ask for help, or for the version, of any command.
+/// The words that ask for help with any command, or for the version.
 const HELP_WORDS: [&str; 4] = ["--help", "-h", "--version", "-V"];
 
-/// The words that each command takes.
+/// What is printed to say which commands there are.
 const USAGE: &str = "\
 usage: raftlog check|regions|dump|files <folder>     (or files, by --append and --rewrite)
        raftlog cut --dry-run|--yes <folder>
@@ -26,21 +26,22 @@ usage: raftlog check|regions|dump|files <folder>     (or files, by --append and 
 For more: raftlog --help, or raftlog <command> --help
 ";
 
-/// What is said of a word that isn't UTF-8.
+/// What is printed if a word isn't UTF-8.
 const NO_UTF8: &str = "\
 raftlog: a word isn't UTF-8: a folder or file whose path isn't can be named by a link to it, or from within by `.`
 ";
 
-/// The status where it is done; of `check` and `dump` also that nothing is wrong, of `cut` that an opening accepts the files.
+/// The status if the command is done. After `check` and `dump` it also says that nothing is wrong, after `regions`, `files` and `cut` that
+/// an opening accepts the files.
 pub(crate) const DONE: u8 = 0;
 
-/// The status where `check` or `dump` finds that something is wrong with the files, an opening refuses them, or a command isn't done.
+/// The status if `check` or `dump` finds that something is wrong with the files, if an opening refuses them, or if a command isn't done.
 pub(crate) const WRONG: u8 = 1;
 
-/// The status where the words ask for nothing.
+/// The status if the words of the command line ask for nothing that can be done.
 pub(crate) const MISUSED: u8 = 2;
 
-/// Tests whether words ask for a command that looks into a folder, or for help with any command.
+/// Tests whether the words of a command line ask for a command that looks into a folder, or for help with any command.
 pub(crate) fn ask_for_tool(words: &[String]) -> bool {
     match words.first() {
         Some(word) if FIRST_WORDS.contains(&word.as_str()) => true,
@@ -55,7 +56,8 @@ fn is_help(word: &String) -> bool {
     HELP_WORDS.contains(&word.as_str())
 }
 
-/// Tests whether words begin with none of the commands.
+/// Tests whether the first word is neither `batch` nor `recover`, or there is no word. Asked after [`ask_for_tool`], this says that no
+/// command is named.
 pub(crate) fn name_no_command(words: &[String]) -> bool {
     match words.first() {
         Some(word) => word.as_str() != "batch" && word.as_str() != "recover",
@@ -63,7 +65,7 @@ pub(crate) fn name_no_command(words: &[String]) -> bool {
     }
 }
 
-/// Prints on `err` that words begin with none of the commands, and which there are. Returns the status to end with.
+/// Prints on `err` that the first word names no command, and which commands there are. Returns the status to end with.
 pub(crate) fn refuse_words<E: Write>(words: &[String], err: &mut E) -> u8 {
     let _ = match words.first() {
         Some(word) => writeln!(err, "raftlog: {word}: the first word names a command"),
@@ -80,8 +82,8 @@ pub(crate) fn refuse_encoding<E: Write>(err: &mut E) -> u8 {
     MISUSED
 }
 
-/// Does what words ask for, and returns the status to end with. A refusal is a line on `err`. It isn't inlined, so that the other
-/// commands don't pay for its frame.
+/// Does what the words of a command that looks into a folder ask for, and prints the answer, or its help, on `out`. Returns the status to
+/// end with. If it isn't done, a line on `err` says why. It isn't inlined, so that the other commands don't pay for its frame.
 #[inline(never)]
 pub(crate) fn run_command<'a, R: Host, W: Write, E: Write>(
     rt: &'a R,
@@ -109,7 +111,7 @@ pub(crate) fn run_command<'a, R: Host, W: Write, E: Write>(
     }
 }
 
-/// Returns words without the one which asks `help` for help.
+/// Returns the words, without the second one if they are `help` and a word that asks for help, as `help --help`.
 fn without_help_of_help(words: &[String]) -> &[String] {
     match words {
         [first, second] if first.as_str() == "help" && is_help(second) => words.split_at(1).0,
@@ -126,11 +128,11 @@ fn refuse_command<E: Write>(error: &ToolError, err: &mut E) -> u8 {
     }
 }
 
-/// Does what the words of a command ask for. Returns the status to end with.
+/// Does what the parsed words of a command ask for. Returns the status to end with.
 ///
 /// # Errors
 ///
-/// Those of the commands; `Misused` where the words name none.
+/// Those of the command; `Misused` if the words name no command.
 fn answer_command<'a, R: Host, W: Write>(
     rt: &'a R,
     matches: &ArgMatches<'a>,

@@ -1,4 +1,4 @@
-//! The items of a batch.
+//! The items of a log batch.
 
 use super::{BatchIntoIter, BatchIter};
 use crate::sys::ItemsHandle;
@@ -6,8 +6,8 @@ use crate::{Item, slot_of};
 use std::collections::BTreeSet;
 use std::fmt;
 
-/// The items of a log batch. Where it was read, or given its places by [`LogBatch::written`](crate::LogBatch::written), its
-/// entries have their place in the file, and its key values their file.
+/// The items of a log batch, that was read or made here. If it was read, or given its place by
+/// [`LogBatch::written`](crate::LogBatch::written), its entries have their places in the file, and its key values their file.
 ///
 /// ```
 /// use raft_recover::{Content, Item, LogBatch};
@@ -26,7 +26,7 @@ use std::fmt;
 /// # Ok::<(), raft_recover::Error>(())
 /// ```
 ///
-/// Tables take it, so they apply it once; slots share it, each for its own items:
+/// Tables take a batch, so that it is applied once. Slots borrow it, since each applies only its own items:
 ///
 /// ```compile_fail,E0382
 /// use raft_recover::{LogBatch, Tables};
@@ -41,7 +41,7 @@ pub struct Batch {
 }
 
 impl Batch {
-    /// Returns how many items there are.
+    /// Returns how many items there are. The entries of one item count as one.
     ///
     /// ```
     /// # use raft_recover::LogBatch;
@@ -73,7 +73,7 @@ impl Batch {
         self.len() == 0
     }
 
-    /// Returns the item at a position, which is 0 of the first one; `None` behind the last one.
+    /// Returns a copy of the item at position `i`, counted from 0; `None` where there are no more than `i` items.
     ///
     /// ```
     /// # use raft_recover::LogBatch;
@@ -88,14 +88,14 @@ impl Batch {
     ///
     /// # Panics
     ///
-    /// Where an entry has no place: the batch was made here, and its items were taken out before
+    /// Where the item has an entry without a place: the batch was made here, and its items were taken out before
     /// [`LogBatch::written`](crate::LogBatch::written).
     #[must_use]
     pub fn get(&self, i: usize) -> Option<Item> {
         self.handle.item(i)
     }
 
-    /// Returns the items, in order.
+    /// Returns an iterator over copies of the items, in order.
     ///
     /// ```
     /// # use raft_recover::LogBatch;
@@ -118,8 +118,8 @@ impl Batch {
         }
     }
 
-    /// Returns the numbers of the slots that the regions of its items are of, in rising order: of those to which it is to be
-    /// written by [`Slot::apply_append`](crate::Slot::apply_append).
+    /// Returns the numbers of the slots that its regions belong to, each once, in rising order: those to which it has to be
+    /// applied by [`Slot::apply_append`](crate::Slot::apply_append) or [`Slot::apply_rewrite`](crate::Slot::apply_rewrite).
     ///
     /// ```
     /// # use raft_recover::{LogBatch, slot_of};
@@ -139,8 +139,8 @@ impl Batch {
         Vec::from_iter(numbers)
     }
 
-    /// Makes a batch of the items that a handle holds.
-    pub(crate) fn of(handle: ItemsHandle) -> Batch {
+    /// Makes a batch of a handle that holds items.
+    pub(crate) fn from_handle(handle: ItemsHandle) -> Batch {
         Batch { handle }
     }
 
@@ -149,7 +149,7 @@ impl Batch {
         &self.handle
     }
 
-    /// Takes the handle of the items out, to give it to the library.
+    /// Returns the handle of the items, to be given to the library.
     pub(crate) fn into_handle(self) -> ItemsHandle {
         self.handle
     }

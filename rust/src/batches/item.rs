@@ -1,8 +1,8 @@
-//! What a batch says.
+//! Items of a log batch.
 
 use crate::Entry;
 
-/// What is said of a region.
+/// An item of a log batch: a region, and what it does to it.
 ///
 /// ```
 /// use raft_recover::{Content, Item, LogBatch};
@@ -15,13 +15,14 @@ use crate::Entry;
 /// ```
 #[derive(Clone, PartialEq, Eq, Hash, Debug)]
 pub struct Item {
-    /// The region; of a group marker the group.
+    /// The region; in a group marker the number of the group.
     pub region: u64,
-    /// What is said.
+    /// What the item does to the region.
     pub content: Content,
 }
 
-/// What an item says.
+/// What an item of a log batch does to its region. A *group marker*, which begins or ends an atomic group in the rewrite queue,
+/// is a `Put` of the key `__\x01`, which no table has.
 ///
 /// ```
 /// use raft_recover::{Content, LogBatch};
@@ -38,28 +39,28 @@ pub struct Item {
 /// ```
 #[derive(Clone, PartialEq, Eq, Hash, Debug)]
 pub enum Content {
-    /// New entries.
+    /// Adds entries, with consecutive indexes. Entries from the first of them on are replaced.
     Entries(Vec<Entry>),
-    /// All records go.
+    /// Removes all records.
     Clean,
-    /// The entries below the index go.
+    /// Removes the entries below the index.
     Compact {
         /// The first index that stays.
         index: u64,
     },
-    /// The entries from the index on go.
+    /// Removes the entries from the index on.
     Truncate {
-        /// The first index that goes.
+        /// The first index that is removed.
         index: u64,
     },
-    /// A key gets a value.
+    /// Gives a key a value.
     Put {
         /// The key.
         key: Vec<u8>,
         /// The value.
         value: Vec<u8>,
     },
-    /// A key goes.
+    /// Removes a key and its value.
     Delete {
         /// The key.
         key: Vec<u8>,

@@ -1,10 +1,10 @@
-//! The items of a batch, one after another.
+//! Iterators over the items of a batch.
 
 use crate::{Batch, Item};
 use std::iter::FusedIterator;
 use std::ops::Range;
 
-/// The items of a batch that is lent, by [`Batch::iter`].
+/// Iterates over copies of the items of a batch that is borrowed ([`Batch::iter`]).
 ///
 /// ```
 /// # use raft_recover::LogBatch;
@@ -21,10 +21,11 @@ use std::ops::Range;
 #[must_use = "an iterator does nothing until it is asked"]
 pub struct BatchIter<'a> {
     pub(super) batch: &'a Batch,
+    /// The positions of the items that are left.
     pub(super) rest: Range<usize>,
 }
 
-/// The items of a batch that is given away.
+/// Iterates over the items of a batch that is given away.
 ///
 /// ```
 /// # use raft_recover::LogBatch;
@@ -40,6 +41,7 @@ pub struct BatchIter<'a> {
 #[must_use = "an iterator does nothing until it is asked"]
 pub struct BatchIntoIter {
     pub(super) batch: Batch,
+    /// The positions of the items that are left.
     pub(super) rest: Range<usize>,
 }
 

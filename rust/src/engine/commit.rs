@@ -1,4 +1,4 @@
-//! Batches that several threads hand in, and one of them writes.
+//! Lets one thread write the batches that several threads hand in.
 
 use super::locks;
 use crate::sys::EngineHandle;
@@ -10,46 +10,51 @@ mod group;
 
 pub(super) use group::Group;
 
-/// Batches that wait to be written. Of the threads that hand them in one leads: it writes all that wait, and the others wait
-/// for it. It makes the sync for all who want one, if it wants one itself; else one of them leads next.
+/// The batches that threads hand in to be written. One of these threads *leads*: it writes all batches that wait, while the
+/// others wait for it. If it wants a sync itself, it makes one for all that want one; else a thread that wants one leads next.
 #[derive(Debug, Default)]
 pub(super) struct Commits {
     line: Mutex<Line>,
+    /// Notified where the line has changed, so that threads which wait look at it again.
     is_over: Condvar,
 }
 
+/// The batches that were handed in, and the threads that wait.
 #[derive(Debug, Default)]
 struct Line {
+    /// The ticket of the batch that is handed in next.
     next_ticket: u64,
+    /// The batches that nobody has taken to write.
     waiting: Vec<Commit>,
-    /// Those that were written and wait for a sync, which none of their threads makes yet.
+    /// The batches that were written, and wait for a sync that no thread makes yet.
     unsynced: Vec<Commit>,
-    /// Those whose threads may go on.
+    /// The batches with a result, or of a group that ended without one. Their threads may go on.
     over: Vec<Commit>,
-    /// Empty batches, which stand in for those that were handed in.
+    /// Empty batches: a thread that hands in its own gets one of these in its place.
     spare: Vec<LogBatch>,
     /// Whether a thread leads.
     is_led: bool,
-    /// How many threads wait for the one that leads.
+    /// How many threads wait for a notification.
     sleepers: usize,
 }
 
-/// A batch that was handed in.
+/// A batch that a thread has handed in.
 #[derive(Debug)]
 pub(super) struct Commit {
+    /// Which batch it is, in the order in which they were handed in.
     ticket: u64,
     pub(super) batch: LogBatch,
-    /// Whether it is to be synced before its thread goes on.
+    /// Whether the batch is to be synced before its thread goes on.
     pub(super) sync: bool,
-    /// Whether items of it were written.
+    /// Whether the batch was written, and had items.
     pub(super) is_written: bool,
-    /// What its thread is told.
+    /// What the call of its thread returns; `None` as long as that isn't known.
     pub(super) result: Option<Result<()>>,
 }
 
 impl Commit {
-    /// Writes the batch to the tables, which order its bytes of the files. A refusal is noted as
-    /// its result.
+    /// Writes the batch to the tables, which order that its bytes are written. An error is noted as the result; the batch is then
+    /// as it was, unless the tables have failed.
     pub(super) fn write(&mut self, tables: &mut EngineHandle) {
         let has_items = !self.batch.is_empty();
         match tables.write(self.batch.handle_mut()) {
@@ -59,19 +64,21 @@ impl Commit {
             }
             Err(e) => {
                 let summary = |region| tables.summary(region);
-                self.result = Some(Err(self.batch.name_misfit(e, |_| true, summary)));
+                self.result = Some(Err(self.batch.name_refused_item(e, |_| true, summary)));
             }
         }
     }
 }
 
 impl Commits {
-    /// Hands in a batch, with `sync` to be synced too, and waits until it was written. Where no other thread leads this one does, by
-    /// the call `lead`, unless a sync is due that it doesn't want. The batch is empty after an `Ok`.
+    /// Hands in a batch, and waits until a thread has written it. `sync` says whether it is to be synced too. Where no other
+    /// thread leads, this one does, by the call `lead`; but a thread that wants no sync doesn't lead while batches wait for one.
+    /// After an `Ok` the batch is empty.
     ///
     /// # Errors
     ///
-    /// `Memory`, and what the leader notes of the batch. The batch is then as the leader left it.
+    /// The result that was noted with the batch, which is then as the leader left it; `Failed` where none was; `Memory`, before
+    /// anything is done.
     pub(super) fn write(
         &self,
         batch: &mut LogBatch,
@@ -82,9 +89,9 @@ impl Commits {
         let spare = line.spare.pop().map_or_else(LogBatch::new, Ok)?;
         let ticket = line.hand_in(mem::replace(batch, spare), sync);
         loop {
-            if let Some(over) = line.take_ended(ticket) {
+            if let Some(over) = line.take_finished(ticket) {
                 line.spare.push(mem::replace(batch, over.batch));
-                return over.result.unwrap_or_else(|| Err(Error::of_emptied()));
+                return over.result.unwrap_or_else(|| Err(Error::failed()));
             }
             if line.is_led || (!sync && !line.unsynced.is_empty()) {
                 line.sleepers += 1;
@@ -94,13 +101,13 @@ impl Commits {
             }
             line.is_led = true;
             drop(line);
-            lead(&mut Group::of(self, ticket));
+            lead(&mut Group::led_by(self, ticket));
             line = locks::lock(&self.line);
         }
     }
 
-    /// Makes a change of the line of batches, and wakes the threads that wait, if any do: to wake nobody would cost a call of the
-    /// system.
+    /// Changes the line of batches by `change`, and wakes the threads that wait, if there are any. (To wake nobody would cost a
+    /// call of the system too.)
     fn change_line(&self, change: impl FnOnce(&mut Line)) {
         let mut line = locks::lock(&self.line);
         change(&mut line);
@@ -113,7 +120,7 @@ impl Commits {
 }
 
 impl Line {
-    /// Puts a batch, with `sync` one to be synced, at the end of the line, and returns its ticket.
+    /// Puts a batch at the end of the line, and returns its ticket. `sync` says whether it is to be synced.
     fn hand_in(&mut self, batch: LogBatch, sync: bool) -> u64 {
         let ticket = self.next_ticket;
         self.next_ticket += 1;
@@ -127,8 +134,8 @@ impl Line {
         ticket
     }
 
-    /// Takes the batch of a ticket out of the line; `None` as long as its thread has to wait.
-    fn take_ended(&mut self, ticket: u64) -> Option<Commit> {
+    /// Takes the batch of a ticket out of the line, once its thread may go on; `None` before.
+    fn take_finished(&mut self, ticket: u64) -> Option<Commit> {
         let at = self.over.iter().position(|over| over.ticket == ticket)?;
         Some(self.over.swap_remove(at))
     }

@@ -1,7 +1,7 @@
-//! Entries that were read.
+//! Entries that were read, and how their blocks are read.
 
 use super::Engine;
-use crate::sys::block_entries;
+use crate::sys::check_entry_block;
 use crate::{Block, Entry, Error, Files, Result};
 use std::fmt;
 use std::iter::FusedIterator;
@@ -9,9 +9,9 @@ use std::ops::Range;
 use std::sync::Arc;
 use std::vec;
 
-/// The bytes of entries of a region, in the order of their indexes.
+/// Iterates over the bytes of entries of a region, in the order of their indexes.
 ///
-/// All of them were read, with their checksums, so that nothing written later shows.
+/// All of them were read, and their checksums tested, before the value was returned. What is written later doesn't show.
 ///
 /// ```
 /// use raft_recover::{Engine, LogBatch, MemoryFiles, Options};
@@ -32,26 +32,30 @@ use std::vec;
 /// Each item is a copy of the entry's bytes; [`Entries::iter`] lends them.
 #[derive(Clone, Default)]
 pub struct Entries {
-    /// The entry bytes of the blocks that hold them.
+    /// The entry bytes of the blocks that have the entries.
     blocks: Vec<Arc<Vec<u8>>>,
+    /// The entries that are left.
     rest: vec::IntoIter<Place>,
 }
 
-/// Where the bytes of an entry are.
+/// An entry, and where its bytes are among those of [`Entries`].
 #[derive(Clone)]
 struct Place {
     index: u64,
+    /// The position of its block.
     block: usize,
+    /// Where its bytes are in that block.
     bytes: Range<usize>,
 }
 
 impl Entries {
-    /// Reads entries of a region, which stand in order: the block of neighbors is read once, and the last block is kept.
+    /// Reads the bytes of a region's entries. A block that neighboring entries share is read once, and the last block is kept for
+    /// the next reading.
     ///
     /// # Errors
     ///
-    /// `Corruption` where no sound block with the bytes of an entry stands at its place, `Io`, `Memory`; they name the region and
-    /// the index of the entry.
+    /// `Corruption` where no sound block with the bytes of an entry is at its place; `Io`: both with the region and the index of
+    /// the entry, the file and the offset. `Memory`.
     pub(super) fn read<F: Files>(
         engine: &Engine<F>,
         region: u64,
@@ -65,12 +69,12 @@ impl Entries {
         for entry in entries {
             let with_entry = |e: Error| e.with_entry(region, entry.index);
             if last != Some(entry.block) {
-                blocks.push(entry_bytes(engine, entry.block).map_err(with_entry)?);
+                blocks.push(get_or_read_entry_bytes(engine, entry.block).map_err(with_entry)?);
                 last = Some(entry.block);
             }
             let block = blocks.len() - 1;
-            let bytes = bytes_of(entry, blocks[block].len())
-                .ok_or_else(|| of_lacking(entry))
+            let bytes = range_in_block(entry, blocks[block].len())
+                .ok_or_else(|| lacking_bytes_error(entry))
                 .map_err(with_entry)?;
             let index = entry.index;
             places.push(Place {
@@ -88,7 +92,7 @@ impl Entries {
         })
     }
 
-    /// Returns the index of the entry that comes next; `None` behind the last one.
+    /// Returns the index of the entry that `next` will return; `None` where none is left.
     ///
     /// ```
     /// # use raft_recover::{Engine, LogBatch, MemoryFiles, Options};
@@ -107,7 +111,8 @@ impl Entries {
         self.rest.as_slice().first().map(|place| place.index)
     }
 
-    /// Lends the entries that are left, each with its index, from the first one on or from the last. No byte is copied.
+    /// Lends the entries that are left, each as its index and its bytes, forwards or backwards. No byte is copied, and the
+    /// entries stay.
     ///
     /// ```
     /// # use raft_recover::{Engine, LogBatch, MemoryFiles, Options};
@@ -126,11 +131,11 @@ impl Entries {
     ) -> impl DoubleEndedIterator<Item = (u64, &[u8])> + ExactSizeIterator + FusedIterator + Clone
     {
         let places = self.rest.as_slice().iter();
-        places.map(|place| (place.index, self.bytes(place)))
+        places.map(|place| (place.index, self.bytes_at(place)))
     }
 
-    /// Returns the bytes of the entry at a place.
-    fn bytes(&self, place: &Place) -> &[u8] {
+    /// Returns the bytes of the entry that `place` describes.
+    fn bytes_at(&self, place: &Place) -> &[u8] {
         &self.blocks[place.block][place.bytes.clone()]
     }
 }
@@ -140,7 +145,7 @@ impl Iterator for Entries {
 
     fn next(&mut self) -> Option<Vec<u8>> {
         let place = self.rest.next()?;
-        Some(self.bytes(&place).to_vec())
+        Some(self.bytes_at(&place).to_vec())
     }
 
     fn size_hint(&self) -> (usize, Option<usize>) {
@@ -151,7 +156,7 @@ impl Iterator for Entries {
 impl DoubleEndedIterator for Entries {
     fn next_back(&mut self) -> Option<Vec<u8>> {
         let place = self.rest.next_back()?;
-        Some(self.bytes(&place).to_vec())
+        Some(self.bytes_at(&place).to_vec())
     }
 }
 
@@ -169,21 +174,24 @@ impl fmt::Debug for Entries {
     }
 }
 
-/// The bytes of one entry, among those of its block.
+/// The bytes of one entry, with those of all of its block.
 pub(super) struct EntryBytes {
+    /// The entry bytes of the block.
     block: Arc<Vec<u8>>,
+    /// Where those of the entry are.
     bytes: Range<usize>,
 }
 
 impl EntryBytes {
-    /// Returns the bytes of an entry; `None` where its block isn't kept, or doesn't have them.
-    pub(super) fn of_kept<F: Files>(engine: &Engine<F>, entry: &Entry) -> Option<EntryBytes> {
+    /// Returns the bytes of an entry from the kept blocks; `None` where its block isn't kept, or doesn't have these bytes.
+    pub(super) fn from_kept<F: Files>(engine: &Engine<F>, entry: &Entry) -> Option<EntryBytes> {
         let block = engine.kept_blocks.get(&entry.block)?;
-        let bytes = bytes_of(entry, block.len())?;
+        let bytes = range_in_block(entry, block.len())?;
         Some(EntryBytes { block, bytes })
     }
 
-    /// Reads an entry of a region with all of its block, which goes to the engine's kept blocks.
+    /// Reads the bytes of an entry of `region`, with its whole block, from the file, and keeps the block for the next reading.
+    /// Whether the block is kept already isn't looked up.
     ///
     /// # Errors
     ///
@@ -196,8 +204,8 @@ impl EntryBytes {
         let with_entry = |e: Error| e.with_entry(region, entry.index);
         let block = Arc::new(read_entry_bytes(engine, entry.block).map_err(with_entry)?);
         engine.kept_blocks.keep(&entry.block, &block);
-        let bytes = bytes_of(entry, block.len())
-            .ok_or_else(|| of_lacking(entry))
+        let bytes = range_in_block(entry, block.len())
+            .ok_or_else(|| lacking_bytes_error(entry))
             .map_err(with_entry)?;
         Ok(EntryBytes { block, bytes })
     }
@@ -209,7 +217,7 @@ impl EntryBytes {
     }
 }
 
-/// Returns `len` bytes that are zero. The only error is `Memory`.
+/// Returns `len` bytes of zero. The only error is `Memory`.
 pub(super) fn zeros(len: usize) -> Result<Vec<u8>> {
     let mut bytes = Vec::new();
     bytes.try_reserve_exact(len).map_err(|_| Error::memory())?;
@@ -217,60 +225,61 @@ pub(super) fn zeros(len: usize) -> Result<Vec<u8>> {
     Ok(bytes)
 }
 
-/// Reads the bytes of a block, with their checksum.
+/// Reads the bytes of a block, its checksum with them, which isn't tested. They may be read from memory, if they aren't written
+/// yet.
 ///
 /// # Errors
 ///
-/// `Io` with the place of the block, `Memory`.
+/// `Io` with the file and the offset of the block; `Memory`.
 pub(super) fn read_block<F: Files>(engine: &Engine<F>, block: Block) -> Result<Vec<u8>> {
     let mut bytes = zeros(block.len)?;
     if block.len > 0 {
         engine
             .read_at(block.file, block.offset, &mut bytes)
             .map_err(|e| {
-                Error::system("the block can't be read", e).at(block.file, block.offset)
+                Error::system("the block can't be read", e).with_place(block.file, block.offset)
             })?;
     }
     Ok(bytes)
 }
 
-/// Returns the entry bytes of a block, which are read unless they are kept.
+/// Returns the entry bytes of a block: the kept ones, or those that it reads.
 ///
 /// # Errors
 ///
 /// Those of [`read_entry_bytes`].
-fn entry_bytes<F: Files>(engine: &Engine<F>, block: Block) -> Result<Arc<Vec<u8>>> {
+fn get_or_read_entry_bytes<F: Files>(engine: &Engine<F>, block: Block) -> Result<Arc<Vec<u8>>> {
     match engine.kept_blocks.get(&block) {
         Some(kept) => Ok(kept),
         None => Ok(Arc::new(read_entry_bytes(engine, block)?)),
     }
 }
 
-/// Reads the entry bytes of a block, and tests their checksum. A block of no bytes has none.
+/// Reads the entry bytes of a block, and tests their checksum, which isn't among them. A block of no bytes has no checksum.
 ///
 /// # Errors
 ///
-/// `Io`, and `Corruption` where the checksum is another, with the place of the block; `Memory`.
+/// `Io`, or `Corruption` where the checksum is another one, with the file and the offset of the block; `Memory`.
 pub(super) fn read_entry_bytes<F: Files>(engine: &Engine<F>, block: Block) -> Result<Vec<u8>> {
     let mut bytes = read_block(engine, block)?;
     if block.len > 0 {
-        let len = block_entries(&bytes).map_err(|e| e.at(block.file, block.offset))?;
+        let len = check_entry_block(&bytes).map_err(|e| e.with_place(block.file, block.offset))?;
         bytes.truncate(len);
     }
     Ok(bytes)
 }
 
-/// Returns where the bytes of an entry are in the entry bytes of its block, of which there are `len`; `None` where they would end
-/// behind those.
-fn bytes_of(entry: &Entry, len: usize) -> Option<Range<usize>> {
+/// Returns the range in which the bytes of an entry are among the `len` entry bytes of its block; `None` where it would end
+/// behind these.
+fn range_in_block(entry: &Entry, len: usize) -> Option<Range<usize>> {
     let from = entry.offset as usize;
     let end = from.saturating_add(entry.len as usize);
     (end <= len).then_some(from..end)
 }
 
-/// Returns the refusal of an entry whose bytes would end behind those of its block.
+/// Makes the error for an entry whose bytes would end behind those of its block.
 #[cold]
-fn of_lacking(entry: &Entry) -> Error {
+fn lacking_bytes_error(entry: &Entry) -> Error {
     let Block { file, offset, .. } = entry.block;
     let text = "the bytes of an entry end behind those of its block";
     Error::corruption(file, offset, text)

@@ -1,4 +1,4 @@
-//! Why an engine takes no further change.
+//! Failures of an engine, after which it takes no further change.
 
 use super::Engine;
 use crate::{Error, FileId, Files, Result};
@@ -7,49 +7,51 @@ use std::io;
 /// Why an engine has failed.
 #[derive(Debug)]
 pub(super) struct Failure {
+    /// The error with which it failed.
     reason: Error,
-    /// Whether the files failed and the tables are whole, so that reads go on.
+    /// Whether only the files have failed, so that the tables are whole, and can be read.
     is_readable: bool,
 }
 
 impl<F: Files> Engine<F> {
-    /// Tests that the engine hasn't failed.
+    /// Checks that the engine hasn't failed.
     ///
     /// # Errors
     ///
-    /// `Failed`, with the reason and its place.
+    /// `Failed`, with the reason and its place, where it has.
     pub(super) fn check_intact(&self) -> Result<()> {
         match self.failure.get() {
             None => Ok(()),
-            Some(failure) => Err(failure.reason.as_failure()),
+            Some(failure) => Err(failure.reason.to_failed()),
         }
     }
 
-    /// Tests that the engine can be read: it hasn't failed, or its files did and the tables are whole.
+    /// Checks that the engine can be read: it hasn't failed, or only its files have.
     ///
     /// # Errors
     ///
-    /// `Failed`, with the reason and its place.
+    /// `Failed`, with the reason and its place, where it can't.
     pub(super) fn check_readable(&self) -> Result<()> {
         match self.failure.get() {
-            Some(failure) if !failure.is_readable => Err(failure.reason.as_failure()),
+            Some(failure) if !failure.is_readable => Err(failure.reason.to_failed()),
             _ => Ok(()),
         }
     }
 
-    /// Notes why the engine has failed, and returns the reason. Nothing of it can be read from then on.
+    /// Notes that the engine has failed, and can't be read any more. Returns the reason, as it is.
     pub(super) fn fail(&self, reason: Error) -> Error {
-        self.fail_as(reason, false)
+        self.note_failure(reason, false)
     }
 
-    /// Notes that the files have failed, and why, and returns the reason. What the tables have can still be read; of it bytes that
-    /// were ordered and not written are read from memory.
+    /// Notes that the files have failed. All that the tables have can still be read: bytes that were ordered and not written are
+    /// read from memory. Returns the reason, as it is.
     pub(super) fn fail_files(&self, reason: Error) -> Error {
-        self.fail_as(reason, true)
+        self.note_failure(reason, true)
     }
 
-    /// Notes why the engine has failed, if nothing is noted yet, and whether it can still be read; returns the reason.
-    fn fail_as(&self, reason: Error, is_readable: bool) -> Error {
+    /// Notes why the engine has failed, and whether it can still be read, unless a failure is noted already. Returns the reason,
+    /// as it is.
+    fn note_failure(&self, reason: Error, is_readable: bool) -> Error {
         let failure = Failure {
             reason: reason.clone(),
             is_readable,
@@ -58,14 +60,13 @@ impl<F: Files> Engine<F> {
         reason
     }
 
-    /// Fills bytes with those of a file from an offset on, or with those that are to be written
-    /// there.
+    /// Fills all of `bytes` with those of a file from `offset` on. Bytes that aren't written yet are read from memory.
     ///
     /// # Errors
     ///
     /// Those of [`Files::read`].
     pub(super) fn read_at(&self, file: FileId, offset: u64, bytes: &mut [u8]) -> io::Result<()> {
-        if self.unwritten.read_into(file, offset, bytes) {
+        if self.unwritten.try_read_into(file, offset, bytes) {
             return Ok(());
         }
         self.files.read(file, offset, bytes)

@@ -1,35 +1,37 @@
-//! The files that an engine writes.
+//! What an engine asks of its files.
 
 use crate::{FileId, Queue};
 use std::io;
 use std::sync::Arc;
 
-/// The files of both queues of an engine, by what it asks of a disk. [`FolderFiles`] keeps them in a folder, and [`MemoryFiles`]
-/// in memory.
+/// The files of both queues of an engine: the calls that it makes to list, read and change them. [`FolderFiles`] keeps the files
+/// in a folder, and [`MemoryFiles`] in memory.
 ///
-/// An engine calls [`list`](Files::list) for each queue, and reads the files that it names. From then on the calls that change
-/// something come one after another, never two at once, and [`read`](Files::read) comes from any thread at any time. After an
-/// `Err` of a call that changes something an engine makes no further one, but for the same call, where all is as before it.
+/// An engine first calls [`list`](Files::list) for each queue, and reads the files that it names. From then on the calls that
+/// change something come one after another, never two at once; [`read`](Files::read) comes from any thread at any time. After an
+/// `Err` of a call that changes something an engine makes no further such call, unless [`is_as_before`](Files::is_as_before)
+/// allows it to repeat this one.
 ///
-/// That nothing is lost whenever the machine crashes is proved of the calls alone, and of a disk that does with them what an
-/// implementor answers for:
+/// That no crash of the machine takes away what was synced is proved for the sequence of these calls, on a disk that does the
+/// following with them. An implementor answers for each point:
 ///
-/// - Of bytes that weren't synced a prefix stands after a crash: no hole, and no page of zeros in front of others. So
-///   files are neither made longer beforehand nor used again. Bytes that were synced aren't harmed by those behind them.
+/// - Of bytes that weren't synced a crash leaves a prefix: no hole, and no page of zeros before others. So files are neither made
+///   longer beforehand nor used again. Bytes that were synced aren't harmed by those written after them.
 /// - [`sync`](Files::sync) makes the names of new files, and deletions, safe too, as a sync of the folder does.
 ///   [`rotate`](Files::rotate) first syncs the file that it closes. [`truncate`](Files::truncate) is on the disk when it returns.
-/// - Files that are deleted go in the order in which that was asked, so that no crash leaves an older file where a younger one
-///   is gone.
-/// - After a call that failed half way either all is as before, or every later call that changes something fails. After a sync
-///   that failed no later one can be believed: a system may take bytes for synced that it has dropped. So the machine is started
-///   again before such files are listed. Where [`is_as_before`](Files::is_as_before) says that all is as before the call, an
-///   engine may make it again.
+/// - Deletions take effect in the order in which they were asked, so that no crash leaves an older file where a younger one is
+///   gone.
+/// - After a call that failed, either all is as before it, or every later call that changes something fails. After a sync that
+///   failed no later one can be believed: a system may take bytes for synced that it has dropped. So the machine is started again
+///   before such files are listed. Where [`is_as_before`](Files::is_as_before) says that all is as before the call, an engine may
+///   repeat it.
 /// - [`read`](Files::read) returns the bytes that were written at the place, or fails.
-/// - All that [`list`](Files::list) names is on the disk, with its bytes: a process that was killed may have left bytes that a
-///   reader sees and a failure of power takes away. So files that are found are synced first, and their folder.
+/// - All that [`list`](Files::list) names is on the disk, with its bytes. A process that was killed may have left bytes that a
+///   reader sees, but that a failure of power takes away; so an implementor syncs the files that it finds, and their folder,
+///   first.
 /// - No two engines have the same files open.
 ///
-/// Another disk is made of one that is there:
+/// Files of your own can be made of others, here of [`MemoryFiles`]:
 ///
 /// ```
 /// use raft_recover::{Engine, FileId, Files, LogBatch, MemoryFiles, Options, Queue};
@@ -76,7 +78,7 @@ use std::sync::Arc;
 /// [`FolderFiles`]: crate::FolderFiles
 /// [`MemoryFiles`]: crate::MemoryFiles
 pub trait Files: Send + Sync {
-    /// Returns the files of a queue, oldest first: the number of each, and how many bytes it has.
+    /// Returns the files of a queue, oldest first: the number of each, and its length in bytes.
     ///
     /// ```
     /// # use raft_recover::{FileId, Files, MemoryFiles, Queue};
@@ -93,7 +95,7 @@ pub trait Files: Send + Sync {
     /// Those of the system.
     fn list(&self, queue: Queue) -> io::Result<Vec<(u64, u64)>>;
 
-    /// Writes bytes behind those of a file, which is the last one of its queue.
+    /// Writes bytes at the end of a file. It is the last file of its queue.
     ///
     /// ```
     /// # use raft_recover::{FileId, Files, MemoryFiles, Queue};
@@ -108,10 +110,10 @@ pub trait Files: Send + Sync {
     ///
     /// # Errors
     ///
-    /// Those of the system: some of the bytes may be there.
+    /// Those of the system. Some of the bytes may be in the file then.
     fn write(&self, file: FileId, bytes: &[u8]) -> io::Result<()>;
 
-    /// Makes all that was asked of a queue so far safe: no crash takes it away once the call returns `Ok`.
+    /// Makes all changes of a queue so far safe: once the call returns `Ok`, no crash takes them away.
     ///
     /// ```
     /// # use raft_recover::{FileId, Files, MemoryFiles, Queue};
@@ -126,10 +128,10 @@ pub trait Files: Send + Sync {
     ///
     /// # Errors
     ///
-    /// Those of the system.
+    /// Those of the system. The changes may be safe or not then.
     fn sync(&self, queue: Queue) -> io::Result<()>;
 
-    /// Begins a new file of a queue, behind the last one, whose bytes are synced then.
+    /// Makes an empty file, which becomes the last one of its queue. First it syncs the file that was the last one.
     ///
     /// ```
     /// # use raft_recover::{FileId, Files, MemoryFiles, Queue};
@@ -144,10 +146,10 @@ pub trait Files: Send + Sync {
     ///
     /// # Errors
     ///
-    /// Those of the system: the file may be there.
+    /// Those of the system. The file may be there then.
     fn rotate(&self, file: FileId) -> io::Result<()>;
 
-    /// Deletes the oldest file of a queue, which isn't its last one.
+    /// Deletes a file. It is the oldest one of its queue, and not the last.
     ///
     /// ```
     /// # use raft_recover::{FileId, Files, MemoryFiles, Queue};
@@ -163,11 +165,11 @@ pub trait Files: Send + Sync {
     ///
     /// # Errors
     ///
-    /// Those of the system: the file may be gone.
+    /// Those of the system. The file may be gone then.
     fn delete(&self, file: FileId) -> io::Result<()>;
 
-    /// Cuts a file, which is the last one of its queue, to `len` bytes, if it has more. That is asked only while
-    /// an engine is opened. What is cut may be kept elsewhere first, as [`FolderFiles`](crate::FolderFiles) does.
+    /// Cuts a file to `len` bytes, if it has more. It is the last file of its queue, and cut only while an engine is opened. What
+    /// is cut off may be kept elsewhere first, as [`FolderFiles`](crate::FolderFiles) does.
     ///
     /// ```
     /// # use raft_recover::{FileId, Files, MemoryFiles, Queue};
@@ -182,12 +184,13 @@ pub trait Files: Send + Sync {
     ///
     /// # Errors
     ///
-    /// Those of the system.
+    /// Those of the system. The file may be cut or not then.
     fn truncate(&self, file: FileId, len: u64) -> io::Result<()>;
 
-    /// Gives back the room of files that were deleted, where [`delete`](Files::delete) left that to this call. To give back that of a
-    /// large file takes some file systems long, so an engine asks for it once others may write again: at any time, from any thread.
-    /// Where `delete` leaves nothing to do it does nothing; files that are made of others hand it on.
+    /// Gives back the room on the disk of files that were deleted, where [`delete`](Files::delete) left that to this call; else
+    /// it does nothing. To give back the room of a large file takes some file systems long. So an engine calls this after a
+    /// deletion, once other threads may write again: at any time, from any thread. Files that are made of others hand the call
+    /// on.
     ///
     /// ```
     /// # use raft_recover::{FileId, Files, MemoryFiles, Queue};
@@ -200,7 +203,7 @@ pub trait Files: Send + Sync {
     /// ```
     fn free_deleted(&self) {}
 
-    /// Fills `bytes` with those of a file from `offset` on.
+    /// Fills all of `bytes` with those of a file from `offset` on.
     ///
     /// ```
     /// # use raft_recover::{FileId, Files, MemoryFiles, Queue};
@@ -217,11 +220,12 @@ pub trait Files: Send + Sync {
     ///
     /// # Errors
     ///
-    /// Those of the system, where the file is gone or ends before that too.
+    /// Those of the system; also where the file is gone, or ends before `bytes` are full. What `bytes` hold then doesn't matter.
     fn read(&self, file: FileId, offset: u64, bytes: &mut [u8]) -> io::Result<()>;
 
-    /// Tests whether the change that was asked for last, and failed, left all as it was, so that it may be asked for again: a write
-    /// that found no room, of which no byte is left. It is asked before the next change. Where nobody knows, it isn't so.
+    /// Tests whether the last call that should change something, and failed, left all as it was, so that it may be repeated: for
+    /// example a write that found no room, of which no byte is left. It is called before any further change. Where this isn't
+    /// known it returns false, as it does unless it is implemented.
     ///
     /// ```
     /// # use raft_recover::{FileId, Files, MemoryFiles, Queue};
@@ -234,7 +238,7 @@ pub trait Files: Send + Sync {
     }
 }
 
-/// Each call is handed on to the files in the `Arc`.
+/// Hands each call on to the files in the `Arc`.
 impl<F: Files + ?Sized> Files for Arc<F> {
     fn list(&self, queue: Queue) -> io::Result<Vec<(u64, u64)>> {
         (**self).list(queue)

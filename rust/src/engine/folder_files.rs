@@ -17,20 +17,20 @@ mod reading;
 mod writing;
 
 use locking::LockedFolder;
-use names::{id_of, name_of};
+use names::{log_file_name, parse_log_file_name};
 use reading::read_at;
-use writing::{Unmade, lacks_room, write_all_or_nothing};
+use writing::{ChangeError, is_out_of_room, write_all_or_nothing};
 
-/// The files of both queues in a folder, as `0000000000000001.raftlog` and `0000000000000001.rewrite`, and a file `LOCK`. It and
-/// the folder itself are locked for as long as this value lives. Other names are left alone.
+/// The files of both queues in a folder, as `0000000000000001.raftlog` and `0000000000000001.rewrite`, and a file `LOCK`. That
+/// file and the folder itself are locked as long as this value lives. Files with other names are left alone.
 ///
-/// What an opened engine cuts off a file is kept first, in a file beside it whose name says where it stood:
-/// `0000000000000001.raftlog.4096.cut`, and `0000000000000001.raftlog.4096.2.cut` where something else was cut there before. None
-/// is ever read or deleted: look at them where a batch is missed, and delete them when you like.
+/// What an opening cuts off a file is first kept in a file beside, whose name says the offset:
+/// `0000000000000001.raftlog.4096.cut`, or `0000000000000001.raftlog.4096.2.cut` where other bytes were cut off there before. No
+/// engine reads or deletes these: look at them where a batch is missing, and delete them when you like.
 ///
-/// Where a name is made or deleted the folder is synced at once, and a file without new bytes isn't synced again. A write that
-/// finds no room leaves no byte behind, if the system allows that, and may be made again. After any other `Err` of a call that
-/// changes something every later one fails: what the disk has is found when the folder is opened again.
+/// The folder is synced as soon as a name in it is made or deleted. A file without new bytes isn't synced again. A write that
+/// finds no room leaves no byte in the file, if the system allows that, and may be repeated. After any other `Err` of a call that
+/// changes something every later such call fails: open the folder again to find what the disk has.
 ///
 /// ```
 /// use raft_recover::{ErrorKind, Files, FolderFiles, Queue};
@@ -46,29 +46,30 @@ use writing::{Unmade, lacks_room, write_all_or_nothing};
 /// ```
 pub struct FolderFiles {
     path: PathBuf,
-    /// The folder itself, which is synced where a name in it is made or deleted.
+    /// The open folder with its locks; it is synced where a name in it is made or deleted.
     locked: LockedFolder,
-    /// All log files, open.
+    /// All log files, open, by their ids.
     files: RwLock<BTreeMap<FileId, Arc<File>>>,
-    /// Those whose names were deleted, still open: a file's room is given back once it is closed, which may take long.
+    /// Files whose names were deleted, still open: the system gives back the room of a file once it is closed, which may take
+    /// long.
     deleted: Mutex<Vec<Arc<File>>>,
-    /// One change at a time has it.
+    /// What was changed. A change holds this lock until it is made.
     changes: Mutex<Changes>,
 }
 
-/// What was changed.
+/// Which files aren't synced, and whether changes are refused.
 #[derive(Default)]
 struct Changes {
-    /// Why none is made any more, if none is.
+    /// Why every further change is refused; `None` as long as changes are made.
     refused: Option<&'static str>,
     /// The files with bytes that aren't synced.
     unsynced: BTreeSet<FileId>,
 }
 
 impl FolderFiles {
-    /// Opens a folder with all log files in it. One that isn't there yet is made, in a folder that is. A link is followed once: the
-    /// folder has its real path from then on, wherever the link leads to later. It is locked before anything in it is read or
-    /// made. The files, their names and that of the folder are on the disk then.
+    /// Opens a folder with all log files in it. A folder that isn't there is made, if its parent folder is. Where the path is a
+    /// link, the folder is the one to which it leads now, wherever it leads later. The folder is locked before anything in it is
+    /// read or made. All log files, their names and that of the folder are synced.
     ///
     /// ```
     /// # use raft_recover::FolderFiles;
@@ -81,8 +82,8 @@ impl FolderFiles {
     ///
     /// # Errors
     ///
-    /// `TryAgain` where another engine has the folder open; `InvalidArgument` where a name ends like that of a log file and is
-    /// none, or is that of a folder, for example; `Io`.
+    /// `TryAgain` where another engine has the folder open; `InvalidArgument` where a name ends as those of log files do, but
+    /// isn't one, or is that of something else than a file; `Io`.
     pub fn open(path: impl AsRef<Path>) -> Result<FolderFiles> {
         let path = path.as_ref();
         let about = |e| Error::system(path.display(), e);
@@ -92,7 +93,7 @@ impl FolderFiles {
         }
         let path = fs::canonicalize(path).map_err(about)?;
         let locked = LockedFolder::lock_exclusive(&path)?;
-        let files = open_log_files(&path, open_synced)?;
+        let files = open_log_files(&path, open_and_sync)?;
         locked.folder.sync_all().map_err(about)?;
         let parent = File::open(path.join("..")).map_err(about)?;
         parent.sync_all().map_err(about)?;
@@ -105,9 +106,9 @@ impl FolderFiles {
         })
     }
 
-    /// Opens a folder with all log files in it to be read: every change of them is refused, and nothing is made or synced. So it
-    /// may be one that can only be read. It gets a shared lock, and so does the file `LOCK`, if it is there: others may read it at
-    /// the same time, but no engine writes to it, which would move and delete what is read, or cut it.
+    /// Opens a folder with all log files in it for reading only. Every change is refused. Nothing is made or synced, so one
+    /// without the right to write there is enough. The folder, and the file `LOCK`, if it is there, get a shared lock: others may
+    /// read at the same time, but no engine can change, move or delete what is read.
     ///
     /// ```
     /// # use raft_recover::{FileId, Files, FolderFiles, Queue};
@@ -123,8 +124,8 @@ impl FolderFiles {
     ///
     /// # Errors
     ///
-    /// `TryAgain` where an engine has the folder open that writes; `InvalidArgument` where a name ends like that of a log file and
-    /// is none, or is that of a folder, for example; `Io`, where there is no folder too.
+    /// `TryAgain` where an engine has the folder open that writes; `InvalidArgument` where a name ends as those of log files do,
+    /// but isn't one, or is that of something else than a file; `Io`, also where there is no folder.
     pub fn open_read_only(path: impl AsRef<Path>) -> Result<FolderFiles> {
         let path = path.as_ref();
         let path = fs::canonicalize(path).map_err(|e| Error::system(path.display(), e))?;
@@ -143,7 +144,7 @@ impl FolderFiles {
         })
     }
 
-    /// Returns the real path of the folder.
+    /// Returns the real path of the folder: absolute, and without links.
     ///
     /// ```
     /// # use raft_recover::FolderFiles;
@@ -170,44 +171,45 @@ impl FolderFiles {
     /// ```
     #[must_use]
     pub fn path_of(&self, file: FileId) -> PathBuf {
-        self.path.join(name_of(file))
+        self.path.join(log_file_name(file))
     }
 
-    /// Returns a log file, which is open.
+    /// Returns the open log file with an id.
     ///
     /// # Errors
     ///
-    /// `NotFound` where the folder had no such file, or it was deleted.
+    /// `NotFound` where the folder has no such file, or it was deleted.
     fn open_file(&self, id: FileId) -> io::Result<Arc<File>> {
         let files = locks::lock_to_read(&self.files);
         let file = files.get(&id).cloned();
         file.ok_or_else(|| io::Error::new(io::ErrorKind::NotFound, "the file isn't there"))
     }
 
-    /// Syncs the files of a queue that have new bytes, and takes them out of `unsynced`. Names were
-    /// synced when they were made.
+    /// Syncs the files of a queue that are in `unsynced`, and takes each out of there. Their names were synced when they were
+    /// made.
     ///
     /// # Errors
     ///
-    /// Those of the system. The files that are left in `unsynced` may not be synced.
-    fn sync_new(&self, queue: Queue, unsynced: &mut BTreeSet<FileId>) -> io::Result<()> {
-        while let Some(file) = unsynced.range(files_of(queue)).next().copied() {
+    /// Those of the system. The files that are still in `unsynced` may not be synced.
+    fn sync_unsynced(&self, queue: Queue, unsynced: &mut BTreeSet<FileId>) -> io::Result<()> {
+        while let Some(file) = unsynced.range(ids_of_queue(queue)).next().copied() {
             self.open_file(file)?.sync_data()?;
             unsynced.remove(&file);
         }
         Ok(())
     }
 
-    /// Makes one change under the lock of changes. `change` gets the set of files with bytes that aren't synced, to bring it up
-    /// to date. Until it returns `Ok` or `AsBefore`, the change counts as half done, also if it panics.
+    /// Makes one change of the files, under the lock of changes. `change` makes it; it gets the set of files with bytes that
+    /// aren't synced, to bring it up to date. As long as `change` hasn't returned `Ok` or `AsBefore`, the change counts as half
+    /// made, also where it panics.
     ///
     /// # Errors
     ///
-    /// Those of `change`. After one that may have left it half done (`InPart`), and in a folder that is open for reading alone,
-    /// every change is refused.
-    fn change(
+    /// Those of `change`. After one that may have left the change half made (`InPart`), and in a folder that is open to be read
+    /// alone, every change is refused.
+    fn make_change(
         &self,
-        change: impl FnOnce(&mut BTreeSet<FileId>) -> std::result::Result<(), Unmade>,
+        change: impl FnOnce(&mut BTreeSet<FileId>) -> std::result::Result<(), ChangeError>,
     ) -> io::Result<()> {
         let mut changes = locks::lock(&self.changes);
         if let Some(why) = changes.refused {
@@ -216,8 +218,8 @@ impl FolderFiles {
         changes.refused = Some("an earlier change failed");
         let result = match change(&mut changes.unsynced) {
             Ok(()) => Ok(()),
-            Err(Unmade::AsBefore(e)) => Err(e),
-            Err(Unmade::InPart(e)) => return Err(e),
+            Err(ChangeError::AsBefore(e)) => Err(e),
+            Err(ChangeError::InPart(e)) => return Err(e),
         };
         changes.refused = None;
         result
@@ -227,32 +229,32 @@ impl FolderFiles {
 impl Files for FolderFiles {
     fn list(&self, queue: Queue) -> io::Result<Vec<(u64, u64)>> {
         let files = locks::lock_to_read(&self.files);
-        let of_queue = files.range(files_of(queue));
+        let of_queue = files.range(ids_of_queue(queue));
         of_queue
             .map(|(id, file)| Ok((id.seq, file.metadata()?.len())))
             .collect()
     }
 
     fn write(&self, file: FileId, bytes: &[u8]) -> io::Result<()> {
-        self.change(|unsynced| {
+        self.make_change(|unsynced| {
             unsynced.insert(file);
             write_all_or_nothing(self.open_file(file)?.as_ref(), bytes)
         })
     }
 
     fn sync(&self, queue: Queue) -> io::Result<()> {
-        self.change(|unsynced| Ok(self.sync_new(queue, unsynced)?))
+        self.make_change(|unsynced| Ok(self.sync_unsynced(queue, unsynced)?))
     }
 
     fn rotate(&self, file: FileId) -> io::Result<()> {
         self.free_deleted(); // none is left, but where this is wrapped in files that don't hand the call on
-        self.change(|unsynced| {
-            self.sync_new(file.queue, unsynced)?;
+        self.make_change(|unsynced| {
+            self.sync_unsynced(file.queue, unsynced)?;
             let mut how = OpenOptions::new();
             how.create_new(true).read(true).append(true);
             let opened = how.open(self.path_of(file)).map_err(|e| {
-                if lacks_room(&e) {
-                    return Unmade::AsBefore(e);
+                if is_out_of_room(&e) {
+                    return ChangeError::AsBefore(e);
                 }
                 e.into()
             })?;
@@ -263,7 +265,7 @@ impl Files for FolderFiles {
     }
 
     fn delete(&self, file: FileId) -> io::Result<()> {
-        self.change(|unsynced| {
+        self.make_change(|unsynced| {
             unsynced.remove(&file);
             let opened = locks::lock_to_change(&self.files).remove(&file);
             locks::lock(&self.deleted).extend(opened);
@@ -273,7 +275,7 @@ impl Files for FolderFiles {
     }
 
     fn truncate(&self, file: FileId, len: u64) -> io::Result<()> {
-        self.change(|unsynced| {
+        self.make_change(|unsynced| {
             let opened = self.open_file(file)?;
             let old = opened.metadata()?.len();
             if len < old {
@@ -304,7 +306,7 @@ impl Files for FolderFiles {
 }
 
 impl fmt::Debug for FolderFiles {
-    /// Shows the folder.
+    /// Shows the path of the folder.
     fn fmt(&self, f: &mut fmt::Formatter<'_>) -> fmt::Result {
         f.debug_struct("FolderFiles")
             .field("path", &self.path)
@@ -312,11 +314,12 @@ impl fmt::Debug for FolderFiles {
     }
 }
 
-/// Opens all log files in a folder, each by the call `open`, which gets its path. Other names are passed over.
+/// Opens all log files in a folder, and returns them by their ids. `open` opens one, given its path. Other names are passed over.
 ///
 /// # Errors
 ///
-/// `InvalidArgument` for a name that ends like that of a log file and is none, or is that of a folder or a pipe; `Io`.
+/// `InvalidArgument` for a name that ends as those of log files do, but isn't one, or is that of something else than a file, such
+/// as a folder or a pipe; `Io`.
 fn open_log_files(
     folder: &Path,
     open: impl Fn(PathBuf) -> io::Result<File>,
@@ -325,7 +328,7 @@ fn open_log_files(
     let mut files = BTreeMap::new();
     for entry in fs::read_dir(folder).map_err(about)? {
         let entry = entry.map_err(about)?;
-        if let Some(id) = id_of(&entry.file_name().to_string_lossy())? {
+        if let Some(id) = parse_log_file_name(&entry.file_name().to_string_lossy())? {
             let path = entry.path();
             let about = |e| Error::system(path.display(), e);
             if !fs::metadata(&path).map_err(about)?.is_file() {
@@ -339,18 +342,18 @@ fn open_log_files(
     Ok(files)
 }
 
-/// Opens a log file to be read, and written behind its end, and syncs it.
+/// Opens a log file to be read, and to be written at its end, and syncs it.
 ///
 /// # Errors
 ///
 /// Those of the system.
-fn open_synced(path: PathBuf) -> io::Result<File> {
+fn open_and_sync(path: PathBuf) -> io::Result<File> {
     let file = OpenOptions::new().read(true).append(true).open(path)?;
     file.sync_all()?;
     Ok(file)
 }
 
-/// Returns the range of all files that a queue can have, from number 0 to 2^64 - 1.
-fn files_of(queue: Queue) -> std::ops::RangeInclusive<FileId> {
+/// Returns the range of all ids that files of a queue can have: the numbers 0 to 2^64 - 1.
+fn ids_of_queue(queue: Queue) -> std::ops::RangeInclusive<FileId> {
     FileId::new(queue, 0)..=FileId::new(queue, u64::MAX)
 }

@@ -1,4 +1,4 @@
-//! The files that are found when an engine is opened.
+//! Reads the files that are found when an engine is opened.
 
 use super::Recovered;
 use super::numbers::Numbers;
@@ -13,29 +13,32 @@ mod worker;
 
 use queue_reading::read_queue;
 
-/// The files of both queues, as they were read, and how long they are.
+/// The files of both queues that were found, read to their ends, or up to a batch that can't be read, with the length of each.
 pub(super) struct Found {
     append: ReadFiles,
     rewrite: ReadFiles,
     numbers: Numbers,
 }
 
-/// What an opening gives: the tables, the numbers of the files that were found, the orders that are to be carried out on the files,
-/// and what was found in them that an engine doesn't write.
+/// What an opening gives, before anything was done to the files.
 #[derive(Debug)]
 pub(super) struct Opened {
+    /// The tables.
     pub(super) tables: EngineHandle,
+    /// The lengths of the files as they were found.
     pub(super) numbers: Numbers,
+    /// What has to be done to the files before the tables are used: first files, and cuts.
     pub(super) orders: Vec<Order>,
+    /// What couldn't be read.
     pub(super) recovered: Recovered,
 }
 
 impl Found {
-    /// Lists and reads the files of both queues.
+    /// Lists the files of both queues, and reads them, those of the rewrite queue first.
     ///
     /// # Errors
     ///
-    /// `Io` where the files can't be listed; `Corruption` where one is missing between two others; those of [`read_queue()`].
+    /// `Io` where files can't be listed; `Corruption` where one is missing between two others; those of [`read_queue()`].
     pub(super) fn read(files: &impl Files, options: &Options) -> Result<Found> {
         let mut numbers = Numbers::default();
         let mut read = |queue| {
@@ -56,12 +59,13 @@ impl Found {
         })
     }
 
-    /// Opens an engine over them.
+    /// Opens the tables over the files, in the version and the mode of the options. Nothing is done to the files.
     ///
     /// # Errors
     ///
-    /// `Corruption` where the mode refuses the tail of a queue's last file, or that is of the other version, and where numbers of
-    /// files don't rise; `InvalidArgument` where the batches of an atomic group don't stand in a row in one file; `Full`, `Memory`.
+    /// `Corruption` where the mode doesn't allow to cut off the tail of a queue's last file, that file is of the other version,
+    /// or the numbers of files don't rise; `InvalidArgument` where the batches of an atomic group don't stand in a row in one
+    /// file; `Full`; `Memory`.
     pub(super) fn open(self, options: &Options) -> Result<Opened> {
         let (version, mode) = (options.version, options.recovery_mode);
         let (mut tables, recovered) = open_engine(self.append, self.rewrite, version, mode)?;
@@ -75,12 +79,13 @@ impl Found {
     }
 }
 
-/// Tests that each number between those of two neighboring files is that of one. Files are begun with the next number, and the
-/// oldest goes first, so a file that isn't there was taken away.
+/// Checks that no file is missing between two others. `listed` has the number and the length of each file of a queue, oldest
+/// first. Each new file gets the next number, and the oldest file is deleted first, so a gap means that somebody took a file
+/// away.
 ///
 /// # Errors
 ///
-/// `Corruption`, with the file that is missing.
+/// `Corruption`, with the first file that is missing.
 fn check_none_is_missing(queue: Queue, listed: &[(u64, u64)]) -> Result<()> {
     for pair in listed.windows(2) {
         let (before, after) = (pair[0].0, pair[1].0);

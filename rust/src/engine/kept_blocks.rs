@@ -1,38 +1,43 @@
-//! The blocks that were read last.
+//! Keeps the entry blocks that were read last.
 
 use super::locks;
 use crate::Block;
 use std::sync::{Arc, Mutex};
 
-/// How many bytes of blocks are kept at most.
+/// How many bytes the kept blocks have together at most: 8 MiB.
 const KEPT_BYTES: usize = 8 << 20;
 
 /// How many blocks are kept at most.
 const KEPT_BLOCKS: usize = 16;
 
-/// The entry bytes of blocks that were read, whose checksums were tested: of each reading the last one, since the next reading
-/// goes on there. What stands at a place never changes as long as an engine is open, so no block is kept too long.
+/// Entry blocks that were read, by their place: the entry bytes, whose checksum was tested. Of each reading it keeps the last
+/// block, since the next reading often goes on there. What stands at a place never changes while an engine is open, so no block
+/// gets stale.
 #[derive(Default)]
 pub(super) struct KeptBlocks(Mutex<Kept>);
 
+/// The kept blocks, in no order.
 #[derive(Default)]
 struct Kept {
     blocks: Vec<KeptBlock>,
-    /// How many bytes they have together.
+    /// How many bytes the blocks have together.
     len: usize,
-    /// How many readings there were.
+    /// How often a block was looked for or kept, as a clock.
     readings: u64,
 }
 
+/// A kept block.
 struct KeptBlock {
+    /// Its place.
     block: Block,
+    /// Its entry bytes.
     bytes: Arc<Vec<u8>>,
-    /// The number of the reading that had it last.
+    /// When it was read last, by that clock.
     reading: u64,
 }
 
 impl KeptBlocks {
-    /// Returns the entry bytes of a block, if they are kept. It then counts as the one that was read last.
+    /// Returns the entry bytes of a block; `None` where they aren't kept. The block then counts as the one that was read last.
     pub(super) fn get(&self, block: &Block) -> Option<Arc<Vec<u8>>> {
         let mut all = locks::lock(&self.0);
         all.readings += 1;
@@ -43,7 +48,8 @@ impl KeptBlocks {
         Some(kept.bytes.clone())
     }
 
-    /// Keeps the entry bytes of a block that was read, in place of those that were read longest ago, unless they are kept.
+    /// Keeps the entry bytes of a block, and drops the blocks that were read longest ago, as many as it takes to stay within the
+    /// bounds. It keeps nothing where the block is kept already, has more than 8 MiB, or there is no memory.
     pub(super) fn keep(&self, block: &Block, bytes: &Arc<Vec<u8>>) {
         let mut all = locks::lock(&self.0);
         let is_kept = all.blocks.iter().rev().any(|kept| kept.block == *block);
@@ -65,7 +71,7 @@ impl KeptBlocks {
 }
 
 impl Kept {
-    /// Lets go of the block that was read longest ago, if there is one.
+    /// Drops the block that was read longest ago, if there is one.
     fn drop_oldest(&mut self) {
         let by_age = self.blocks.iter().enumerate();
         if let Some((at, _)) = by_age.min_by_key(|(_, kept)| kept.reading) {

@@ -1,4 +1,4 @@
-//! What an engine did is told to a listener.
+//! Tells a listener what an engine did to its files.
 
 use super::{CutTail, Engine, locks};
 use crate::{FileId, Files, FolderFiles, Options, Queue, Result};
@@ -8,11 +8,11 @@ use std::path::Path;
 use std::sync::{Arc, Mutex};
 use std::time::Duration;
 
-/// Who is told what an engine did to its files. Each call does nothing where it isn't implemented.
+/// Gets a call for each thing that an engine did to its files. A call that isn't implemented does nothing.
 ///
-/// The calls come one at a time, in the order of what was done, once it was done, by whichever thread changes something just then.
-/// None of the engine's locks is held, so they may make calls of the engine, and who waits for one of these waits for no listener but
-/// its own thread's. A call that takes long holds back the thread that makes it, and the calls behind it.
+/// The calls come one at a time, once a thing is done, in the order in which things were done. They come on a thread that is just
+/// making a change. That thread holds none of the engine's locks, so they may call the engine. A call that takes long holds back
+/// its own thread and the calls that follow, but no other thread that writes or reads.
 ///
 /// ```
 /// use raft_recover::{Engine, FileId, Listener, LogBatch, MemoryFiles, Options};
@@ -44,7 +44,7 @@ use std::time::Duration;
 /// # Ok::<(), raft_recover::Error>(())
 /// ```
 pub trait Listener: Send + Sync {
-    /// Is told that a file was begun.
+    /// Is called after a file was begun.
     ///
     /// ```
     /// # use raft_recover::{FileId, Listener, Queue};
@@ -54,7 +54,7 @@ pub trait Listener: Send + Sync {
     /// ```
     fn on_begin(&self, _file: FileId) {}
 
-    /// Is told that all of a queue was synced, up to the end of this file, its last one, and how long that took.
+    /// Is called after a queue was synced, up to the end of `file`, its last one. `took` is how long that took.
     ///
     /// ```
     /// # use raft_recover::{FileId, Listener, Queue};
@@ -65,7 +65,7 @@ pub trait Listener: Send + Sync {
     /// ```
     fn on_sync(&self, _file: FileId, _took: Duration) {}
 
-    /// Is told that a file was deleted.
+    /// Is called after a file was deleted.
     ///
     /// ```
     /// # use raft_recover::{FileId, Listener, Queue};
@@ -75,7 +75,7 @@ pub trait Listener: Send + Sync {
     /// ```
     fn on_delete(&self, _file: FileId) {}
 
-    /// Is told how many records of a queue's files moved to the end of the rewrite queue.
+    /// Is called after records moved from the files of a queue to the end of the rewrite queue. `records` is how many.
     ///
     /// ```
     /// # use raft_recover::{Listener, Queue};
@@ -85,7 +85,7 @@ pub trait Listener: Send + Sync {
     /// ```
     fn on_move(&self, _from: Queue, _records: usize) {}
 
-    /// Is told what an opening cut off a queue's last file.
+    /// Is called after an opening has cut a torn tail off a queue's last file.
     ///
     /// ```
     /// # use raft_recover::{Engine, Listener, MemoryFiles, Options};
@@ -101,7 +101,7 @@ pub trait Listener: Send + Sync {
     fn on_cut(&self, _cut: &CutTail) {}
 }
 
-/// What a listener is told.
+/// One thing that was done, of which the listener is told by one call.
 #[derive(Debug)]
 pub(super) enum Event {
     Begun(FileId),
@@ -111,21 +111,23 @@ pub(super) enum Event {
     Cut(CutTail),
 }
 
-/// What was done and isn't told yet.
+/// The listener, if there is one, and the things that were done and that it isn't told of yet.
 #[derive(Default)]
 pub(super) struct Events {
     listener: Option<Arc<dyn Listener>>,
     line: Mutex<Line>,
 }
 
+/// The events that wait, and whether a thread is telling the listener of some.
 #[derive(Default)]
 struct Line {
+    /// The events that the listener isn't told of yet, oldest first.
     waiting: VecDeque<Event>,
-    /// Whether a thread tells the listener something.
+    /// Whether a thread is making a call of the listener.
     is_telling: bool,
 }
 
-/// The thread that tells a listener something. It stops also where the listener panics.
+/// The right of a thread to call the listener, until this is dropped, also where the listener panics.
 struct Telling<'a>(&'a Mutex<Line>);
 
 impl Drop for Telling<'_> {
@@ -135,22 +137,23 @@ impl Drop for Telling<'_> {
 }
 
 impl Events {
-    /// Makes the events that a listener, if there is one, is to be told. There are none yet.
-    pub(super) fn of(listener: Option<Arc<dyn Listener>>) -> Events {
+    /// Makes the events for a listener, if there is one. None waits yet.
+    pub(super) fn new(listener: Option<Arc<dyn Listener>>) -> Events {
         Events {
             listener,
             line: Mutex::default(),
         }
     }
 
-    /// Notes something that was done, to be told later; without a listener nothing is noted.
+    /// Adds an event that the listener is to be told of later. Without a listener it is dropped.
     pub(super) fn note(&self, event: Event) {
         if self.listener.is_some() {
             locks::lock(&self.line).waiting.push_back(event);
         }
     }
 
-    /// Tells the listener all that waits, unless another thread is telling it, which then tells this too.
+    /// Tells the listener of all events that wait. Where another thread is just doing so it returns at once, since that thread
+    /// goes on with these.
     fn tell_waiting(&self) {
         let Some(listener) = self.listener.as_deref() else {
             return;
@@ -166,8 +169,8 @@ impl Events {
         }
     }
 
-    /// Takes the event that is told next; `None` where none waits, or another thread is telling the listener one. As long as the
-    /// second value lives no other thread tells anything.
+    /// Takes the oldest event that waits, with the right to tell the listener of it; `None` where none waits, or another thread
+    /// has that right.
     fn take_next(&self) -> Option<(Event, Telling<'_>)> {
         let mut line = locks::lock(&self.line);
         if line.is_telling {
@@ -186,7 +189,8 @@ impl fmt::Debug for Events {
 }
 
 impl Engine {
-    /// Opens a folder, as [`Engine::open`] does, and tells a listener what is done to its files, by the opening and from then on.
+    /// Opens the engine in a folder, as [`Engine::open`] does, and tells a listener what is done to its files: by the opening,
+    /// and from then on.
     ///
     /// ```
     /// use raft_recover::{CutTail, Engine, Listener, Options};
@@ -219,7 +223,7 @@ impl Engine {
 }
 
 impl<F: Files> Engine<F> {
-    /// Opens an engine over files, as [`Engine::with_files`] does, and tells a listener what is done to them, by the opening and
+    /// Opens an engine over files, as [`Engine::with_files`] does, and tells a listener what is done to them: by the opening, and
     /// from then on.
     ///
     /// ```
@@ -253,11 +257,11 @@ impl<F: Files> Engine<F> {
         options: Options,
         listener: Arc<dyn Listener>,
     ) -> Result<Engine<F>> {
-        Engine::open_over(files, options, Some(listener))
+        Engine::open_files(files, options, Some(listener))
     }
 
-    /// Makes a call that may change something, and then tells the listener what was done, also
-    /// after a refusal.
+    /// Makes a call that may change something, tells the listener what was done, also where the call was refused, and returns
+    /// what the call returned.
     ///
     /// # Errors
     ///

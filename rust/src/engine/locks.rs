@@ -1,26 +1,25 @@
-//! Locks whose holder may have panicked. What they guard says itself whether it can be used.
+//! Takes locks, also those whose holder has panicked: what they guard says itself whether it can still be used.
 
 use std::sync::{
     Condvar, Mutex, MutexGuard, PoisonError, RwLock, RwLockReadGuard, RwLockWriteGuard,
 };
 
-/// Locks what a mutex guards, once no other thread has the lock. A thread that panicked with the lock left it
-/// usable.
+/// Locks a mutex, once no other thread has it locked.
 pub(super) fn lock<T>(mutex: &Mutex<T>) -> MutexGuard<'_, T> {
     mutex.lock().unwrap_or_else(PoisonError::into_inner)
 }
 
-/// Locks what is guarded to read it, once no thread has the lock to change it.
+/// Locks what is guarded to read it, once no thread has it locked to change it. Several may read it at a time.
 pub(super) fn lock_to_read<T>(lock: &RwLock<T>) -> RwLockReadGuard<'_, T> {
     lock.read().unwrap_or_else(PoisonError::into_inner)
 }
 
-/// Locks what is guarded to change it, once no other thread has the lock.
+/// Locks what is guarded to change it, once no other thread has it locked.
 pub(super) fn lock_to_change<T>(lock: &RwLock<T>) -> RwLockWriteGuard<'_, T> {
     lock.write().unwrap_or_else(PoisonError::into_inner)
 }
 
-/// Gives a lock away until a notification comes, and returns it, had again.
+/// Unlocks a mutex until a notification comes, and returns it locked again. It may also return without a notification.
 pub(super) fn wait<'a, T>(notified: &Condvar, guard: MutexGuard<'a, T>) -> MutexGuard<'a, T> {
     notified.wait(guard).unwrap_or_else(PoisonError::into_inner)
 }

@@ -15,7 +15,8 @@ pub use unsynced::Unsynced;
 
 use left::Left;
 
-/// The files of both queues in memory, for tests. What was asked of them is kept, so that tests can make every crash of it.
+/// The files of both queues in memory, for tests. They keep a list of all changes that were asked of them, the *asks*, so that a
+/// test can make what any crash would have left.
 ///
 /// A clone is another handle of the same files.
 ///
@@ -46,16 +47,19 @@ pub struct MemoryFiles {
     held: Arc<Mutex<Held>>,
 }
 
-/// Files, those that were found first, and all that was asked since then.
+/// The state of the files that all clones share. Arrays have the append queue first, then the rewrite queue.
 #[derive(Default)]
 struct Held {
+    /// The files before the first ask: the number and the bytes of each, oldest first.
     found: [Vec<(u64, Vec<u8>)>; 2],
+    /// The files now.
     files: [VecDeque<(u64, Vec<u8>)>; 2],
+    /// What was asked since then, oldest first.
     asks: Vec<Ask>,
 }
 
 impl MemoryFiles {
-    /// Makes files of which nothing was asked: there are none.
+    /// Makes files of two empty queues, of which nothing was asked.
     ///
     /// ```
     /// use raft_recover::{Files, MemoryFiles, Queue};
@@ -68,7 +72,8 @@ impl MemoryFiles {
         MemoryFiles::default()
     }
 
-    /// Makes files that are found when the machine starts: the number and the bytes of each, oldest first.
+    /// Makes files that are found when a machine starts: for each queue the number and the bytes of each file, oldest first.
+    /// Nothing was asked of them, and all of them are synced.
     ///
     /// ```
     /// use raft_recover::{Files, MemoryFiles, Queue};
@@ -92,7 +97,7 @@ impl MemoryFiles {
         }
     }
 
-    /// Returns the files of a queue: the number and the bytes of each, oldest first.
+    /// Returns a copy of the files of a queue as they are now: the number and the bytes of each, oldest first.
     ///
     /// ```
     /// # use raft_recover::{FileId, Files, MemoryFiles, Queue};
@@ -106,10 +111,10 @@ impl MemoryFiles {
     #[must_use]
     pub fn files(&self, queue: Queue) -> Vec<(u64, Vec<u8>)> {
         let held = locks::lock(&self.held);
-        held.files[position_of(queue)].iter().cloned().collect()
+        held.files[queue_position(queue)].iter().cloned().collect()
     }
 
-    /// Returns what was asked so far, oldest first. It is noted once it is done.
+    /// Returns a copy of the list of asks, oldest first. It has the changes that succeeded.
     ///
     /// ```
     /// # use raft_recover::{Ask, FileId, Files, MemoryFiles, Queue};
@@ -126,7 +131,7 @@ impl MemoryFiles {
         locks::lock(&self.held).asks.clone()
     }
 
-    /// Returns how much was asked so far.
+    /// Returns how many asks there are.
     ///
     /// ```
     /// # use raft_recover::{FileId, Files, MemoryFiles, Queue};
@@ -142,7 +147,7 @@ impl MemoryFiles {
         locks::lock(&self.held).asks.len()
     }
 
-    /// Returns how much of a queue isn't synced once the first `asks` of what was asked are done.
+    /// Returns how much of a queue isn't synced once the first `asks` asks are done.
     ///
     /// ```
     /// # use raft_recover::{FileId, Files, MemoryFiles, Queue, Unsynced};
@@ -163,8 +168,8 @@ impl MemoryFiles {
             .fold(Unsynced::default(), |unsynced, ask| unsynced.with_ask(ask))
     }
 
-    /// Returns the files that a crash leaves once the first `asks` of what was asked are done: of each queue what
-    /// was synced, and as much of what wasn't as `append` and `rewrite` say.
+    /// Returns the files that a crash leaves after the first `asks` asks: of each queue what was synced, and as much of the rest
+    /// as `append` and `rewrite` say. [`MemoryFiles::unsynced`] says how much that can be.
     ///
     /// ```
     /// # use raft_recover::{FileId, Files, MemoryFiles, Queue, Unsynced};
@@ -183,10 +188,10 @@ impl MemoryFiles {
     pub fn left(&self, asks: usize, append: Unsynced, rewrite: Unsynced) -> MemoryFiles {
         let held = locks::lock(&self.held);
         let left = |queue, stays| {
-            let mut queue_left = Left::of(&held.found[position_of(queue)]);
+            let mut queue_left = Left::from_found(&held.found[queue_position(queue)]);
             for ask in held.asks.iter().take(asks) {
                 if ask.queue() == queue {
-                    queue_left.take_ask(ask);
+                    queue_left.apply_ask(ask);
                 }
             }
             queue_left.files_after_crash(stays)
@@ -199,7 +204,7 @@ impl MemoryFiles {
 impl Files for MemoryFiles {
     fn list(&self, queue: Queue) -> io::Result<Vec<(u64, u64)>> {
         let held = locks::lock(&self.held);
-        let files = held.files[position_of(queue)].iter();
+        let files = held.files[queue_position(queue)].iter();
         Ok(files
             .map(|(seq, bytes)| (*seq, bytes.len() as u64))
             .collect())
@@ -219,7 +224,7 @@ impl Files for MemoryFiles {
 
     fn rotate(&self, file: FileId) -> io::Result<()> {
         let mut held = locks::lock(&self.held);
-        let files = &mut held.files[position_of(file.queue)];
+        let files = &mut held.files[queue_position(file.queue)];
         if files.back().is_some_and(|(last, _)| *last >= file.seq) {
             return refuse("a new file has a greater number than the last one");
         }
@@ -230,7 +235,7 @@ impl Files for MemoryFiles {
 
     fn delete(&self, file: FileId) -> io::Result<()> {
         let mut held = locks::lock(&self.held);
-        let files = &mut held.files[position_of(file.queue)];
+        let files = &mut held.files[queue_position(file.queue)];
         if files.len() < 2 || files[0].0 != file.seq {
             return refuse("the oldest file goes first, and the last one stays");
         }
@@ -248,7 +253,7 @@ impl Files for MemoryFiles {
 
     fn read(&self, file: FileId, offset: u64, bytes: &mut [u8]) -> io::Result<()> {
         let held = locks::lock(&self.held);
-        let mut files = held.files[position_of(file.queue)].iter();
+        let mut files = held.files[queue_position(file.queue)].iter();
         let Some((_, held)) = files.find(|(seq, _)| *seq == file.seq) else {
             return Err(io::ErrorKind::NotFound.into());
         };
@@ -260,13 +265,13 @@ impl Files for MemoryFiles {
 }
 
 impl Held {
-    /// Returns the bytes of a file, which is to be the last one of its queue.
+    /// Returns the bytes of a file, which has to be the last one of its queue.
     ///
     /// # Errors
     ///
-    /// `InvalidInput` for another file.
+    /// `InvalidInput` where it isn't.
     fn last_bytes(&mut self, file: FileId) -> io::Result<&mut Vec<u8>> {
-        match self.files[position_of(file.queue)].back_mut() {
+        match self.files[queue_position(file.queue)].back_mut() {
             Some((seq, bytes)) if *seq == file.seq => Ok(bytes),
             _ => refuse("the file isn't the last one of its queue"),
         }
@@ -274,7 +279,7 @@ impl Held {
 }
 
 impl fmt::Debug for MemoryFiles {
-    /// Shows how much was asked.
+    /// Shows how many asks there are.
     fn fmt(&self, f: &mut fmt::Formatter<'_>) -> fmt::Result {
         f.debug_struct("MemoryFiles")
             .field("asked", &self.asked())
@@ -282,20 +287,20 @@ impl fmt::Debug for MemoryFiles {
     }
 }
 
-/// Returns the position of a queue in what is kept of both.
-const fn position_of(queue: Queue) -> usize {
+/// Returns the position of a queue in an array of both.
+const fn queue_position(queue: Queue) -> usize {
     match queue {
         Queue::Append => 0,
         Queue::Rewrite => 1,
     }
 }
 
-/// Cuts bytes to a length, if they are more.
+/// Cuts bytes to `len`, if there are more.
 fn cut_bytes(bytes: &mut Vec<u8>, len: u64) {
     bytes.truncate(usize::try_from(len).unwrap_or(usize::MAX));
 }
 
-/// Returns the refusal of what no engine asks.
+/// Returns an error of kind `InvalidInput`, for a change that no engine asks. `why` names the rule.
 fn refuse<T>(why: &str) -> io::Result<T> {
     Err(io::Error::new(io::ErrorKind::InvalidInput, why))
 }

@@ -1,4 +1,4 @@
-//! Messages are read.
+//! Reads messages of a program's own: entries and values that are decoded.
 
 use super::{Engine, Entries};
 use crate::{Error, Files, Message, Result};
@@ -6,7 +6,7 @@ use std::fmt;
 use std::ops::RangeBounds;
 
 impl<F: Files> Engine<F> {
-    /// Returns the message that is the value of a region's key; `None` where the key has no value.
+    /// Returns the value of a region's key, decoded as a message; `None` where the key has no value.
     ///
     /// ```
     /// # use raft_recover::{Engine, ErrorKind, LogBatch, MemoryFiles, Options};
@@ -24,7 +24,7 @@ impl<F: Files> Engine<F> {
     ///
     /// # Errors
     ///
-    /// `Message` where the value isn't a message; those of [`Engine::get`].
+    /// `Message`, with the region, where the value can't be decoded; those of [`Engine::get`].
     pub fn get_message<M: Message>(&self, region: u64, key: &[u8]) -> Result<Option<M>> {
         let value = self.get(region, key)?;
         value
@@ -32,7 +32,7 @@ impl<F: Files> Engine<F> {
             .transpose()
     }
 
-    /// Returns the keys of a region in a range with the messages that are their values, in the order of the keys.
+    /// Returns the keys of a region that are in a range, each with its value decoded as a message, in the order of the keys.
     ///
     /// ```
     /// # use raft_recover::{Engine, LogBatch, MemoryFiles, Options};
@@ -48,7 +48,7 @@ impl<F: Files> Engine<F> {
     ///
     /// # Errors
     ///
-    /// `Message` where a value isn't a message; those of [`Engine::scan`].
+    /// `Message`, with the region, where a value can't be decoded; those of [`Engine::scan`].
     pub fn scan_messages<'a, M: Message>(
         &self,
         region: u64,
@@ -61,7 +61,7 @@ impl<F: Files> Engine<F> {
         messages.collect()
     }
 
-    /// Returns the message that is the entry of a region at an index; `None` where the region has no entry there.
+    /// Returns the entry of a region at an index, decoded as a message; `None` where the region has no entry there.
     ///
     /// ```
     /// # use raft_recover::{Engine, LogBatch, MemoryFiles, Options};
@@ -76,13 +76,14 @@ impl<F: Files> Engine<F> {
     ///
     /// # Errors
     ///
-    /// `Message` where the entry isn't a message; those of [`Engine::entry`].
+    /// `Message`, with the region and the index, where the entry can't be decoded; those of [`Engine::entry`].
     pub fn entry_of<M: Message>(&self, region: u64, index: u64) -> Result<Option<M>> {
         let message = self.entry_with(region, index, |bytes| decode_entry(region, index, bytes))?;
         message.transpose()
     }
 
-    /// Returns the messages that are the entries of a range of indexes.
+    /// Returns the entries of a range of a region's indexes, decoded as messages. A bound that is left out is that of the
+    /// region's entries.
     ///
     /// ```
     /// # use raft_recover::{Engine, LogBatch, MemoryFiles, Options};
@@ -96,7 +97,7 @@ impl<F: Files> Engine<F> {
     ///
     /// # Errors
     ///
-    /// `Message` where an entry isn't a message; those of [`Engine::entries`].
+    /// `Message`, with the region and the index, for the first entry that can't be decoded; those of [`Engine::entries`].
     pub fn entries_of<M: Message>(
         &self,
         region: u64,
@@ -105,7 +106,9 @@ impl<F: Files> Engine<F> {
         decode_entries(region, &self.entries(region, range)?)
     }
 
-    /// Returns the messages that are the entries of a range of indexes up to `max_size` encoded bytes in all, and one at least.
+    /// Returns the first entries of a range of a region's indexes, decoded as messages: as many as have at most `max_size`
+    /// encoded bytes together. The first one that has bytes is returned whatever its size. A bound that is left out is that of
+    /// the region's entries.
     ///
     /// ```
     /// # use raft_recover::{Engine, LogBatch, MemoryFiles, Options};
@@ -130,43 +133,43 @@ impl<F: Files> Engine<F> {
     }
 }
 
-/// Decodes entries as messages, in order.
+/// Decodes entries of `region` as messages, in order.
 ///
 /// # Errors
 ///
-/// `Message` for the first one that isn't a message's bytes, with region and index.
+/// `Message`, with the region and the index, for the first entry that can't be decoded.
 fn decode_entries<M: Message>(region: u64, entries: &Entries) -> Result<Vec<M>> {
     let entries = entries.iter();
     let messages = entries.map(|(index, bytes)| decode_entry(region, index, bytes));
     messages.collect()
 }
 
-/// Decodes a value as a message.
+/// Decodes the value of a region's key as a message. Region and key are for the error.
 ///
 /// # Errors
 ///
-/// `Message` where it isn't a message's bytes, with region and key.
+/// `Message` where it can't be decoded; the error has the region, and its text the key too.
 fn decode_value<M: Message>(region: u64, key: &[u8], value: &[u8]) -> Result<M> {
     let key = key.escape_ascii();
-    let message = decode_at(value, format_args!("region {region}, key {key}"));
+    let message = decode_with_place(value, format_args!("region {region}, key {key}"));
     message.map_err(|e| e.with_region(region, None))
 }
 
-/// Decodes the bytes of an entry as a message.
+/// Decodes the bytes of an entry as a message. Region and index are for the error.
 ///
 /// # Errors
 ///
-/// `Message` where they aren't a message's, with region and index.
+/// `Message`, with the region and the index, where they can't be decoded.
 fn decode_entry<M: Message>(region: u64, index: u64, bytes: &[u8]) -> Result<M> {
-    let message = decode_at(bytes, format_args!("region {region}, entry {index}"));
+    let message = decode_with_place(bytes, format_args!("region {region}, entry {index}"));
     message.map_err(|e| e.with_region(region, Some(index)))
 }
 
-/// Decodes bytes as a message. `place` says in words where they stand.
+/// Decodes bytes as a message. `place` says in words where the bytes are, for the error.
 ///
 /// # Errors
 ///
-/// `Message` with that place, where they aren't a message's.
-fn decode_at<M: Message>(bytes: &[u8], place: impl fmt::Display) -> Result<M> {
+/// `Message`, with that place in its text, where they can't be decoded.
+fn decode_with_place<M: Message>(bytes: &[u8], place: impl fmt::Display) -> Result<M> {
     M::decode(bytes).map_err(|e| Error::message(place, e))
 }

@@ -1,4 +1,4 @@
-//! Records move to the rewrite queue, and on to new files of it.
+//! Moves records to the rewrite queue, and on to new files of it.
 
 use super::entries::{read_block, read_entry_bytes};
 use super::orders::Turn;
@@ -7,23 +7,26 @@ use crate::sys::EngineHandle;
 use crate::{Block, Error, ErrorKind, Files, Queue, Result};
 use std::collections::VecDeque;
 
-/// How many bytes of blocks a rewriting lists at once, and those of one region at least.
+/// How many bytes of blocks [`Engine::rewrite`] lists at once: as many whole regions as it takes to reach them.
 const LISTED_AT_ONCE: usize = 1 << 20;
 
-/// How many bytes of blocks move in a turn, and one block at least.
+/// How many bytes of blocks move in a turn: as many blocks as it takes to reach them.
 const MOVED_AT_ONCE: usize = 1 << 18;
 
-/// How many bytes move before the rewrite queue is synced: whoever deletes files syncs it first, in one turn.
+/// How many bytes move before the rewrite queue is synced. A deletion of files syncs it first, in one turn, and so has less to
+/// sync.
 const SYNCED_AT_ONCE: usize = 1 << 20;
 
-/// The bytes of the blocks of one batch, if it has several: those that a step has at its end may be of a batch that goes on behind.
+/// About how many bytes the blocks have whose records move in one batch, if they are several. So the last blocks of a step, up to
+/// so many bytes, may be part of a batch that the next step completes.
 const OF_ONE_BATCH: usize = 8 << 10;
 
-/// Blocks that were read before the turn in which they move, in the order in which they are lent, unless they change meanwhile.
+/// Blocks with their bytes, read before the turn in which they move. They are in the order in which they will be lent, unless
+/// what moves has changed by then.
 type ReadBlocks = VecDeque<(Block, Vec<u8>)>;
 
 impl<F: Files> Engine<F> {
-    /// Begins a new file of the append queue. All that was written is synced then.
+    /// Syncs the last file of the append queue, and begins a new one.
     ///
     /// ```
     /// # use raft_recover::{Engine, LogBatch, MemoryFiles, Options};
@@ -39,14 +42,16 @@ impl<F: Files> Engine<F> {
     ///
     /// # Errors
     ///
-    /// `Full` where the last file has the greatest number, `Memory`. `Io`, `Failed`: the engine has failed.
+    /// `InvalidArgument` where the engine is open for reading only; `Full` where the last file has the greatest number; `Memory`.
+    /// Nothing has changed then. `Io`, `Failed`: the engine has failed, unless a folder has no room.
     pub fn rotate(&self) -> Result<()> {
-        self.check_changeable("rotate")?;
+        self.check_writable("rotate")?;
         self.tell_after(|| self.wait_for_turn()?.call(EngineHandle::rotate))
     }
 
-    /// Begins a new file of the append queue where the last one has as many bytes as the options say, or more. Where that is
-    /// refused a later write tries again, or finds that the engine has failed.
+    /// Begins a new file of the append queue, in the given turn, where the last one has reached
+    /// [`Options::target_file_size`](crate::Options::target_file_size). An error is dropped: a later write tries again, or finds
+    /// that the engine has failed.
     pub(super) fn rotate_if_due(&self, turn: &Turn<'_, F>) {
         let last = locks::lock(&self.numbers).last_file(Queue::Append);
         if last.is_some_and(|(_, len)| len > 0 && len >= self.options.target_file_size) {
@@ -54,8 +59,8 @@ impl<F: Files> Engine<F> {
         }
     }
 
-    /// Moves what the tables have in append files up to the one of number `gate` to the rewrite queue, so that
-    /// [`Engine::purge`] can delete these files. What is read stays the same.
+    /// Moves all records that the tables have in append files up to number `gate` to the rewrite queue, so that [`Engine::purge`]
+    /// can delete these files. What is read stays the same.
     ///
     /// ```
     /// # use raft_recover::{Engine, LogBatch, MemoryFiles, Options};
@@ -75,20 +80,21 @@ impl<F: Files> Engine<F> {
     ///
     /// # Errors
     ///
-    /// `Full` where an entry has 2^31 bytes or more; `Corruption` where bytes were damaged since they were written;
-    /// `InvalidArgument` where a key is that of the group markers; `Io` where they can't be read; `Memory`. Some records may have
-    /// moved then. `Io` of a change, `Failed`: the engine has failed.
+    /// - `InvalidArgument` where the engine is open for reading only, or a key is that of the group markers; `Full` where an
+    ///   entry has 2^31 bytes or more; `Corruption` where bytes were damaged since they were written; `Io` where they can't be
+    ///   read; `Memory`. Some records may have moved then.
+    /// - `Io` of a change of the files, and `Failed`: the engine has failed, unless a folder has no room.
     pub fn rewrite(&self, gate: u64) -> Result<()> {
-        self.check_changeable("rewrite")?;
+        self.check_writable("rewrite")?;
         self.tell_after(|| self.rewrite_up_to(gate))
     }
 
-    /// Does what [`Engine::rewrite`] does, step by step, each in a turn of its own. Where the steps moved nothing of what was
-    /// listed, all of that moves at once: one batch may need more blocks than a step has.
+    /// Does what [`Engine::rewrite`] does, in steps of a turn each. Where the steps moved nothing of the blocks that were listed,
+    /// these move in one turn: a single batch may need more blocks than a step has.
     ///
     /// # Errors
     ///
-    /// Those of [`Engine::rewrite`]. Some records may then have moved.
+    /// Those of [`Engine::rewrite`]. Some records may have moved then.
     fn rewrite_up_to(&self, gate: u64) -> Result<()> {
         let last = locks::lock(&self.numbers).last_file(Queue::Append);
         let gate = last.map_or(gate, |(file, _)| gate.min(file.seq));
@@ -98,7 +104,7 @@ impl<F: Files> Engine<F> {
                 .lock_tables()
                 .moving_blocks(Some(gate), LISTED_AT_ONCE)?;
             let is_over = if listed == before {
-                self.rewrite_listed(gate)?
+                self.rewrite_in_one_turn(gate)?
             } else {
                 self.rewrite_in_steps(gate, &listed)?
             };
@@ -109,17 +115,17 @@ impl<F: Files> Engine<F> {
         }
     }
 
-    /// Moves what is in the first blocks that are to move up to the file `gate`, as many as are listed at once, in one turn. Returns
-    /// whether nothing is left to move.
+    /// Moves in one turn what is in the first blocks that are to move, as many as are listed at once. Append files up to `gate`
+    /// move. Returns whether nothing is left to move.
     ///
     /// # Errors
     ///
-    /// Those of [`Engine::rewrite`]. Some records may then have moved.
-    fn rewrite_listed(&self, gate: u64) -> Result<bool> {
-        let read = self.read_ahead(Some(gate), LISTED_AT_ONCE)?;
+    /// Those of [`Engine::rewrite`]; `TryAgain` where even so many blocks don't suffice. Some records may have moved then.
+    fn rewrite_in_one_turn(&self, gate: u64) -> Result<bool> {
+        let read = self.read_blocks_ahead(Some(gate), LISTED_AT_ONCE)?;
         let turn = self.wait_for_turn()?;
-        let lent = self.lend(Some(gate), LISTED_AT_ONCE, read)?;
-        match self.count_moves(&turn, Queue::Append, |tables| tables.rewrite(gate)) {
+        let lent = self.lend_blocks(Some(gate), LISTED_AT_ONCE, read)?;
+        match self.note_moves(&turn, Queue::Append, |tables| tables.rewrite(gate)) {
             Ok(()) => Ok(true),
             Err(e) if e.kind == ErrorKind::TryAgain => {
                 let left = self
@@ -127,59 +133,59 @@ impl<F: Files> Engine<F> {
                     .moving_blocks(Some(gate), LISTED_AT_ONCE)?;
                 if left == lent { Err(e) } else { Ok(false) }
             }
-            Err(e) => Err(self.with_damaged_block(e, &lent)),
+            Err(e) => Err(self.name_damaged_block(e, &lent)),
         }
     }
 
-    /// Moves what is in `blocks` and in append files up to `gate`, some of them in each turn, as far as they can be read. Returns
-    /// whether nothing is left to move up to `gate`.
+    /// Moves what is in `blocks` and in append files up to `gate`, some blocks in each turn, and ends at a block that can't be
+    /// read. Returns whether nothing is left to move up to `gate`.
     ///
     /// # Errors
     ///
-    /// Those of [`Engine::rewrite`]. Some records may then have moved.
+    /// Those of [`Engine::rewrite`], but for `Io` of a block that can't be read. Some records may have moved then.
     fn rewrite_in_steps(&self, gate: u64, blocks: &[Block]) -> Result<bool> {
         let mut unsynced = 0;
         let mut rest = blocks;
         while !rest.is_empty() {
-            let step = prefix_of(rest, MOVED_AT_ONCE);
+            let step = first_blocks(rest, MOVED_AT_ONCE);
             let Ok(read) = self.read_blocks(step) else {
                 return Ok(false);
             };
-            if self.rewrite_lent(gate, &read)? {
+            if self.rewrite_blocks(gate, &read)? {
                 return Ok(true);
             }
-            unsynced += bytes_of(step);
+            unsynced += total_len(step);
             if unsynced >= SYNCED_AT_ONCE {
                 self.wait_for_turn()?.sync_now(Queue::Rewrite)?;
                 unsynced = 0;
             }
-            rest = rest_behind(rest, step.len());
+            rest = blocks_of_next_step(rest, step.len());
         }
         Ok(false)
     }
 
-    /// Moves what is in the blocks of `read`, which have these bytes, and in append files up to `gate`, in one turn. Returns whether
-    /// nothing is left to move up to `gate`.
+    /// Moves in one turn what is in the blocks of `read`, given with their bytes, and in append files up to `gate`. Returns
+    /// whether nothing is left to move up to `gate`.
     ///
     /// # Errors
     ///
-    /// Those of [`Engine::rewrite`]. Some records may then have moved.
-    fn rewrite_lent(&self, gate: u64, read: &[(Block, Vec<u8>)]) -> Result<bool> {
+    /// Those of [`Engine::rewrite`]. Some records may have moved then.
+    fn rewrite_blocks(&self, gate: u64, read: &[(Block, Vec<u8>)]) -> Result<bool> {
         let turn = self.wait_for_turn()?;
         for (block, bytes) in read {
             self.lock_tables().lend(*block, bytes)?;
         }
-        match self.count_moves(&turn, Queue::Append, |tables| tables.rewrite(gate)) {
+        match self.note_moves(&turn, Queue::Append, |tables| tables.rewrite(gate)) {
             Ok(()) => Ok(true),
             Err(e) if e.kind == ErrorKind::TryAgain => Ok(false),
             Err(e) => {
                 let lent: Vec<_> = read.iter().map(|(block, _)| *block).collect();
-                Err(self.with_damaged_block(e, &lent))
+                Err(self.name_damaged_block(e, &lent))
             }
         }
     }
 
-    /// Reads the bytes of blocks, and returns each block with its own.
+    /// Reads the bytes of blocks, and returns each block with its bytes, in the same order.
     ///
     /// # Errors
     ///
@@ -189,9 +195,9 @@ impl<F: Files> Engine<F> {
         blocks.iter().map(read).collect()
     }
 
-    /// Moves what the tables have in rewrite files to a new one of them, so that [`Engine::purge`] can delete the older ones.
-    /// What is read stays the same. It pays where much of what these files have was compacted since, and holds what is left in
-    /// memory.
+    /// Moves all records that the tables have in rewrite files to new ones, so that [`Engine::purge`] can delete the older ones.
+    /// What is read stays the same. It pays where much of what these files have was compacted since. The records that move are in
+    /// memory meanwhile, and all of them move in one turn.
     ///
     /// ```
     /// # use raft_recover::{Engine, LogBatch, MemoryFiles, Options};
@@ -211,24 +217,24 @@ impl<F: Files> Engine<F> {
     ///
     /// # Errors
     ///
-    /// Those of [`Engine::rewrite`]; but a region whose entries fit no batch moves in several.
+    /// Those of [`Engine::rewrite`]; but the entries of a region that don't fit one batch are written in several.
     pub fn rewrite_again(&self) -> Result<()> {
-        self.check_changeable("rewrite_again")?;
+        self.check_writable("rewrite_again")?;
         self.tell_after(|| {
-            let read = self.read_ahead(None, usize::MAX)?;
+            let read = self.read_blocks_ahead(None, usize::MAX)?;
             let turn = self.wait_for_turn()?;
-            let lent = self.lend(None, usize::MAX, read)?;
-            self.count_moves(&turn, Queue::Rewrite, EngineHandle::rewrite_again)
-                .map_err(|e| self.with_damaged_block(e, &lent))
+            let lent = self.lend_blocks(None, usize::MAX, read)?;
+            self.note_moves(&turn, Queue::Rewrite, EngineHandle::rewrite_again)
+                .map_err(|e| self.name_damaged_block(e, &lent))
         })
     }
 
-    /// Makes a call that moves records of the queue `from`, and notes how many moved, for the listener.
+    /// Makes a call that moves records of the queue `from`, and notes for the listener how many moved.
     ///
     /// # Errors
     ///
     /// Those of the call.
-    fn count_moves(
+    fn note_moves(
         &self,
         turn: &Turn<'_, F>,
         from: Queue,
@@ -251,13 +257,13 @@ impl<F: Files> Engine<F> {
         result
     }
 
-    /// Reads the blocks that [`Engine::lend`] is to lend for the same `gate` and `max_size`, while others may write. A block that
-    /// can't be read now is left to it.
+    /// Reads the blocks that [`Engine::lend_blocks`] will lend for the same `gate` and `max_size`, while other threads may
+    /// write. A block that can't be read is left out.
     ///
     /// # Errors
     ///
-    /// `Memory`.
-    fn read_ahead(&self, gate: Option<u64>, max_size: usize) -> Result<ReadBlocks> {
+    /// `Memory`, for the list of the blocks.
+    fn read_blocks_ahead(&self, gate: Option<u64>, max_size: usize) -> Result<ReadBlocks> {
         let blocks = self.lock_tables().moving_blocks(gate, max_size)?;
         let read = blocks
             .into_iter()
@@ -265,13 +271,19 @@ impl<F: Files> Engine<F> {
         Ok(read.collect())
     }
 
-    /// Lends the tables the blocks that the next rewriting reads, up to the file `gate`, or without a gate that of rewritten records:
-    /// those of whole regions, until they have `max_size` bytes. Returns these blocks. Those that `read` doesn't have are read.
+    /// Lends to the tables the blocks that their next call to move records reads, and returns these blocks. With a `gate` they
+    /// are those of append files up to its number, and without one those of the rewrite files: of whole regions, until they have
+    /// `max_size` bytes. Blocks that aren't in `read` are read now.
     ///
     /// # Errors
     ///
-    /// Those of [`Engine::rewrite`]. Some blocks may then be lent.
-    fn lend(&self, gate: Option<u64>, max_size: usize, mut read: ReadBlocks) -> Result<Vec<Block>> {
+    /// `Io` where a block can't be read, with its file and offset; `Memory`. Some blocks may be lent then.
+    fn lend_blocks(
+        &self,
+        gate: Option<u64>,
+        max_size: usize,
+        mut read: ReadBlocks,
+    ) -> Result<Vec<Block>> {
         let blocks = self.lock_tables().moving_blocks(gate, max_size)?;
         for block in &blocks {
             let at = read.iter().position(|(of, _)| of == block);
@@ -284,9 +296,9 @@ impl<F: Files> Engine<F> {
         Ok(blocks)
     }
 
-    /// Returns a refusal with the place of the block, among those that were lent, which is damaged, if that is its reason; else as it
-    /// is.
-    fn with_damaged_block(&self, refused: Error, lent: &[Block]) -> Error {
+    /// Returns an error of a call that moved records. If it is `Corruption` without a place, the blocks in `lent` are read again,
+    /// and the error of the first damaged one is returned instead, which has its file and offset.
+    fn name_damaged_block(&self, refused: Error, lent: &[Block]) -> Error {
         if refused.kind != ErrorKind::Corruption || refused.file.is_some() {
             return refused;
         }
@@ -297,13 +309,13 @@ impl<F: Files> Engine<F> {
     }
 }
 
-/// Returns how many bytes blocks have together.
-fn bytes_of(blocks: &[Block]) -> usize {
+/// Returns how many bytes the blocks have together.
+fn total_len(blocks: &[Block]) -> usize {
     blocks.iter().map(|block| block.len).sum()
 }
 
-/// Returns the first blocks, up to the one with which they have `max_size` bytes or more.
-fn prefix_of(blocks: &[Block], max_size: usize) -> &[Block] {
+/// Returns the first blocks, as many as it takes to reach `max_size` bytes; all of them, if they have fewer.
+fn first_blocks(blocks: &[Block], max_size: usize) -> &[Block] {
     let mut size = 0;
     let is_within = |block: &Block| {
         let is_within = size < max_size;
@@ -314,9 +326,10 @@ fn prefix_of(blocks: &[Block], max_size: usize) -> &[Block] {
     &blocks[..count]
 }
 
-/// Returns the blocks behind the first `count`, and in front of them those of the first ones which may be of a batch that goes on
-/// behind.
-fn rest_behind(blocks: &[Block], count: usize) -> &[Block] {
+/// Returns the blocks from position `count` on, and before them the last ones of the first `count` again that may be part of a
+/// batch which these complete: up to [`OF_ONE_BATCH`] bytes, but never the very first block. None if there are no blocks from
+/// `count` on.
+fn blocks_of_next_step(blocks: &[Block], count: usize) -> &[Block] {
     if count == blocks.len() {
         return &[];
     }

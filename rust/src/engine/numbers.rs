@@ -1,25 +1,29 @@
-//! How much there is of the files, and what was done with them.
+//! Lengths of the files, and counts of what was done to them.
 
 use super::QueueStats;
 use crate::{FileId, Queue};
 use std::collections::VecDeque;
 use std::time::Duration;
 
-/// The files of both queues by their orders, and what was done with them.
+/// The lengths of the files of both queues, and counts of what was done to them since they were opened. An order changes a length
+/// once it is carried out.
 #[derive(Debug, Default)]
 pub(super) struct Numbers {
-    /// The numbers of each queue's files, oldest first, and how many bytes each has.
+    /// For each queue the number and the length in bytes of each file, oldest first.
     lens: [VecDeque<(u64, u64)>; 2],
-    /// How many bytes of the rewrite queue are needed: as many as it had when its records moved last, or as a purge counted
-    /// before they did.
+    /// How many bytes of the rewrite queue are taken to be needed: as many as it had when its records moved last, or, until they
+    /// do, as many as a purge has counted; `None` before.
     pub(super) needed_rewritten: Option<u64>,
+    /// How many batches with items were written.
     pub(super) batches: u64,
+    /// How many syncs were made.
     pub(super) syncs: u64,
+    /// How long they took together.
     pub(super) sync_time: Duration,
 }
 
 impl Numbers {
-    /// Notes that a file has `len` bytes. A file that isn't known yet is added.
+    /// Sets the length of a file to `len` bytes. A file that isn't known yet is added.
     pub(super) fn set_len(&mut self, file: FileId, len: u64) {
         let lens = &mut self.lens[file.queue as usize];
         match lens.binary_search_by_key(&file.seq, |(seq, _)| *seq) {
@@ -28,25 +32,25 @@ impl Numbers {
         }
     }
 
-    /// Notes that the last file of a queue, if there is one, was cut to `len` bytes, if it had more.
+    /// Notes that the last file of a queue was cut to `len` bytes. Nothing changes if it has no more, or the queue has no file.
     pub(super) fn note_cut(&mut self, queue: Queue, len: u64) {
         if let Some((file, old)) = self.last_file(queue) {
             self.set_len(file, len.min(old));
         }
     }
 
-    /// Forgets a file, which was deleted.
-    pub(super) fn forget(&mut self, file: FileId) {
+    /// Removes a file, which was deleted.
+    pub(super) fn forget_file(&mut self, file: FileId) {
         self.lens[file.queue as usize].retain(|(seq, _)| *seq != file.seq);
     }
 
-    /// Returns the files of a queue with their lengths in bytes, oldest first.
+    /// Returns the files of a queue, oldest first, each with its length in bytes.
     pub(super) fn files(&self, queue: Queue) -> impl DoubleEndedIterator<Item = (FileId, u64)> {
         let lens = self.lens[queue as usize].iter();
         lens.map(move |(seq, len)| (FileId::new(queue, *seq), *len))
     }
 
-    /// Returns the last file of a queue, and its length in bytes; `None` without a file.
+    /// Returns the last file of a queue, with its length in bytes; `None` where the queue has no file.
     pub(super) fn last_file(&self, queue: Queue) -> Option<(FileId, u64)> {
         self.files(queue).next_back()
     }
@@ -56,7 +60,7 @@ impl Numbers {
         self.files(queue).map(|(_, len)| len).sum()
     }
 
-    /// Returns the numbers of a queue in which `records` records are live.
+    /// Returns the statistics of a queue. `records` is how many live records the tables have there, which isn't known here.
     pub(super) fn stats_of(&self, queue: Queue, records: usize) -> QueueStats {
         QueueStats {
             first_file: self.files(queue).next().map_or(0, |(file, _)| file.seq),

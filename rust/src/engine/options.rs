@@ -1,11 +1,11 @@
-//! How an engine is opened, and when it begins and clears files.
+//! Options of an engine: how it is opened, and when it begins and deletes files.
 
 use super::RecoveryMode;
 use crate::Version;
 use std::num::NonZero;
 use std::thread;
 
-/// How an engine is opened, and when it begins new files and clears old ones.
+/// Options of an engine: how its files are read when it is opened, and when it begins new files and deletes old ones.
 ///
 /// ```
 /// use raft_recover::{Options, Version};
@@ -18,23 +18,26 @@ use std::thread;
 #[non_exhaustive]
 #[must_use]
 pub struct Options {
-    /// The format of the files. Those of the other one are refused.
+    /// The format of the files. Files of the other format are refused.
     pub version: Version,
     /// What an opening does where a queue's last file can't be read to its end.
     pub recovery_mode: RecoveryMode,
-    /// On how many threads the files are read when they are opened, the caller's with them. 0 are 1.
+    /// How many threads read the files when they are opened, the caller's included. 0 counts as 1.
     pub recovery_threads: usize,
-    /// How many bytes the last append file has at least when it is closed, by the write that reaches them, and a new one is begun.
+    /// The length in bytes at which the last append file is closed, and a new one is begun. A write that reaches it does so once
+    /// the batch is written, so files get longer than this.
     pub target_file_size: u64,
-    /// Where the files of a queue have more bytes than this, `Engine::purge` moves what it needs to let old ones go.
+    /// If the files of a queue have more bytes than this together, `Engine::purge` also moves records, so that old files can be
+    /// deleted.
     pub purge_above: u64,
-    /// Of the rewrite queue it does so only where this many of a hundred bytes, or more, aren't needed. Above 100 it never does.
+    /// In the rewrite queue `Engine::purge` moves records only if at least this many of a hundred bytes aren't needed. Above 100
+    /// it never does.
     pub purge_garbage: u8,
 }
 
 impl Options {
-    /// Makes options for files of version 2 of 64 MiB, cut where a crash can have torn them, read on up to four threads, with up
-    /// to 1 GiB in each queue, or more where half of it or more is needed.
+    /// Makes the default options: version 2, torn tails are cut off, up to four threads, append files of 64 MiB. A purge moves
+    /// records where the files of a queue have more than 1 GiB, and in the rewrite queue only if half of it or more isn't needed.
     ///
     /// ```
     /// # use raft_recover::Options;
@@ -77,8 +80,8 @@ impl Options {
         }
     }
 
-    /// Sets on how many threads the files are read when they are opened. Each takes the memory of a piece of 4 MiB, or of the longest
-    /// batch.
+    /// Sets how many threads read the files when they are opened, the caller's included. Each takes memory for a piece of 4 MiB
+    /// of a file, or for the longest batch, if that is longer.
     ///
     /// ```
     /// # use raft_recover::Options;
@@ -91,7 +94,7 @@ impl Options {
         }
     }
 
-    /// Sets how many bytes the last append file has at least when it is closed.
+    /// Sets the length in bytes at which the last append file is closed, and a new one is begun.
     ///
     /// ```
     /// # use raft_recover::Options;
@@ -104,7 +107,8 @@ impl Options {
         }
     }
 
-    /// Sets above how many bytes of a queue's files `Engine::purge` moves what it needs.
+    /// Sets how many bytes the files of a queue may have together before `Engine::purge` also moves records, so that old files
+    /// can be deleted.
     ///
     /// ```
     /// # use raft_recover::Options;
@@ -117,7 +121,8 @@ impl Options {
         }
     }
 
-    /// Sets how many of a hundred bytes of the rewrite queue aren't needed, at least, when `Engine::purge` moves its records again.
+    /// Sets how many of a hundred bytes of the rewrite queue have to be no longer needed, at least, before `Engine::purge` moves
+    /// records there. Above 100 it never does.
     ///
     /// ```
     /// # use raft_recover::Options;
@@ -132,7 +137,7 @@ impl Options {
 }
 
 impl Default for Options {
-    /// Makes those of [`Options::new`].
+    /// Makes the options of [`Options::new`].
     fn default() -> Options {
         Options::new()
     }

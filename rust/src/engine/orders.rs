@@ -1,6 +1,6 @@
-//! What an engine orders is carried out, in turn.
+//! Carries out the orders of the tables: the changes of files that a call on the tables asks for.
 
-use super::turns::Having;
+use super::turns::TurnGuard;
 use super::{Engine, Event, locks};
 use crate::sys::{EngineHandle, Order};
 use crate::{Error, ErrorKind, FileId, Files, Queue, Result};
@@ -8,11 +8,11 @@ use std::collections::VecDeque;
 use std::time::Instant;
 use std::{mem, thread};
 
-/// The turn of a thread, which has it to itself: it makes calls that order something, and carries the orders out. An engine
-/// on which it panics has failed.
+/// The turn of a thread. The thread that has it is the only one that makes calls which order changes of the files, and that
+/// carries the orders out. If it panics in its turn the engine has failed.
 pub(super) struct Turn<'a, F: Files> {
     engine: &'a Engine<F>,
-    _turn: Having<'a>,
+    _turn: TurnGuard<'a>,
 }
 
 impl<F: Files> Drop for Turn<'_, F> {
@@ -27,12 +27,12 @@ impl<F: Files> Drop for Turn<'_, F> {
 }
 
 impl<F: Files> Engine<F> {
-    /// Waits for a turn, in which orders that found no room are carried out first.
+    /// Waits for a turn, and takes it. Orders that are left since one found no room are carried out first.
     ///
     /// # Errors
     ///
-    /// `Failed` where the engine has failed; `Io` where such an order finds no room again, or can't be carried out otherwise: the
-    /// engine has failed then.
+    /// `Failed` where the engine has failed. `Io` where an order that is left can't be carried out: where it finds no room again
+    /// it stays; else the engine has failed.
     pub(super) fn wait_for_turn(&self) -> Result<Turn<'_, F>> {
         let turn = Turn {
             engine: self,
@@ -46,17 +46,18 @@ impl<F: Files> Engine<F> {
 }
 
 impl<F: Files> Turn<'_, F> {
-    /// Makes a call on the tables that may order something, carries the orders out, and returns what the call returned.
+    /// Makes a call on the tables, carries out what it ordered, and returns what it returned.
     ///
     /// # Errors
     ///
-    /// Those of the call; `Io` where an order can't be carried out, or `Memory`: the engine has failed then, unless the order left
-    /// all as it was.
+    /// Those of the call: what it had ordered was carried out. `Io` where an order can't be carried out: the engine has failed
+    /// then, unless the files are as they were before the order, which stays. `Memory` where the orders can't be taken: the
+    /// engine has failed.
     pub(super) fn call<T>(&self, call: impl FnOnce(&mut EngineHandle) -> Result<T>) -> Result<T> {
         let mut tables = self.engine.lock_tables();
         let result = call(&mut tables);
         if !tables.is_intact() {
-            let reason = result.err().unwrap_or_else(Error::of_emptied);
+            let reason = result.err().unwrap_or_else(Error::failed);
             return Err(self.engine.fail(reason));
         }
         let orders = tables.take_orders().map_err(|e| self.engine.fail(e))?;
@@ -66,7 +67,7 @@ impl<F: Files> Turn<'_, F> {
         result
     }
 
-    /// Carries out the orders of an opening.
+    /// Carries out the orders of an opening: first files, and cuts of torn tails.
     ///
     /// # Errors
     ///
@@ -76,7 +77,7 @@ impl<F: Files> Turn<'_, F> {
         self.carry_out(orders.into())
     }
 
-    /// Syncs a queue, though nothing was ordered: what is ordered later then finds less to sync.
+    /// Syncs a queue, though no call ordered it, so that a sync that is ordered later has less to do.
     ///
     /// # Errors
     ///
@@ -85,21 +86,21 @@ impl<F: Files> Turn<'_, F> {
         self.carry_out(VecDeque::from([Order::Sync(queue)]))
     }
 
-    /// Notes the bytes that orders write: they are read from memory until they stand in their file.
+    /// Notes the bytes that orders write. Until these are in their file they are read from memory.
     fn note_bytes(&self, orders: &[Order]) {
         let numbers = locks::lock(&self.engine.numbers);
-        self.engine.unwritten.note(orders, &numbers);
+        self.engine.unwritten.note_orders(orders, &numbers);
     }
 
     /// Carries orders out, one after another.
     ///
     /// # Errors
     ///
-    /// `Io` where one can't be carried out: the engine keeps the bytes of that one and of those after it. Where the files are as they
-    /// were before, the next turn begins with these, and else the engine has failed.
+    /// `Io` for the first order that can't be carried out. If the files are as they were before it, that order and those behind
+    /// it are kept for the next turn; else the engine has failed. Bytes that weren't written can still be read, from memory.
     fn carry_out(&self, mut orders: VecDeque<Order>) -> Result<()> {
         while let Some(order) = orders.front() {
-            if let Err(e) = self.carry_out_one(order) {
+            if let Err(e) = self.carry_out_order(order) {
                 if !self.engine.files.is_as_before() {
                     return Err(self.engine.fail_files(e));
                 }
@@ -111,12 +112,12 @@ impl<F: Files> Turn<'_, F> {
         Ok(())
     }
 
-    /// Carries out one order on the files.
+    /// Makes the change of the files that an order asks for.
     ///
     /// # Errors
     ///
-    /// `Io` with the file. The engine has failed then, unless the files are as before.
-    fn carry_out_one(&self, order: &Order) -> Result<()> {
+    /// `Io` with the file and an offset. Nothing is noted of the change then.
+    fn carry_out_order(&self, order: &Order) -> Result<()> {
         match order {
             Order::Write(queue, bytes) => self.write_bytes(*queue, bytes),
             Order::Begin(file) => self.begin_file(*file),
@@ -126,44 +127,44 @@ impl<F: Files> Turn<'_, F> {
         }
     }
 
-    /// Writes bytes behind the last file of a queue. From then on they are read from the file.
+    /// Writes bytes at the end of the last file of a queue. From then on they are read from the file.
     ///
     /// # Errors
     ///
-    /// Those of [`Files::write`], as `Io` with the file.
+    /// Those of [`Files::write`], as `Io` with the file and the offset; `Failed` where the queue has no file.
     fn write_bytes(&self, queue: Queue, bytes: &[u8]) -> Result<()> {
         let (file, len) = self.last_file(queue)?;
         let written = self.engine.files.write(file, bytes);
-        written.map_err(|e| Error::system("a batch can't be written", e).at(file, len))?;
+        written.map_err(|e| Error::system("a batch can't be written", e).with_place(file, len))?;
         let len = len + bytes.len() as u64;
         locks::lock(&self.engine.numbers).set_len(file, len);
         self.engine.unwritten.forget_oldest();
         Ok(())
     }
 
-    /// Begins a file, which becomes the last one of its queue.
+    /// Makes a file, which becomes the last one of its queue.
     ///
     /// # Errors
     ///
     /// Those of [`Files::rotate`], as `Io` with the file.
     fn begin_file(&self, file: FileId) -> Result<()> {
         let begun = self.engine.files.rotate(file);
-        begun.map_err(|e| Error::system("the file can't be begun", e).at(file, 0))?;
+        begun.map_err(|e| Error::system("the file can't be begun", e).with_place(file, 0))?;
         locks::lock(&self.engine.numbers).set_len(file, 0);
         self.engine.events.note(Event::Begun(file));
         Ok(())
     }
 
-    /// Syncs a queue, and counts how long that took.
+    /// Syncs a queue, and adds to the numbers that it did, and how long it took.
     ///
     /// # Errors
     ///
-    /// Those of [`Files::sync`], as `Io` with the file.
+    /// Those of [`Files::sync`], as `Io` with the last file and its end; `Failed` where the queue has no file.
     fn sync_queue(&self, queue: Queue) -> Result<()> {
         let (file, len) = self.last_file(queue)?;
         let begun = Instant::now();
         let synced = self.engine.files.sync(queue);
-        synced.map_err(|e| Error::system("the file can't be synced", e).at(file, len))?;
+        synced.map_err(|e| Error::system("the file can't be synced", e).with_place(file, len))?;
         let took = begun.elapsed();
         let mut numbers = locks::lock(&self.engine.numbers);
         numbers.syncs += 1;
@@ -177,26 +178,26 @@ impl<F: Files> Turn<'_, F> {
     ///
     /// # Errors
     ///
-    /// Those of [`Files::delete`], as `Io` with the file.
+    /// Those of [`Files::delete`], as `Io` with the file; `Failed` where the queue has no file.
     fn delete_oldest(&self, queue: Queue) -> Result<()> {
         let oldest = locks::lock(&self.engine.numbers).files(queue).next();
-        let (file, _) = oldest.ok_or_else(Error::of_emptied)?;
+        let (file, _) = oldest.ok_or_else(Error::failed)?;
         let deleted = self.engine.files.delete(file);
-        deleted.map_err(|e| Error::system("the file can't be deleted", e).at(file, 0))?;
-        locks::lock(&self.engine.numbers).forget(file);
+        deleted.map_err(|e| Error::system("the file can't be deleted", e).with_place(file, 0))?;
+        locks::lock(&self.engine.numbers).forget_file(file);
         self.engine.events.note(Event::Deleted(file));
         Ok(())
     }
 
-    /// Cuts the last file of a queue to `len` bytes, as an opening orders it.
+    /// Cuts the last file of a queue to `len` bytes, if it has more. Only an opening orders that.
     ///
     /// # Errors
     ///
-    /// Those of [`Files::truncate`], as `Io` with the file.
+    /// Those of [`Files::truncate`], as `Io` with the file; `Failed` where the queue has no file.
     fn cut_last(&self, queue: Queue, len: u64) -> Result<()> {
         let (file, _) = self.last_file(queue)?;
         let cut = self.engine.files.truncate(file, len);
-        cut.map_err(|e| Error::system("the file can't be cut", e).at(file, len))?;
+        cut.map_err(|e| Error::system("the file can't be cut", e).with_place(file, len))?;
         locks::lock(&self.engine.numbers).note_cut(queue, len);
         let recovered = &self.engine.recovered;
         for cut in recovered.cuts().filter(|cut| cut.file == file) {
@@ -205,13 +206,13 @@ impl<F: Files> Turn<'_, F> {
         Ok(())
     }
 
-    /// Returns the last file of a queue, and how many bytes it has.
+    /// Returns the last file of a queue, and its length in bytes.
     ///
     /// # Errors
     ///
-    /// `Failed` where the queue has none.
+    /// `Failed` where the queue has no file.
     fn last_file(&self, queue: Queue) -> Result<(FileId, u64)> {
         let last = locks::lock(&self.engine.numbers).last_file(queue);
-        last.ok_or_else(Error::of_emptied)
+        last.ok_or_else(Error::failed)
     }
 }

@@ -1,4 +1,4 @@
-//! Keys with their values that were read.
+//! Keys with their values, as a scan of a region returns them.
 
 use crate::sys::PackedPairs;
 use crate::{Error, Result};
@@ -7,9 +7,9 @@ use std::iter::FusedIterator;
 use std::ops::{Bound, Range, RangeBounds};
 use std::vec;
 
-/// Keys of a region with their values, in the order of the keys.
+/// Iterates over keys of a region with their values, in the order of the keys.
 ///
-/// All of them were read, so that nothing written later shows.
+/// All of them were read before the value was returned. What is written later doesn't show.
 ///
 /// ```
 /// use raft_recover::{Engine, LogBatch, MemoryFiles, Options};
@@ -51,11 +51,13 @@ use std::vec;
 /// ```
 #[derive(Clone, Default)]
 pub struct Pairs {
+    /// The bytes of all keys and values, one behind the other.
     bytes: Vec<u8>,
+    /// The pairs that are left.
     rest: vec::IntoIter<Place>,
 }
 
-/// Where the bytes of a key and of its value are.
+/// Where the bytes of a key and of its value are among those of [`Pairs`].
 #[derive(Clone)]
 struct Place {
     key: Range<usize>,
@@ -63,8 +65,8 @@ struct Place {
 }
 
 impl Pairs {
-    /// Makes the pairs of those that are packed, in their order. The only error is `Memory`.
-    pub(super) fn of(packed: PackedPairs) -> Result<Pairs> {
+    /// Makes an iterator over packed pairs, in their order. The bytes are moved. The only error is `Memory`.
+    pub(super) fn from_packed(packed: PackedPairs) -> Result<Pairs> {
         let PackedPairs { lens, bytes } = packed;
         let mut places = Vec::new();
         places
@@ -86,8 +88,8 @@ impl Pairs {
         })
     }
 
-    /// Lends the pairs that are left, each as the key and its value, in the order of the keys or from the last one on. No byte is
-    /// copied.
+    /// Lends the pairs that are left, each as its key and its value, in the order of the keys or backwards. No byte is copied,
+    /// and the pairs stay.
     ///
     /// ```
     /// # use raft_recover::{Engine, LogBatch, MemoryFiles, Options};
@@ -112,8 +114,8 @@ impl Pairs {
         })
     }
 
-    /// Returns copies of the key and the value at a place.
-    fn pair(&self, place: Place) -> (Vec<u8>, Vec<u8>) {
+    /// Returns copies of the key and the value that `place` describes.
+    fn copy_pair(&self, place: Place) -> (Vec<u8>, Vec<u8>) {
         let [key, value] = [place.key, place.value].map(|range| self.bytes[range].to_vec());
         (key, value)
     }
@@ -124,7 +126,7 @@ impl Iterator for Pairs {
 
     fn next(&mut self) -> Option<(Vec<u8>, Vec<u8>)> {
         let place = self.rest.next()?;
-        Some(self.pair(place))
+        Some(self.copy_pair(place))
     }
 
     fn size_hint(&self) -> (usize, Option<usize>) {
@@ -135,7 +137,7 @@ impl Iterator for Pairs {
 impl DoubleEndedIterator for Pairs {
     fn next_back(&mut self) -> Option<(Vec<u8>, Vec<u8>)> {
         let place = self.rest.next_back()?;
-        Some(self.pair(place))
+        Some(self.copy_pair(place))
     }
 }
 
@@ -152,8 +154,9 @@ impl fmt::Debug for Pairs {
     }
 }
 
-/// Returns the least key of a range, and the least key behind the range; `None` where the range is open there.
-pub(super) fn ends_of<'a>(range: &impl RangeBounds<&'a [u8]>) -> (Vec<u8>, Option<Vec<u8>>) {
+/// Returns a range of keys as its least key and its end: the least key that is above all of the range, or `None` where the range
+/// has no upper bound.
+pub(super) fn key_bounds<'a>(range: &impl RangeBounds<&'a [u8]>) -> (Vec<u8>, Option<Vec<u8>>) {
     let start = match range.start_bound() {
         Bound::Included(key) => key.to_vec(),
         Bound::Excluded(key) => least_key_above(key),
@@ -167,7 +170,7 @@ pub(super) fn ends_of<'a>(range: &impl RangeBounds<&'a [u8]>) -> (Vec<u8>, Optio
     (start, end)
 }
 
-/// Returns the least key above a key: the same with a zero byte behind.
+/// Returns the least key above a key: the same bytes and a zero byte behind them.
 fn least_key_above(key: &[u8]) -> Vec<u8> {
     [key, &[0]].concat()
 }

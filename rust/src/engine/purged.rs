@@ -3,7 +3,7 @@
 use crate::FileId;
 use std::ops::AddAssign;
 
-/// What a purge deleted, and which regions need the oldest file that is left.
+/// What [`Engine::purge`](crate::Engine::purge) deleted, and which regions need the oldest append file that is left.
 ///
 /// ```
 /// use raft_recover::{Engine, FileId, LogBatch, MemoryFiles, Options, Queue};
@@ -30,18 +30,19 @@ use std::ops::AddAssign;
 #[derive(Clone, PartialEq, Eq, Hash, Debug, Default)]
 #[non_exhaustive]
 pub struct Purged {
-    /// How many files of the append queue it deleted.
+    /// How many files of the append queue were deleted.
     pub append_files: usize,
-    /// How many files of the rewrite queue it deleted.
+    /// How many files of the rewrite queue were deleted.
     pub rewrite_files: usize,
-    /// The files that it deleted, oldest first in each of its steps.
+    /// The files that were deleted. A purge deletes in up to three steps: each has first its append files, then its rewrite
+    /// files, each oldest first.
     pub files: Vec<FileId>,
-    /// The regions that need the oldest append file, by their numbers, if there is another one behind it. Once they need it no
-    /// more, the next purge deletes it without moving anything.
+    /// The regions that need the oldest append file, by rising numbers; none where there is only one append file. Once they don't
+    /// need it any more, the next purge deletes it without moving anything.
     pub holders: Vec<Holder>,
 }
 
-/// A region that needs the oldest append file.
+/// A region that needs the oldest append file, so that the file can't be deleted.
 ///
 /// ```
 /// use raft_recover::{Engine, LogBatch, MemoryFiles, Options};
@@ -63,17 +64,17 @@ pub struct Purged {
 pub struct Holder {
     /// The region.
     pub region: u64,
-    /// The file.
+    /// That file.
     pub file: FileId,
-    /// Up to which index its entries have to be compacted so that none of them stands in the file, if one does. Keys may stand
-    /// there too: it needs the file until these are put again, are deleted, or move.
+    /// The index up to which its entries have to be compacted, without that index, so that none of them is in the file; `None`
+    /// where none is. Keys may be there too: the region needs the file until these are put again, are deleted, or move.
     pub compact_to: Option<u64>,
-    /// How many of its entries such a compaction takes away.
+    /// How many of its entries that compaction takes away; 0 where none is in the file.
     pub entries: u64,
 }
 
 impl AddAssign for Purged {
-    /// Adds what a later purge deleted. The holders are those of the later one.
+    /// Adds what a later purge deleted. The holders become those of the later one.
     fn add_assign(&mut self, later: Purged) {
         self.append_files += later.append_files;
         self.rewrite_files += later.rewrite_files;

@@ -1,21 +1,25 @@
-//! Files go that nothing needs.
+//! Deletes files that nothing needs.
 
 use super::{Engine, Holder, Purged, locks};
 use crate::sys::EngineHandle;
 use crate::{FileId, Files, Queue, Result};
 
 impl<F: Files> Engine<F> {
-    /// Deletes the files that no table needs, and says which ([`Purged`]). Where those of a queue have more bytes than
-    /// [`Options::purge_above`] it first moves what it needs: in the append queue until half of that is left, in the rewrite
-    /// queue where as many of a hundred bytes as [`Options::purge_garbage`] says, or more, aren't needed. Needed are as many bytes as
-    /// it had when its records moved last; until they do, those of the entries there, and of all keys with their values.
+    /// Deletes the files that no table needs, and returns which ([`Purged`]).
     ///
-    /// Files are deleted here alone, so a program calls it now and then, best from a thread of its own: threads that write get in
-    /// between while it moves records of the append queue, 256 KiB or a block at a time; those of the rewrite queue move at
-    /// once. Where there is nothing to do it asks nothing of the files. Files that are needed no more go
-    /// first, before records move; but what the batches in them took away is written to the rewrite queue before they go, so on a
-    /// full disk even that may be refused. The next change then does what was left undone; or an engine that is opened anew writes
-    /// it only where the rewrite queue has something of it, so its purge may make room.
+    /// Where the files of a queue have more bytes than [`Options::purge_above`] together, it also moves the records that keep
+    /// them from being deleted. In the append queue the records of the oldest files move, until the files behind these have at
+    /// most half of that. In the rewrite queue all records move, if at least as many of a hundred bytes as
+    /// [`Options::purge_garbage`] says aren't needed. As needed count the bytes that this queue had when its records moved last,
+    /// or, until they do, those of the entries in it and of all keys with their values.
+    ///
+    /// Files are deleted by this call alone. So a program makes it now and then, best from a thread of its own. Records of the
+    /// append queue move 256 KiB or a block at a time, and threads that write get in between; those of the rewrite queue move all
+    /// at once. Where there is nothing to do nothing is asked of the files.
+    ///
+    /// On a full disk: files that aren't needed go first, before records move. But what the batches in them took away has to be
+    /// written to the rewrite queue before they go, so even that may be refused. The next change then does what was left undone.
+    /// An engine that is opened anew writes of it only what concerns records in the rewrite queue, so its purge may make room.
     ///
     /// ```
     /// # use raft_recover::{Engine, LogBatch, MemoryFiles, Options};
@@ -36,17 +40,17 @@ impl<F: Files> Engine<F> {
     ///
     /// # Errors
     ///
-    /// Those of [`Engine::rewrite`].
+    /// Those of [`Engine::rewrite`]. Some files may be deleted then.
     pub fn purge(&self) -> Result<Purged> {
-        self.check_changeable("purge")?;
-        let mut purged = self.delete_files()?;
-        if let Some(gate) = self.gate_due() {
+        self.check_writable("purge")?;
+        let mut purged = self.delete_needless_files()?;
+        if let Some(gate) = self.find_gate() {
             self.rewrite(gate)?;
-            purged += self.delete_files()?;
+            purged += self.delete_needless_files()?;
         }
-        if self.is_moving_again_due()? {
+        if self.is_rewrite_again_due()? {
             self.rewrite_again()?;
-            purged += self.delete_files()?;
+            purged += self.delete_needless_files()?;
             let mut numbers = locks::lock(&self.numbers);
             numbers.needed_rewritten = Some(numbers.count_bytes(Queue::Rewrite));
         }
@@ -54,8 +58,8 @@ impl<F: Files> Engine<F> {
         Ok(purged)
     }
 
-    /// Tests whether [`Engine::purge`] has something to do: a file can go, or records are to move first. It looks at each region,
-    /// and asks nothing of the files.
+    /// Tests whether [`Engine::purge`] has something to do: a file can be deleted, or records should move first. It looks at each
+    /// region, and asks nothing of the files.
     ///
     /// ```
     /// # use raft_recover::{Engine, LogBatch, MemoryFiles, Options};
@@ -75,33 +79,35 @@ impl<F: Files> Engine<F> {
     ///
     /// # Errors
     ///
-    /// `Memory`, `Failed`.
+    /// `Memory`; `Failed` where the engine can't be read.
     pub fn needs_purge(&self) -> Result<bool> {
         self.check_readable()?;
-        Ok(self.gate_due().is_some()
+        Ok(self.find_gate().is_some()
             || self.has_needless_file(Queue::Append)?
             || self.has_needless_file(Queue::Rewrite)?
-            || self.is_moving_again_due()?)
+            || self.is_rewrite_again_due()?)
     }
 
-    /// Deletes the files of both queues that no table needs, and returns which. Its holders are none.
+    /// Deletes the files of both queues that no table needs, gives their room on the disk back, and returns which they were,
+    /// without holders.
     ///
     /// # Errors
     ///
-    /// `Failed`, `Io`, `Memory`; `Full` where the rewrite queue is to be told 2^56 bytes or more
-    /// before, or its last file has more than 2^63. Some files may then be deleted.
-    fn delete_files(&self) -> Result<Purged> {
-        let purged = self.delete_in_turn();
+    /// `Failed`, `Io`, `Memory`; `Full` where 2^56 bytes or more would have to be written to the rewrite queue before, or its
+    /// last file has more than 2^63 bytes. Some files may be deleted then.
+    fn delete_needless_files(&self) -> Result<Purged> {
+        let purged = self.delete_needless_in_turn();
         self.files.free_deleted();
         purged
     }
 
-    /// Deletes the files of both queues that no table needs, in one turn, and returns which. Their room may not be given back yet.
+    /// Deletes the files of both queues that no table needs, in one turn, and returns which they were, without holders. Their
+    /// room on the disk may not be given back yet.
     ///
     /// # Errors
     ///
-    /// Those of [`Engine::delete_files`].
-    fn delete_in_turn(&self) -> Result<Purged> {
+    /// Those of [`Engine::delete_needless_files`].
+    fn delete_needless_in_turn(&self) -> Result<Purged> {
         self.tell_after(|| {
             let turn = self.wait_for_turn()?;
             let files = |queue| locks::lock(&self.numbers).files(queue).collect::<Vec<_>>();
@@ -120,7 +126,7 @@ impl<F: Files> Engine<F> {
         })
     }
 
-    /// Returns the oldest file of a queue; `None` where there is no other one behind it.
+    /// Returns the oldest file of a queue that has several; `None` where it has one or none.
     fn oldest_closed_file(&self, queue: Queue) -> Option<FileId> {
         let numbers = locks::lock(&self.numbers);
         let mut files = numbers.files(queue);
@@ -140,10 +146,11 @@ impl<F: Files> Engine<F> {
         let regions = self.lock_tables().regions()?;
         Ok(!regions
             .into_iter()
-            .any(|region| needs_file(&mut self.lock_tables_behind_others(), region, oldest)))
+            .any(|region| needs_file(&mut self.lock_tables_after_waiters(), region, oldest)))
     }
 
-    /// Returns the regions that need the oldest append file; none where there is no other one behind it.
+    /// Returns the regions that need the oldest append file, by rising numbers, each with what it has there. None where there is
+    /// only one append file.
     ///
     /// # Errors
     ///
@@ -154,15 +161,16 @@ impl<F: Files> Engine<F> {
         };
         let regions = self.lock_tables().regions()?;
         let holders = regions.into_iter().filter_map(|region| {
-            let mut tables = self.lock_tables_behind_others();
+            let mut tables = self.lock_tables_after_waiters();
             needs_file(&mut tables, region, oldest).then(|| holder_of(&mut tables, region, oldest))
         });
         Ok(holders.collect())
     }
 
-    /// Returns up to which append file records have to move so that half of [`Options::purge_above`](crate::Options::purge_above) is
-    /// left; `None` where the append files have no more bytes than that.
-    fn gate_due(&self) -> Option<u64> {
+    /// Returns the number of the append file up to which records have to move, so that the later files have at most half of
+    /// [`Options::purge_above`](crate::Options::purge_above) together, or only the last one is later. `None` where the append
+    /// files have no more bytes than that option allows, or there is a single one.
+    fn find_gate(&self) -> Option<u64> {
         let numbers = locks::lock(&self.numbers);
         let mut bytes = numbers.count_bytes(Queue::Append);
         if bytes <= self.options.purge_above {
@@ -183,13 +191,14 @@ impl<F: Files> Engine<F> {
         gate
     }
 
-    /// Tests whether the records of the rewrite queue are to move again: it has more bytes than the options allow, and as many of a
-    /// hundred as they say aren't needed.
+    /// Tests whether the records of the rewrite queue should move to new files: it has more bytes than
+    /// [`Options::purge_above`](crate::Options::purge_above), and at least
+    /// [`Options::purge_garbage`](crate::Options::purge_garbage) of a hundred aren't needed.
     ///
     /// # Errors
     ///
     /// `Memory`.
-    fn is_moving_again_due(&self) -> Result<bool> {
+    fn is_rewrite_again_due(&self) -> Result<bool> {
         let (bytes, needed) = {
             let numbers = locks::lock(&self.numbers);
             (
@@ -205,7 +214,7 @@ impl<F: Files> Engine<F> {
         Ok(garbage * 100 >= u128::from(bytes) * u128::from(self.options.purge_garbage))
     }
 
-    /// Counts the bytes that the tables need of the rewrite queue, and notes their number.
+    /// Counts the bytes of the rewrite queue that the tables need, and keeps that number for the next time.
     ///
     /// # Errors
     ///
@@ -221,7 +230,7 @@ impl<F: Files> Engine<F> {
     }
 }
 
-/// Tests whether a region needs a file, or an older one of its queue.
+/// Tests whether a region has a record in a file, or in an older one of the same queue.
 fn needs_file(tables: &mut EngineHandle, region: u64, file: FileId) -> bool {
     let oldest = tables.summary(region).and_then(|summary| match file.queue {
         Queue::Append => summary.append_seq,
@@ -230,8 +239,9 @@ fn needs_file(tables: &mut EngineHandle, region: u64, file: FileId) -> bool {
     oldest.is_some_and(|seq| seq <= file.seq)
 }
 
-/// Returns what a region has in `file`, the oldest append file, which it needs. Its entries there are the first ones that haven't
-/// moved.
+/// Returns what a region has in `file`, the oldest append file, in which it has a record. Of its entries those in rewrite files
+/// come first, then those in append files, in the order of the files: so a binary search finds how many are in `file` or before
+/// it.
 fn holder_of(tables: &mut EngineHandle, region: u64, file: FileId) -> Holder {
     let summary = tables.summary(region).unwrap_or_default();
     let first = summary.first_index.unwrap_or(0);

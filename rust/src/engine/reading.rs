@@ -1,4 +1,4 @@
-//! An engine is read.
+//! Reads an engine: entries, key values, and what regions have.
 
 use super::entries::EntryBytes;
 use super::{Engine, Entries, Pairs, pairs};
@@ -6,11 +6,11 @@ use crate::sys::EngineHandle;
 use crate::{Entry, Error, ErrorKind, Files, Result, Summary};
 use std::ops::{Bound, Range, RangeBounds};
 
-/// How often entries are found and read before a reader waits for a turn.
+/// How often a reader looks up the places of entries and reads them, before it waits for a turn.
 const LOOK_UPS: usize = 4;
 
 impl<F: Files> Engine<F> {
-    /// Returns the bytes of the entry of a region at an index; `None` where the region has no entry there.
+    /// Returns a copy of the bytes of a region's entry at an index; `None` where the region has no entry there.
     ///
     /// ```
     /// # use raft_recover::{Engine, LogBatch, MemoryFiles, Options};
@@ -25,14 +25,14 @@ impl<F: Files> Engine<F> {
     ///
     /// # Errors
     ///
-    /// `Corruption` where its bytes were damaged since they were written, with the file and the offset of its block; `Io`, `Memory`,
-    /// `Failed`.
+    /// `Corruption` where the bytes were damaged since they were written; `Io` where they can't be read: both with the region,
+    /// the index, the file and the offset of the entry's block. `Memory`; `Failed` where the engine can't be read.
     pub fn entry(&self, region: u64, index: u64) -> Result<Option<Vec<u8>>> {
         self.entry_with(region, index, <[u8]>::to_vec)
     }
 
-    /// Lends the entry of a region at an index to a call, and returns what that returns; `None`, without a call, where the region
-    /// has no entry there. The bytes aren't copied.
+    /// Lends the bytes of a region's entry at an index to `call`, and returns what `call` returns; `None`, without a call, where
+    /// the region has no entry there. The bytes aren't copied.
     ///
     /// ```
     /// # use raft_recover::{Engine, LogBatch, MemoryFiles, Options};
@@ -56,7 +56,7 @@ impl<F: Files> Engine<F> {
     ) -> Result<Option<T>> {
         self.check_readable()?;
         let found = self.lock_tables().entry(region, index);
-        let kept = found.and_then(|entry| EntryBytes::of_kept(self, &entry));
+        let kept = found.and_then(|entry| EntryBytes::from_kept(self, &entry));
         if let Some(kept) = kept {
             return Ok(Some(call(kept.as_slice())));
         }
@@ -71,8 +71,8 @@ impl<F: Files> Engine<F> {
         Ok(read.map(|entry| call(entry.as_slice())))
     }
 
-    /// Lends the entries of a range of indexes to a call, one after another, each with its index. They aren't copied, and all of
-    /// them were read before the first call. [`Entries::iter`] lends them so too, and can end early or go back.
+    /// Lends the entries of a range of indexes to `call`, one after another, each as its index and its bytes. All of them are
+    /// read before the first call, and none is copied. [`Entries::iter`] lends them too, and can end early or go backwards.
     ///
     /// ```
     /// # use raft_recover::{Engine, LogBatch, MemoryFiles, Options};
@@ -100,7 +100,8 @@ impl<F: Files> Engine<F> {
         Ok(())
     }
 
-    /// Returns the entries of a range of indexes. A bound that is left open is that of the region's entries.
+    /// Reads and returns the entries of a range of a region's indexes. A bound that is left out is that of the region's entries,
+    /// so `..` is all of them.
     ///
     /// ```
     /// # use raft_recover::{Engine, LogBatch, MemoryFiles, Options};
@@ -116,17 +117,23 @@ impl<F: Files> Engine<F> {
     ///
     /// # Errors
     ///
-    /// Where the range isn't empty: `EntryCompacted` where it begins below the region's first entry, with the index where it
-    /// begins; `EntryNotFound` where it ends behind the last one, or the region has none, with the last index of the range.
-    /// `Corruption` where bytes were damaged since they were written; `Io`, `Memory`, `Failed`.
+    /// Where the range isn't empty:
+    ///
+    /// - `EntryCompacted` where it begins below the region's first entry; the error has the index where it begins.
+    /// - `EntryNotFound` where it ends behind the region's last entry, or the region has none; the error has the last index of
+    ///   the range.
+    /// - `Corruption` and `Io`, as [`Engine::entry`] has them; `Memory`.
+    ///
+    /// `Failed` where the engine can't be read.
     pub fn entries(&self, region: u64, range: impl RangeBounds<u64>) -> Result<Entries> {
         self.find_and_read(
-            |tables| places_of_range(tables, region, &range, None),
+            |tables| entries_in_range(tables, region, &range, None),
             |found| Entries::read(self, region, found),
         )
     }
 
-    /// Returns the entries of a range of indexes up to `max_size` bytes in all, and one at least.
+    /// Reads and returns the first entries of a range of a region's indexes, as many as have at most `max_size` bytes together.
+    /// The first one that has bytes is returned whatever its size. A bound that is left out is that of the region's entries.
     ///
     /// ```
     /// # use raft_recover::{Engine, LogBatch, MemoryFiles, Options};
@@ -149,12 +156,12 @@ impl<F: Files> Engine<F> {
         max_size: u64,
     ) -> Result<Entries> {
         self.find_and_read(
-            |tables| places_of_range(tables, region, &range, Some(max_size)),
+            |tables| entries_in_range(tables, region, &range, Some(max_size)),
             |found| Entries::read(self, region, found),
         )
     }
 
-    /// Returns the value of a region's key; `None` where the key has no value.
+    /// Returns a copy of the value of a region's key; `None` where the key has no value.
     ///
     /// ```
     /// # use raft_recover::{Engine, LogBatch, MemoryFiles, Options};
@@ -170,12 +177,13 @@ impl<F: Files> Engine<F> {
     ///
     /// # Errors
     ///
-    /// `Memory`, `Failed`.
+    /// `Memory`; `Failed` where the engine can't be read.
     pub fn get(&self, region: u64, key: &[u8]) -> Result<Option<Vec<u8>>> {
         self.look_up(|tables| tables.value(region, key))
     }
 
-    /// Returns the keys of a region in a range with their values, in the order of the keys.
+    /// Returns copies of the keys of a region that are in a range, with their values, in the order of the keys. Keys are compared
+    /// byte by byte. A region without a table has none.
     ///
     /// ```
     /// # use raft_recover::{Engine, LogBatch, MemoryFiles, Options};
@@ -192,11 +200,11 @@ impl<F: Files> Engine<F> {
     ///
     /// # Errors
     ///
-    /// `Memory`, `Failed`.
+    /// `Memory`; `Failed` where the engine can't be read.
     pub fn scan<'a>(&self, region: u64, range: impl RangeBounds<&'a [u8]>) -> Result<Pairs> {
-        let (start, end) = pairs::ends_of(&range);
+        let (start, end) = pairs::key_bounds(&range);
         let found = self.look_up(|tables| tables.scan(region, &start, end.as_deref()))?;
-        Pairs::of(found)
+        Pairs::from_packed(found)
     }
 
     /// Returns the least index of a region's entries; `None` where it has no entries.
@@ -213,7 +221,7 @@ impl<F: Files> Engine<F> {
     ///
     /// # Errors
     ///
-    /// `Failed`.
+    /// `Failed` where the engine can't be read.
     pub fn first_index(&self, region: u64) -> Result<Option<u64>> {
         self.look_up(|tables| Ok(tables.first_index(region)))
     }
@@ -232,12 +240,12 @@ impl<F: Files> Engine<F> {
     ///
     /// # Errors
     ///
-    /// `Failed`.
+    /// `Failed` where the engine can't be read.
     pub fn last_index(&self, region: u64) -> Result<Option<u64>> {
         self.look_up(|tables| Ok(tables.last_index(region)))
     }
 
-    /// Returns what a region's table has; `None` where the region has no table.
+    /// Returns how many records the table of a region has, and which files it needs; `None` where the region has no table.
     ///
     /// ```
     /// # use raft_recover::{Engine, LogBatch, MemoryFiles, Options};
@@ -253,12 +261,12 @@ impl<F: Files> Engine<F> {
     ///
     /// # Errors
     ///
-    /// `Failed`.
+    /// `Failed` where the engine can't be read.
     pub fn summary(&self, region: u64) -> Result<Option<Summary>> {
         self.look_up(|tables| Ok(tables.summary(region)))
     }
 
-    /// Returns all regions that have a table, in rising order.
+    /// Returns the numbers of all regions that have a table, in rising order.
     ///
     /// ```
     /// # use raft_recover::{Engine, LogBatch, MemoryFiles, Options};
@@ -272,17 +280,17 @@ impl<F: Files> Engine<F> {
     ///
     /// # Errors
     ///
-    /// `Memory`, `Failed`.
+    /// `Memory`; `Failed` where the engine can't be read.
     pub fn regions(&self) -> Result<Vec<u64>> {
         self.look_up(EngineHandle::regions)
     }
 
-    /// Finds places by the call `find`, and returns what the call `read` reads there. They may move before they are read: then
-    /// they are found again, the last time in a turn, in which nothing moves.
+    /// Looks up places by `find`, reads there by `read`, and returns what `read` returns. Records may move between the two, so
+    /// that the read fails. Then both are repeated, the last time in a turn, in which nothing moves.
     ///
     /// # Errors
     ///
-    /// `Failed` where the tables can't be read; those of `find`; those of `read` in that turn.
+    /// `Failed` where the engine can't be read; those of `find`; those of `read` in that turn.
     fn find_and_read<P: PartialEq, T>(
         &self,
         find: impl Fn(&mut EngineHandle) -> Result<P>,
@@ -291,8 +299,8 @@ impl<F: Files> Engine<F> {
         self.read_places(self.look_up(&find)?, find, read)
     }
 
-    /// Returns what the call `read` reads at the places `found`, which the call `find` has found. They may move before they are read:
-    /// then they are found again, the last time in a turn, in which nothing moves.
+    /// Reads at the places `found`, which `find` has looked up, by `read`, and returns what `read` returns. Records may move
+    /// between the two, so that the read fails. Then both are repeated, the last time in a turn, in which nothing moves.
     ///
     /// # Errors
     ///
@@ -317,38 +325,41 @@ impl<F: Files> Engine<F> {
         read(&self.look_up(&find)?)
     }
 
-    /// Makes a call that reads the tables, under their lock, and returns what it finds.
+    /// Locks the tables, makes a call that reads them, and returns what it returns.
     ///
     /// # Errors
     ///
-    /// `Failed` where they can't be read; those of the call.
+    /// `Failed` where the engine can't be read; those of the call.
     fn look_up<T>(&self, call: impl FnOnce(&mut EngineHandle) -> Result<T>) -> Result<T> {
         self.check_readable()?;
         call(&mut self.lock_tables())
     }
 }
 
-/// Returns the entries of a range with their places, in order, up to a maximal size in bytes.
+/// Returns the entries of a range of a region's indexes with their places, in order. With a `max_size` these are the first ones,
+/// as many as have at most so many bytes together; the first one that has bytes is returned whatever its size. None for an empty
+/// range.
 ///
 /// # Errors
 ///
-/// `EntryCompacted` or `EntryNotFound` where the range isn't there, `Memory`.
-pub(super) fn places_of_range(
+/// `EntryCompacted` or `EntryNotFound` where the region doesn't have all of the range, with the index that is missing; `Memory`.
+pub(super) fn entries_in_range(
     tables: &mut EngineHandle,
     region: u64,
     range: &impl RangeBounds<u64>,
     max_size: Option<u64>,
 ) -> Result<Vec<Entry>> {
-    match close_range(tables, region, range) {
+    match resolve_range(tables, region, range) {
         Some(range) => tables
             .entries(region, range.clone(), max_size)
-            .map_err(|e| name_missing_entry(e, region, &range)),
+            .map_err(|e| with_missing_entry(e, region, &range)),
         None => Ok(Vec::new()),
     }
 }
 
-/// Returns the refusal of a range with the entry that isn't there, the first one or the last; a refusal for another reason as it is.
-fn name_missing_entry(refused: Error, region: u64, range: &Range<u64>) -> Error {
+/// Adds to an error for `range` the index that is missing, in its text too: the first one of the range where it was compacted,
+/// the last one where it isn't there yet. An error of another kind is returned as it is.
+fn with_missing_entry(refused: Error, region: u64, range: &Range<u64>) -> Error {
     let index = match refused.kind {
         ErrorKind::EntryCompacted => range.start,
         ErrorKind::EntryNotFound => range.end - 1,
@@ -359,10 +370,9 @@ fn name_missing_entry(refused: Error, region: u64, range: &Range<u64>) -> Error 
     refused
 }
 
-/// Returns the indexes of `range` as `start..end`. A bound that is missing is that of the entries that `region` has. `None` if
-/// the range is empty, or if a bound is missing and the region has no entries. Whether the region has all of these entries
-/// isn't tested.
-fn close_range(
+/// Returns the indexes of `range` as `start..end`. A bound that is missing is that of the region's entries. `None` if the range
+/// is empty, or if a bound is missing and the region has no entries. Whether the region has all of these entries isn't tested.
+fn resolve_range(
     tables: &mut EngineHandle,
     region: u64,
     range: &impl RangeBounds<u64>,

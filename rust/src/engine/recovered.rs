@@ -3,8 +3,8 @@
 use crate::{Error, FileId};
 use std::fmt;
 
-/// What was found in the files of an engine when it was opened that can't be read: the tail of each queue's last file, which was cut
-/// off, and the batches of the last append file whose entries are damaged, which were kept.
+/// What an opening couldn't read in the files of an engine ([`Engine::recovered`](crate::Engine::recovered)): the tail of each
+/// queue's last file, which was cut off, and the batches of the last append file whose entries are damaged, which were kept.
 ///
 /// ```
 /// use raft_recover::{Engine, ErrorKind, Files, LogBatch, MemoryFiles, Options, Queue};
@@ -31,18 +31,18 @@ use std::fmt;
 #[derive(Clone, PartialEq, Eq, Hash, Debug, Default)]
 #[non_exhaustive]
 pub struct Recovered {
-    /// What was cut off the last append file; `None` where it could be read to its end.
+    /// What was cut off the last append file; `None` where that file could be read to its end.
     pub append: Option<CutTail>,
-    /// What was cut off the last rewrite file; `None` where it could be read to its end.
+    /// What was cut off the last rewrite file; `None` where that file could be read to its end.
     pub rewrite: Option<CutTail>,
-    /// The batches of the last append file whose entries are damaged, first to last. The blocks of
-    /// all other entries of that file are sound.
+    /// The batches of the last append file whose entries are damaged, in the order in which they are in the file. All other
+    /// entries of that file are sound.
     pub damaged: Vec<DamagedBatch>,
 }
 
-/// The end of a queue's last file, which was cut off as no batch can be read where it begins.
+/// The end of a queue's last file that was cut off, since no batch can be read where it begins.
 ///
-/// It shows as a line for people:
+/// Its `Display` is a line for people:
 ///
 /// ```
 /// use raft_recover::{Engine, MemoryFiles, Options};
@@ -56,22 +56,22 @@ pub struct Recovered {
 #[derive(Clone, PartialEq, Eq, Hash, Debug)]
 #[non_exhaustive]
 pub struct CutTail {
-    /// The file.
+    /// The file that it was cut off.
     pub file: FileId,
-    /// Where the tail began, so how many bytes the file has left.
+    /// Where in the file the tail began, in bytes: the length of the file since then.
     pub offset: u64,
     /// How many bytes were cut off.
     pub len: u64,
-    /// Why no batch can be read there.
+    /// Why no batch can be read there, as the error that a read would return.
     pub reason: Option<Error>,
 }
 
-/// A batch of the last append file whose entries are damaged: a crash came before all of its pages were written, on a disk that
-/// writes them in any order, or they were damaged later. It is kept, with its keys and commands, and all batches behind it are;
-/// its entries are refused when they are read, at the offset of their block, which stands behind the 16 bytes of the batch's
-/// header.
+/// A batch of the last append file whose entries are damaged: on a disk that writes pages in any order, a crash came before all
+/// of its pages were written; or they were damaged later. The batch is kept, with its keys and commands, and so are all batches
+/// behind it. Its entries are refused when they are read. That error has the offset of the entry block, which is 16 bytes, the
+/// length of the batch's header, behind that of the batch.
 ///
-/// It shows as a line for people:
+/// Its `Display` is a line for people:
 ///
 /// ```
 /// use raft_recover::{Engine, LogBatch, MemoryFiles, Options, Queue};
@@ -98,16 +98,16 @@ pub struct CutTail {
 #[derive(Clone, PartialEq, Eq, Hash, Debug)]
 #[non_exhaustive]
 pub struct DamagedBatch {
-    /// The file.
+    /// The file that the batch is in.
     pub file: FileId,
-    /// Where in the file the batch begins.
+    /// Where in the file the batch begins, in bytes.
     pub offset: u64,
     /// Why its entries can't be read.
     pub reason: Error,
 }
 
 impl Recovered {
-    /// Returns the tails that were cut off, that of the append queue first: one, both or no one.
+    /// Returns the tails that were cut off, at most one of each queue, that of the append queue first.
     ///
     /// ```
     /// # use raft_recover::{Engine, MemoryFiles, Options};
@@ -123,7 +123,7 @@ impl Recovered {
 }
 
 impl fmt::Display for DamagedBatch {
-    /// Shows the reason, which begins with the file and the offset, without its kind.
+    /// Shows the text of the reason without its kind: it begins with the file and the offset.
     fn fmt(&self, f: &mut fmt::Formatter<'_>) -> fmt::Result {
         let text = &self.reason.text;
         f.pad(text.strip_prefix("Corruption: ").unwrap_or(text))

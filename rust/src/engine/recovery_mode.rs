@@ -1,6 +1,7 @@
-//! What an opening does where a file can't be read to its end.
+//! Which unreadable tails of files an opening cuts off.
 
-/// What an opening does where a queue's last file can't be read to its end: which tails it cuts off, and which it refuses.
+/// What an opening does with the tail of a queue's last file, from the first batch on that can't be read: whether it is cut off,
+/// or the files are refused.
 ///
 /// ```
 /// use raft_recover::{Engine, ErrorKind, MemoryFiles, Options, RecoveryMode};
@@ -14,18 +15,18 @@
 /// # Ok::<(), raft_recover::Error>(())
 /// ```
 ///
-/// In no mode a file is missing between two, a file but the last one of its queue can't be read, or a file is of the other
-/// version, or one of raft-engine: these are refused.
+/// In each mode these are refused: a file that is missing between two others; one that can't be read and isn't the last of its
+/// queue; one of the other version, or of raft-engine; damaged entries in the last rewrite file.
 #[derive(Clone, Copy, PartialEq, Eq, Hash, Debug, Default)]
 #[non_exhaustive]
 pub enum RecoveryMode {
-    /// Nothing is cut off: whatever can't be read is refused, with its place.
+    /// Cuts nothing off: a batch that can't be read is refused, with its file and offset.
     AbsoluteConsistency,
-    /// Cut off is what a crash can leave: what stands from the first batch on that can't be read, if that can be all that is left
-    /// of one batch, or no batch stands behind. Anything else is damage, which is refused.
+    /// Cuts off what a crash can leave: a tail that can be part of a single batch, or behind whose beginning there is no batch,
+    /// neither one that can be read nor one that is signed for another file. Any other tail is damage, and refused.
     #[default]
     TolerateTornTail,
-    /// All is cut off from the first batch on that can't be read, whatever stands behind it. This loses sound batches where the
-    /// file is damaged: a choice for those who looked at the file.
+    /// Cuts off any tail, whatever it has. Where the file is damaged this loses sound batches: choose it only after a look at the
+    /// file.
     TolerateTailCorruption,
 }

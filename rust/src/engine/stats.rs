@@ -1,9 +1,9 @@
-//! What an engine has, in numbers.
+//! Statistics of an engine: what it has, and what it did.
 
 use std::time::Duration;
 
-/// What an engine has, and what it did since it was opened. How many bytes are still needed takes longer to say:
-/// `Engine::usage`.
+/// What an engine has, and what it did since it was opened, in numbers ([`Engine::stats`](crate::Engine::stats)). How many of the
+/// bytes are still needed takes longer to say: [`Engine::usage`](crate::Engine::usage).
 ///
 /// ```
 /// use raft_recover::{Engine, LogBatch, MemoryFiles, Options};
@@ -26,17 +26,17 @@ pub struct Stats {
     pub rewrite: QueueStats,
     /// How many batches with items were written.
     pub batches: u64,
-    /// How many syncs were made. Threads that write at the same time share them.
+    /// How many syncs were made, of either queue. Threads that write at the same time share them.
     pub syncs: u64,
     /// How long all syncs took together.
     pub sync_time: Duration,
-    /// How long the opening took.
+    /// How long the opening took, with the reading of the files.
     pub opening: Duration,
-    /// How many bytes it cut off the files (`Engine::recovered` has where, and why).
+    /// How many bytes the opening cut off the files. `Engine::recovered` says where, and why.
     pub cut_bytes: u64,
 }
 
-/// The files of a queue.
+/// The files of a queue, in numbers.
 ///
 /// ```
 /// use raft_recover::{Engine, MemoryFiles, Options};
@@ -50,14 +50,14 @@ pub struct Stats {
 #[derive(Clone, Copy, PartialEq, Eq, Hash, Debug, Default)]
 #[non_exhaustive]
 pub struct QueueStats {
-    /// The number of the oldest file.
+    /// The number of the oldest file; 0 where there is none.
     pub first_file: u64,
-    /// The number of the last file, which is written to.
+    /// The number of the last file, at whose end is written; 0 where there is none.
     pub last_file: u64,
     /// How many files there are.
     pub files: usize,
-    /// How many bytes they have.
+    /// How many bytes the files have together.
     pub bytes: u64,
-    /// How many entries and key values that the tables have stand in them.
+    /// How many live records are in these files: the entries and key values that the tables have there.
     pub records: usize,
 }

@@ -1,4 +1,4 @@
-//! Bytes that were ordered of the files and aren't there yet, which are read from memory.
+//! Bytes that are to be written and aren't in their file yet, so that they are read from memory.
 
 use super::locks;
 use super::numbers::Numbers;
@@ -7,11 +7,11 @@ use crate::{FileId, Queue};
 use std::collections::VecDeque;
 use std::sync::{Arc, RwLock};
 
-/// The bytes of the orders that come next, oldest first. Where the files have failed they stay.
+/// The bytes of all orders to write that aren't carried out yet, oldest first. They stay where the files have failed.
 #[derive(Debug, Default)]
 pub(super) struct Unwritten(RwLock<VecDeque<Piece>>);
 
-/// Bytes that are to stand in a file from an offset on.
+/// The bytes of one order, which are to stand in a file from an offset on.
 #[derive(Debug)]
 struct Piece {
     file: FileId,
@@ -20,8 +20,9 @@ struct Piece {
 }
 
 impl Unwritten {
-    /// Notes the bytes that orders write, where they are carried out in turn on files with the lengths of `numbers`.
-    pub(super) fn note(&self, orders: &[Order], numbers: &Numbers) {
+    /// Adds the bytes that `orders` write. `numbers` has the lengths of the files at which these orders begin, so it tells where
+    /// the bytes will stand.
+    pub(super) fn note_orders(&self, orders: &[Order], numbers: &Numbers) {
         let mut ends = [Queue::Append, Queue::Rewrite].map(|queue| numbers.last_file(queue));
         let mut pieces = locks::lock_to_change(&self.0);
         for order in orders {
@@ -48,14 +49,14 @@ impl Unwritten {
         }
     }
 
-    /// Forgets the bytes of the oldest order, which stand in their file now.
+    /// Drops the bytes of the oldest order: they are in their file now.
     pub(super) fn forget_oldest(&self) {
         locks::lock_to_change(&self.0).pop_front();
     }
 
-    /// Fills `bytes` with those of a file from `offset` on, where all of them are to be written by one order. Returns whether they
-    /// are; elsewhere nothing is filled.
-    pub(super) fn read_into(&self, file: FileId, offset: u64, bytes: &mut [u8]) -> bool {
+    /// Fills `bytes` with those that are to be written to a file from `offset` on, if a single order writes all of them. Returns
+    /// whether one does; else `bytes` stay as they are.
+    pub(super) fn try_read_into(&self, file: FileId, offset: u64, bytes: &mut [u8]) -> bool {
         let pieces = locks::lock_to_read(&self.0);
         let found = pieces.iter().find_map(|piece| {
             let from = offset.checked_sub(piece.offset)?;

@@ -1,13 +1,13 @@
-//! How much of the files is needed.
+//! Counts how much of the files is needed.
 
-use super::reading::places_of_range;
+use super::reading::entries_in_range;
 use super::{Engine, locks};
 use crate::{Entry, Files, Queue, Result};
 
-/// Of how many entries the places are looked up under one lock of the tables.
+/// How many places of entries are looked up under one lock of the tables.
 const LOOKED_UP_AT_ONCE: u64 = 1024;
 
-/// How many bytes of the files of both queues are needed, and how many aren't.
+/// How many bytes of the files of both queues are needed, and how many aren't ([`Engine::usage`]).
 ///
 /// ```
 /// use raft_recover::{Engine, LogBatch, MemoryFiles, Options};
@@ -41,15 +41,15 @@ pub struct Usage {
 /// ```
 #[derive(Clone, Copy, PartialEq, Eq, Hash, Debug, Default)]
 pub struct QueueUsage {
-    /// The bytes of entries, and of keys with their values, that the tables have there. The keys of a region that has something
-    /// in both queues all count for the rewrite queue.
+    /// The bytes that are needed: those of the entries, and of the keys with their values, that the tables have there. The keys
+    /// of a region that has records in both queues all count for the rewrite queue.
     pub live: u64,
-    /// All others: records that went, and what surrounds the records in a batch.
+    /// All other bytes: records that were removed or moved, and what surrounds the records in a batch.
     pub dead: u64,
 }
 
 impl QueueUsage {
-    /// Returns how many of a hundred bytes aren't needed: 0 where there are none.
+    /// Returns how many of a hundred bytes aren't needed, rounded down; 0 where there are no bytes.
     ///
     /// ```
     /// # use raft_recover::QueueUsage;
@@ -64,8 +64,8 @@ impl QueueUsage {
 }
 
 impl<F: Files> Engine<F> {
-    /// Counts how many bytes of the files are needed, and how many aren't. It looks at each entry and each key, while others may
-    /// write: [`Engine::stats`] is cheap.
+    /// Counts how many bytes of the files are needed, and how many aren't. It looks at each entry and each key, while other
+    /// threads may write; [`Engine::stats`] is cheap.
     ///
     /// ```
     /// # use raft_recover::{Engine, LogBatch, MemoryFiles, Options};
@@ -84,7 +84,7 @@ impl<F: Files> Engine<F> {
     ///
     /// # Errors
     ///
-    /// `Memory`, `Failed`.
+    /// `Memory`; `Failed` where the engine can't be read.
     pub fn usage(&self) -> Result<Usage> {
         self.check_readable()?;
         let mut live = [0, 0];
@@ -105,8 +105,8 @@ impl<F: Files> Engine<F> {
         })
     }
 
-    /// Counts the bytes that the records of a region have in the append files, and in the rewrite files. Its keys with their values
-    /// all count for the rewrite files where the region has anything there, and else for the append files.
+    /// Counts the bytes of a region's records in the append files, and in the rewrite files. Its keys with their values all count
+    /// for the rewrite files if the region has anything there, else for the append files.
     ///
     /// # Errors
     ///
@@ -117,7 +117,7 @@ impl<F: Files> Engine<F> {
             live[entry.block.file.queue as usize] += u64::from(entry.len);
             true
         })?;
-        let mut tables = self.lock_tables_behind_others();
+        let mut tables = self.lock_tables_after_waiters();
         let summary = tables.summary(region).unwrap_or_default();
         let queue = summary
             .rewrite_seq
@@ -126,7 +126,8 @@ impl<F: Files> Engine<F> {
         Ok(live)
     }
 
-    /// Counts the bytes of a region's entries in rewrite files, and of all its keys with their values, which may stand there.
+    /// Counts the bytes of a region's entries in rewrite files, and those of all its keys with their values, any of which may be
+    /// there.
     ///
     /// # Errors
     ///
@@ -138,14 +139,14 @@ impl<F: Files> Engine<F> {
             if is_rewritten {
                 bytes += u64::from(entry.len);
             }
-            is_rewritten // entries that moved stand in front of all others
+            is_rewritten // entries that moved stand before all others
         })?;
-        let pairs = self.lock_tables_behind_others().scan(region, b"", None)?;
+        let pairs = self.lock_tables_after_waiters().scan(region, b"", None)?;
         Ok(bytes + pairs.bytes.len() as u64)
     }
 
-    /// Visits the places of a region's entries in order, as long as `visit` returns true. The tables are locked for some of them at
-    /// a time: of a region that changes meanwhile it may meet what was there before or after.
+    /// Calls `visit` with each entry of a region and its place, in order, as long as `visit` returns true. The tables are locked
+    /// for some entries at a time; where the region changes meanwhile, each is visited as it was before or after.
     ///
     /// # Errors
     ///
@@ -153,14 +154,14 @@ impl<F: Files> Engine<F> {
     fn visit_places(&self, region: u64, mut visit: impl FnMut(&Entry) -> bool) -> Result<()> {
         let mut from = 0;
         loop {
-            let mut tables = self.lock_tables_behind_others();
+            let mut tables = self.lock_tables_after_waiters();
             let first = tables.first_index(region).map(|first| first.max(from));
             let end = tables.last_index(region).map(|last| last + 1);
             let (Some(start), Some(end)) = (first, end) else {
                 return Ok(());
             };
             let to = end.min(start.saturating_add(LOOKED_UP_AT_ONCE));
-            let places = places_of_range(&mut tables, region, &(start..to), None)?;
+            let places = entries_in_range(&mut tables, region, &(start..to), None)?;
             drop(tables);
             if places.is_empty() || !places.iter().all(&mut visit) {
                 return Ok(());

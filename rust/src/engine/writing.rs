@@ -1,4 +1,4 @@
-//! Batches are written.
+//! Writes batches.
 
 use super::commit::Group;
 use super::orders::Turn;
@@ -7,8 +7,8 @@ use crate::sys::EngineHandle;
 use crate::{Files, LogBatch, Result};
 
 impl<F: Files> Engine<F> {
-    /// Writes a batch, which is empty afterwards. With `sync` all that was written is synced once the call returns `Ok`. The batch is
-    /// whole or not there at all, whenever the machine crashes.
+    /// Writes a batch. After an `Ok` the batch is empty and open, to be filled again. With `sync`, this batch and all that was
+    /// written before are synced then. Whenever the machine crashes, the batch is in the files as a whole or not at all.
     ///
     /// ```
     /// # use raft_recover::{Engine, LogBatch, MemoryFiles, Options};
@@ -26,17 +26,20 @@ impl<F: Files> Engine<F> {
     ///
     /// # Errors
     ///
-    /// `InvalidArgument` where the batch is no longer open; `Corruption` where its entries leave a hole behind those of their
-    /// region, or don't fit otherwise; `Full` where it has 2^56 bytes or more, or its file more than 2^63; `Memory`. Engine and batch
-    /// are then as they were. `Io`, `Failed`: the engine has failed, and the batch may be in the files or not. But where there was no
-    /// room in a folder for the batch, it is kept and written by the next change, such as this same call; where there was none
-    /// for an earlier one yet, the batch is as it was.
+    /// - `InvalidArgument` where the batch is no longer open, or the engine is open for reading only; `Corruption` where its
+    ///   entries leave a hole behind those of their region, or begin below them; `Full` where it would have 2^56 bytes or more,
+    ///   or its file more than 2^63; `Memory`. Nothing has changed then, neither the engine nor the batch. Only where memory ran
+    ///   out half way the engine has failed: its next change returns `Failed`.
+    /// - `Io` with [`Error::io_kind`](crate::Error::io_kind) `StorageFull`, or another one that says that there is no room in a
+    ///   folder: the engine hasn't failed. If this batch found none, the engine has kept it, it is empty, and the next change
+    ///   writes it, such as this same call. If one found none that was written earlier, this batch is as it was.
+    /// - Any other `Io`, and `Failed`: the engine has failed, and the batch may be in the files or not.
     pub fn write(&self, batch: &mut LogBatch, sync: bool) -> Result<()> {
-        self.check_changeable("write")?;
+        self.check_writable("write")?;
         self.write_in_turn(batch, sync)
     }
 
-    /// Syncs the append queue: no crash takes away what was written before.
+    /// Syncs the append queue: once it returns `Ok`, no crash takes away what was written before the call.
     ///
     /// ```
     /// # use raft_recover::{Engine, LogBatch, MemoryFiles, Options};
@@ -50,35 +53,41 @@ impl<F: Files> Engine<F> {
     ///
     /// # Errors
     ///
-    /// `Memory`, `Io`, `Failed`: the engine has failed, but for `Memory`.
+    /// `InvalidArgument` where the engine is open for reading only; `Memory`. Nothing has changed then, unless the next change
+    /// returns `Failed`: then memory ran out half way, and the engine has failed. `Io`, `Failed`: the engine has failed, unless
+    /// the `Io` says that there is no room for what was written earlier.
     pub fn sync(&self) -> Result<()> {
-        self.check_changeable("sync")?;
+        self.check_writable("sync")?;
         self.write_in_turn(&mut LogBatch::new()?, true)
     }
 
-    /// Hands in a batch, with `sync` to be synced too, and waits until a thread has written it, this one or another.
+    /// Hands in a batch, and waits until a thread has written it, this one or another. `sync` says whether it is to be synced
+    /// too.
     ///
     /// # Errors
     ///
     /// Those of [`Engine::write`].
     fn write_in_turn(&self, batch: &mut LogBatch, sync: bool) -> Result<()> {
         self.check_intact()?;
-        self.tell_after(|| self.commits.write(batch, sync, |group| self.lead(group)))
+        self.tell_after(|| {
+            self.commits
+                .write(batch, sync, |group| self.lead_group(group))
+        })
     }
 
-    /// Writes the batches of all threads that wait, syncs once for those who want that, if its own is among them, and begins a file
-    /// where it is due.
-    fn lead(&self, group: &mut Group<'_>) {
+    /// Writes the batches of all threads that wait, syncs once for those that want it, if this thread's own batch is among them,
+    /// and begins a new append file where one is due. The result of each batch is noted with it.
+    fn lead_group(&self, group: &mut Group<'_>) {
         let turn = self.wait_for_turn();
         group.take_waiting();
         match turn {
             Ok(turn) => self.write_group(&turn, group),
-            Err(e) => group.end_with(&Err(e)),
+            Err(e) => group.finish_with(&Err(e)),
         }
     }
 
-    /// Writes the batches of a group in one turn, lets the threads go on that want no sync, and syncs for the others. What is
-    /// refused is noted with the batches.
+    /// Writes the batches of a group in one turn. Threads that want no sync may go on then; for the others it syncs, if the
+    /// leader is one of them. Then it begins a new append file, if that is due. The result of each batch is noted with it.
     fn write_group(&self, turn: &Turn<'_, F>, group: &mut Group<'_>) {
         let written = turn.call(|tables| {
             for commit in group.commits() {
@@ -88,12 +97,12 @@ impl<F: Files> Engine<F> {
         });
         locks::lock(&self.numbers).batches += group.count_written();
         if written.is_err() {
-            return group.end_with(&written);
+            return group.finish_with(&written);
         }
         group.release_unsynced();
         if group.is_sync_due() {
             let synced = turn.call(EngineHandle::sync);
-            group.end_with(&synced);
+            group.finish_with(&synced);
         }
         self.rotate_if_due(turn);
     }

@@ -1,11 +1,11 @@
-//! Items are added to a batch.
+//! Adds items to a batch.
 
 use super::{LogBatch, Shape};
 use crate::{Error, Message, Result};
 
 impl LogBatch {
-    /// Adds entries of a region: their bytes in the order of their indexes, which rise by one from `first` on. No entries add
-    /// nothing.
+    /// Adds an item with entries of a region, given as the bytes of each, which are copied. Their indexes rise by one from
+    /// `first` on. Nothing is added where there are no entries.
     ///
     /// ```
     /// # use raft_recover::LogBatch;
@@ -19,8 +19,8 @@ impl LogBatch {
     ///
     /// # Errors
     ///
-    /// `InvalidArgument` where the batch is no longer open or an index would be 2^64 - 1 or more, `Full` where the entry bytes
-    /// of the batch would pass 2^31 - 1, `Memory`.
+    /// `InvalidArgument` where the batch is no longer open, or an index would be 2^64 - 1 or more; `Full` where the entries of
+    /// the batch would have 2^31 bytes or more together; `Memory`. The batch is as it was then.
     pub fn add_entries<E: AsRef<[u8]>>(
         &mut self,
         region: u64,
@@ -36,7 +36,8 @@ impl LogBatch {
         self.add_packed(region, first)
     }
 
-    /// Adds messages as entries of a region, in the order of their indexes, which rise by one from `first` on.
+    /// Adds an item with entries of a region, given as messages, which are encoded. Their indexes rise by one from `first` on.
+    /// Nothing is added where there are no messages.
     ///
     /// ```
     /// # use raft_recover::LogBatch;
@@ -48,7 +49,8 @@ impl LogBatch {
     ///
     /// # Errors
     ///
-    /// `Message` where one can't be encoded; those of [`LogBatch::add_entries`].
+    /// `Message`, with the region and the index, for the first one that can't be encoded; those of [`LogBatch::add_entries`]. The
+    /// batch is as it was then.
     pub fn add_messages<M: Message>(
         &mut self,
         region: u64,
@@ -67,11 +69,11 @@ impl LogBatch {
         self.add_packed(region, first)
     }
 
-    /// Adds the entries that were packed, the first of them at the index `first`.
+    /// Adds an item with the entries that are packed in `room`, the first of them at the index `first`.
     ///
     /// # Errors
     ///
-    /// Those of [`LogBatch::add_entries`]. The batch is then as it was.
+    /// Those of [`LogBatch::add_entries`]. The batch is as it was then.
     fn add_packed(&mut self, region: u64, first: u64) -> Result<()> {
         let count = self.room.len() as u64;
         self.add_run(region, first, count, |batch| {
@@ -81,11 +83,12 @@ impl LogBatch {
         Ok(())
     }
 
-    /// Makes a call that adds `count` entries of a region, the first of them at the index `first`, and notes the shape of the item.
+    /// Adds an item with `count` entries of a region, the first of them at the index `first`, by the call `add`, and notes what
+    /// it does to the region.
     ///
     /// # Errors
     ///
-    /// Those of the call, and then nothing is noted.
+    /// Those of the call; `Memory`. Nothing is noted then.
     fn add_run(
         &mut self,
         region: u64,
@@ -102,7 +105,7 @@ impl LogBatch {
         Ok(())
     }
 
-    /// Adds that all records of a region go.
+    /// Adds an item that removes all records of a region.
     ///
     /// ```
     /// # use raft_recover::{Content, LogBatch};
@@ -114,7 +117,7 @@ impl LogBatch {
     ///
     /// # Errors
     ///
-    /// `InvalidArgument` where the batch is no longer open, `Memory`.
+    /// `InvalidArgument` where the batch is no longer open; `Memory`. The batch is as it was then.
     pub fn clean(&mut self, region: u64) -> Result<()> {
         self.shapes.reserve()?;
         self.handle.clean(region)?;
@@ -122,7 +125,7 @@ impl LogBatch {
         Ok(())
     }
 
-    /// Adds that the entries of a region below an index go.
+    /// Adds an item that removes the entries of a region below an index.
     ///
     /// ```
     /// # use raft_recover::{Content, LogBatch};
@@ -134,7 +137,7 @@ impl LogBatch {
     ///
     /// # Errors
     ///
-    /// `InvalidArgument` where the batch is no longer open, `Memory`.
+    /// `InvalidArgument` where the batch is no longer open; `Memory`. The batch is as it was then.
     pub fn compact(&mut self, region: u64, index: u64) -> Result<()> {
         self.shapes.reserve()?;
         self.handle.compact(region, index)?;
@@ -142,7 +145,7 @@ impl LogBatch {
         Ok(())
     }
 
-    /// Adds that the entries of a region from an index on go.
+    /// Adds an item that removes the entries of a region from an index on.
     ///
     /// ```
     /// # use raft_recover::{Content, LogBatch};
@@ -154,7 +157,7 @@ impl LogBatch {
     ///
     /// # Errors
     ///
-    /// `InvalidArgument` where the batch is no longer open, `Memory`.
+    /// `InvalidArgument` where the batch is no longer open; `Memory`. The batch is as it was then.
     pub fn truncate(&mut self, region: u64, index: u64) -> Result<()> {
         self.shapes.reserve()?;
         self.handle.truncate(region, index)?;
@@ -162,7 +165,7 @@ impl LogBatch {
         Ok(())
     }
 
-    /// Adds that a key of a region gets a value.
+    /// Adds an item that gives a key of a region a value. Both are copied.
     ///
     /// ```
     /// # use raft_recover::LogBatch;
@@ -175,7 +178,8 @@ impl LogBatch {
     ///
     /// # Errors
     ///
-    /// `InvalidArgument` where the batch is no longer open or the key is that of the group markers, `Memory`.
+    /// `InvalidArgument` where the batch is no longer open, or the key is that of the group markers, `__\x01`; `Memory`. The
+    /// batch is as it was then.
     pub fn put(&mut self, region: u64, key: &[u8], value: &[u8]) -> Result<()> {
         self.shapes.reserve()?;
         self.handle.put(region, key, value)?;
@@ -183,7 +187,7 @@ impl LogBatch {
         Ok(())
     }
 
-    /// Adds that a key of a region gets a message as its value.
+    /// Adds an item that gives a key of a region a message as its value, which is encoded.
     ///
     /// ```
     /// # use raft_recover::{Engine, LogBatch, MemoryFiles, Options};
@@ -197,7 +201,7 @@ impl LogBatch {
     ///
     /// # Errors
     ///
-    /// `Message` where it can't be encoded; those of [`LogBatch::put`].
+    /// `Message`, with the region, where the message can't be encoded; those of [`LogBatch::put`]. The batch is as it was then.
     pub fn put_message<M: Message>(&mut self, region: u64, key: &[u8], message: &M) -> Result<()> {
         let mut value = Vec::new();
         message.encode(&mut value).map_err(|e| {
@@ -207,7 +211,7 @@ impl LogBatch {
         self.put(region, key, &value)
     }
 
-    /// Adds that a key of a region goes.
+    /// Adds an item that removes a key of a region and its value.
     ///
     /// ```
     /// # use raft_recover::{Content, LogBatch};
@@ -219,7 +223,7 @@ impl LogBatch {
     ///
     /// # Errors
     ///
-    /// `InvalidArgument` where the batch is no longer open, `Memory`.
+    /// `InvalidArgument` where the batch is no longer open; `Memory`. The batch is as it was then.
     pub fn delete(&mut self, region: u64, key: &[u8]) -> Result<()> {
         self.shapes.reserve()?;
         self.handle.delete(region, key)?;

@@ -1,4 +1,4 @@
-//! What the items of a batch do to the entries of their regions.
+//! Knows what the items of a batch do to the entries of their regions, to find an item that doesn't fit.
 
 use crate::{Error, Result, Summary};
 use std::collections::BTreeMap;
@@ -7,22 +7,22 @@ use std::ops::Range;
 /// What an item does to the entries of its region.
 #[derive(Clone, Copy, Debug)]
 pub(super) enum Shape {
-    /// They go on with those from `first` on and below `end`.
+    /// Adds entries with the indexes from `first` on and below `end`, and removes those from `first` on that were there.
     Run { first: u64, end: u64 },
-    /// All go.
+    /// Removes all.
     Clean,
-    /// Those below the index go.
+    /// Removes those below the index.
     Compact(u64),
-    /// Those from the index on go.
+    /// Removes those from the index on.
     Truncate(u64),
-    /// None go and none come: the item is a key.
+    /// Changes none: the item puts or deletes a key.
     Pair,
 }
 
-/// Where the entries of a region begin and end, if it has some.
+/// The indexes of a region's entries, without the end; `None` where it has none.
 type Extent = Option<Range<u64>>;
 
-/// What the items of a batch do, in order, each with its region.
+/// The shapes of all items of a batch, in order, each with the region of the item.
 #[derive(Debug, Default)]
 pub(super) struct Shapes(Vec<(u64, Shape)>);
 
@@ -50,7 +50,7 @@ impl Shapes {
         self.0.try_reserve(more.len()).map_err(|_| Error::memory())
     }
 
-    /// Notes that an item of this shape was added behind the others.
+    /// Adds the shape of an item that was added to the batch.
     pub(super) fn note(&mut self, region: u64, shape: Shape) {
         self.0.push((region, shape));
     }
@@ -60,15 +60,16 @@ impl Shapes {
         self.0.append(&mut more.0);
     }
 
-    /// Forgets all items.
+    /// Removes all shapes.
     pub(super) fn clear(&mut self) {
         self.0.clear();
     }
 
-    /// Finds the first item whose entries leave a hole behind those of their region, or begin below them, if the items before
-    /// it are applied: its number from 0 on, its region, and its first index; `None` if all fit. Only regions for which
-    /// `is_tested` holds are looked at; `summary` finds what a region had before all items.
-    pub(super) fn find_misfit(
+    /// Finds the first item that would be refused: its entries leave a hole behind those of their region, or begin below them, as
+    /// these are once all items before it are applied. Returns its position from 0 on, its region, and the index of its first
+    /// entry; `None` if all items fit. Only regions for which `is_tested` is true are looked at. `summary` returns what a region
+    /// has before the batch.
+    pub(super) fn find_refused_item(
         &self,
         is_tested: impl Fn(u64) -> bool,
         mut summary: impl FnMut(u64) -> Option<Summary>,
@@ -80,7 +81,7 @@ impl Shapes {
             let now = extents
                 .entry(*region)
                 .or_insert_with(|| extent_of(summary(*region)));
-            let misfit = shape.misfit_index(now);
+            let misfit = shape.refused_index(now);
             *now = shape.extent_after(now);
             misfit.map(|index| (item, *region, index))
         })
@@ -88,9 +89,9 @@ impl Shapes {
 }
 
 impl Shape {
-    /// Returns the first index of the item's entries where they don't fit `extent`, where those of its region are; `None` where they
-    /// fit, or it has none.
-    fn misfit_index(self, extent: &Extent) -> Option<u64> {
+    /// Returns the index of the item's first entry, if its entries don't fit `extent`, the indexes that its region has; `None` if
+    /// they do, or the item has no entries.
+    fn refused_index(self, extent: &Extent) -> Option<u64> {
         match (self, extent) {
             (Shape::Run { first, .. }, Some(extent)) => {
                 let fits = (extent.start..=extent.end).contains(&first);
@@ -100,7 +101,7 @@ impl Shape {
         }
     }
 
-    /// Returns where a region's entries are behind the item, which were at `extent` in front of it.
+    /// Returns the indexes that a region has once the item is applied. Before it has those of `extent`.
     fn extent_after(self, extent: &Extent) -> Extent {
         let extent = extent.clone();
         let kept = match self {
@@ -114,7 +115,7 @@ impl Shape {
     }
 }
 
-/// Returns where the entries of a region begin and end by its summary; `None` where there is none, or it has no entries.
+/// Returns the indexes of a region's entries by its summary; `None` where there is no summary, or it has no entries.
 fn extent_of(summary: Option<Summary>) -> Extent {
     let summary = summary?;
     let first = summary.first_index?;

@@ -13,10 +13,10 @@
 /// ```
 #[derive(Clone, Copy, PartialEq, Eq, PartialOrd, Ord, Hash, Debug)]
 pub enum Stage {
-    /// Items may be added.
+    /// Items can be added.
     Open,
-    /// Its bytes are made.
+    /// The bytes are made, and no items can be added.
     Encoded,
-    /// Its bytes are signed for a file.
+    /// The bytes are made, and signed for a file.
     Signed,
 }

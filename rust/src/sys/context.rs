@@ -1,10 +1,11 @@
-//! The handle of a context.
+//! Handles of contexts.
 
-use super::{File, Handle, Status, TablesHandle, check_call, memory_result};
+use super::{File, Handle, Status, TablesHandle, check_call, check_memory};
 use crate::{FilePart, Kept, Queue, Result};
 use std::cell::Cell;
 use std::mem;
 
+/// A [`Kept`] as the library fills it in.
 #[repr(C)]
 #[derive(Clone, Copy, Default)]
 struct KeptNumbers {
@@ -22,8 +23,8 @@ unsafe extern "C" {
     fn raft_ffi_context_new(context: *mut Handle) -> u32;
     /// Replays `bytes`, batches that stand in `file` from `offset` on. The code is 0; that of the
     /// error if a batch can't be read or can't follow those before it; 12 (`Failed`), if the
-    /// context doesn't read on; or 11 (`Memory`). After an error the context is gone: it may have
-    /// taken in some of the batches.
+    /// context doesn't read on; or 11 (`Memory`). After an error `context` is empty: what it held
+    /// may have taken in some of the batches, and is dropped.
     fn raft_ffi_context_replay(
         context: *mut Handle,
         file: File,
@@ -33,9 +34,9 @@ unsafe extern "C" {
         text: *mut u8,
         text_len: usize,
     ) -> Status;
-    /// Takes in `newer`, the context of the batches that follow in the same queue, and which is
-    /// gone then. The code is 0, or that of the error: 12 (`Failed`), if one of both doesn't read
-    /// on. After an error the context is gone too.
+    /// Takes in `newer`, the context of the batches that follow in the same queue. `newer` is gone
+    /// then. The code is 0, or that of the error: 12 (`Failed`), if one of both doesn't read on.
+    /// After an error `context` is empty.
     fn raft_ffi_context_merge(
         context: *mut Handle,
         newer: Handle,
@@ -43,10 +44,10 @@ unsafe extern "C" {
         text: *mut u8,
         text_len: usize,
     ) -> Status;
-    /// Takes in `append`, the context of the append queue, which is gone then; `context` is that of
-    /// the rewrite queue. The code is 0, or that of the error: 12 (`Failed`), if one of both
+    /// Takes in `append`, the context of the append queue; `context` is that of the rewrite queue.
+    /// `append` is gone then. The code is 0, or that of the error: 12 (`Failed`), if one of both
     /// doesn't read on, or 11 (`Memory`), the only one if they are contexts of the two queues.
-    /// After an error the context is gone too.
+    /// After an error `context` is empty.
     fn raft_ffi_context_overlay(
         context: *mut Handle,
         append: Handle,
@@ -54,7 +55,7 @@ unsafe extern "C" {
         text_len: usize,
     ) -> Status;
     /// Sets `kept` to how much a context holds. The code is 0, or 12 (`Failed`) for a context that
-    /// failed. The context is unchanged.
+    /// failed: `kept` isn't set then. The context is unchanged.
     fn raft_ffi_context_kept(
         context: *mut Handle,
         kept: *mut KeptNumbers,
@@ -74,7 +75,7 @@ unsafe extern "C" {
     fn raft_ffi_context_drop(context: Handle);
 }
 
-/// Holds a context.
+/// Owns a context of the library.
 #[derive(Debug)]
 pub(crate) struct ContextHandle(Handle);
 
@@ -86,22 +87,22 @@ impl ContextHandle {
     pub(crate) fn new() -> Result<ContextHandle> {
         let mut handle = Handle::EMPTY;
         // SAFETY: `empty`: the handle is empty.
-        memory_result(unsafe { raft_ffi_context_new(&mut handle) })?;
+        check_memory(unsafe { raft_ffi_context_new(&mut handle) })?;
         Ok(ContextHandle(handle))
     }
 
-    /// Gives the library's handle away, which is to be freed by someone else.
+    /// Returns the library's handle. Its value has to be freed by the caller, or given to the library.
     pub(super) fn into_raw(self) -> Handle {
         let handle = self.0;
         mem::forget(self);
         handle
     }
 
-    /// Replays the batches of a part.
+    /// Replays the batches of a part, which follow those that were replayed before, and returns the context.
     ///
     /// # Errors
     ///
-    /// The refusal of the first batch that is refused. The context is then gone.
+    /// That of the first batch that can't be read or can't follow those before it; `Memory`. The context is lost then.
     pub(crate) fn replay(self, part: FilePart<'_>) -> Result<ContextHandle> {
         part.check_end()?;
         let mut handle = self.into_raw();
@@ -121,11 +122,11 @@ impl ContextHandle {
         Ok(ContextHandle(handle))
     }
 
-    /// Takes in the context of the batches that follow.
+    /// Merges the context `newer`, of the batches that follow in the queue `queue`, into this one, and returns that.
     ///
     /// # Errors
     ///
-    /// Those of [`Context::merge`](crate::Context::merge). Both contexts are then gone.
+    /// Those of [`Context::merge`](crate::Context::merge). Both contexts are lost then.
     pub(crate) fn merge(self, newer: ContextHandle, queue: Queue) -> Result<ContextHandle> {
         let (mut handle, newer) = (self.into_raw(), newer.into_raw());
         // SAFETY: `held`, `newer`: both handles hold a context, and the newer one is given away. After a refusal the
@@ -136,11 +137,11 @@ impl ContextHandle {
         Ok(ContextHandle(handle))
     }
 
-    /// Takes in the context of the append queue over this one, that of the rewrite queue.
+    /// Puts the context of the append queue over this one, that of the rewrite queue, and returns the context of both.
     ///
     /// # Errors
     ///
-    /// Those of the library. Both contexts are then gone.
+    /// Those of [`Context::overlay`](crate::Context::overlay). Both contexts are lost then.
     pub(crate) fn overlay(self, append: ContextHandle) -> Result<ContextHandle> {
         let (mut handle, append) = (self.into_raw(), append.into_raw());
         // SAFETY: `held`, `append`: both handles hold a context, and the second one is given away. After a refusal
@@ -155,7 +156,7 @@ impl ContextHandle {
     ///
     /// # Errors
     ///
-    /// `Failed` after a refusal.
+    /// `Failed` where the context has failed. It is unchanged.
     pub(crate) fn count_kept(&mut self) -> Result<Kept> {
         let mut kept = KeptNumbers::default();
         // SAFETY: `held`: the handle holds a context, before and after.
@@ -172,11 +173,11 @@ impl ContextHandle {
         })
     }
 
-    /// Makes the tables of what was read.
+    /// Returns the tables of what was read.
     ///
     /// # Errors
     ///
-    /// `Failed` after a refusal, `Memory`. The context is then gone.
+    /// `Failed` where the context has failed; `Memory`. The context is lost then.
     pub(crate) fn finish(self) -> Result<TablesHandle> {
         let context = self.into_raw();
         let mut handle = Handle::EMPTY;

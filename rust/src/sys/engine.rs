@@ -1,4 +1,4 @@
-//! The handle of an engine.
+//! Handles of engines.
 
 use super::engine_calls::{
     OrderNumbers, PlaceNumbers, raft_ffi_block_entries, raft_ffi_engine_drop,
@@ -12,32 +12,33 @@ use super::engine_calls::{
 };
 use super::{
     EntryNumbers, Handle, LogBatchHandle, PackedPairs, Status, SummaryNumbers, check_call,
-    entries_of, list, list_in, list_packed_pairs, make_room, memory_result,
+    check_memory, list, list_packed_pairs, list_with_room, make_room, to_entries,
 };
 use crate::{Block, Entry, FileId, Queue, Result, Summary};
 use std::mem;
 use std::ops::Range;
 use std::sync::Arc;
 
-/// How many bytes most values have at most. A value that isn't longer is copied by one call.
+/// How much room, in bytes, the first call for a value has. A value that isn't longer, as most aren't, is copied by one
+/// call.
 const MOST_VALUES: usize = 64;
 
-/// What is to be done to the files of a queue.
+/// A change that is to be made to the files of a queue.
 #[derive(Debug)]
 pub(crate) enum Order {
-    /// The bytes are to be written at the end of the last file.
+    /// Write the bytes at the end of the last file.
     Write(Queue, Arc<Vec<u8>>),
-    /// The file is to be begun, behind the last one of its queue.
+    /// Make the file, which becomes the last one of its queue.
     Begin(FileId),
-    /// All that was ordered of the queue is to be safe from a crash.
+    /// Make all that was done to the queue safe from a crash.
     Sync(Queue),
-    /// The oldest file of the queue is to be deleted.
+    /// Delete the oldest file of the queue.
     DeleteOldest(Queue),
-    /// The last file of the queue is to be cut to a length in bytes, if it is longer.
+    /// Cut the last file of the queue to a length in bytes, if it is longer.
     Cut(Queue, u64),
 }
 
-/// Holds an engine.
+/// Owns an engine of the library: tables, and orders of changes of its files.
 #[derive(Debug)]
 pub(crate) struct EngineHandle {
     handle: Handle,
@@ -49,27 +50,28 @@ pub(crate) struct EngineHandle {
 unsafe impl Send for EngineHandle {}
 
 impl EngineHandle {
-    /// Holds the engine of a handle that isn't empty.
-    pub(super) fn of(handle: Handle) -> EngineHandle {
+    /// Makes the owner of the engine that a handle holds. The handle isn't empty.
+    pub(super) fn from_raw(handle: Handle) -> EngineHandle {
         EngineHandle {
             handle,
             next_order: 0,
         }
     }
 
-    /// Tests whether every batch whose bytes were ordered was applied.
+    /// Tests whether the engine takes further calls: every batch whose bytes were ordered was also applied to the
+    /// tables.
     pub(crate) fn is_intact(&mut self) -> bool {
         // SAFETY: `held`: the handle holds an engine.
         unsafe { raft_ffi_engine_is_intact(&mut self.handle) }
     }
 
-    /// Writes an open batch to the tables, which order its bytes of the files. The batch is empty
-    /// then.
+    /// Applies an open batch to the tables, and orders that its bytes are written to the last append file. The batch is
+    /// empty and open then.
     ///
     /// # Errors
     ///
-    /// `InvalidArgument` for a batch that isn't open, and those of the library. The batch is then
-    /// as it was, unless the engine isn't intact any more.
+    /// `InvalidArgument` for a batch that isn't open; those of the library. Engine and batch are as they were then,
+    /// unless the engine isn't intact any more.
     pub(crate) fn write(&mut self, batch: &mut LogBatchHandle) -> Result<()> {
         batch.check_open()?;
         // SAFETY: `held`, `batch`, `open`: the handles hold an engine and an open batch.
@@ -82,17 +84,18 @@ impl EngineHandle {
     ///
     /// # Errors
     ///
-    /// `Failed`; `Full` or `Memory` where no further order can be kept.
+    /// `Failed` where the engine isn't intact; `Full` or `Memory` where no further order can be kept: the engine isn't
+    /// intact then.
     pub(crate) fn sync(&mut self) -> Result<()> {
         // SAFETY: `held`: the handle holds an engine.
         self.call(|engine, text, text_len| unsafe { raft_ffi_engine_sync(engine, text, text_len) })
     }
 
-    /// Orders that the next append file is begun.
+    /// Orders that the last append file is synced, and the next one begun.
     ///
     /// # Errors
     ///
-    /// `Failed`, `Full` where no number is left, `Memory`.
+    /// `Failed` where the engine isn't intact; `Full` where no number of a file or of an order is left; `Memory`.
     pub(crate) fn rotate(&mut self) -> Result<()> {
         // SAFETY: `held`: the handle holds an engine.
         self.call(|engine, text, text_len| unsafe {
@@ -100,13 +103,13 @@ impl EngineHandle {
         })
     }
 
-    /// Moves what append files up to the gate have to the rewrite queue, and lets go of the lent
-    /// blocks.
+    /// Moves all records that the tables have in append files numbered at or below `gate` to the rewrite queue, and
+    /// drops the lent blocks.
     ///
     /// # Errors
     ///
-    /// `TryAgain` where a block isn't lent, and those of the library. Some regions may then have
-    /// moved.
+    /// `TryAgain` where a block has to be read that isn't lent; those of the library. The records of some regions may
+    /// have moved then.
     pub(crate) fn rewrite(&mut self, gate: u64) -> Result<()> {
         // SAFETY: `held`: the handle holds an engine.
         self.call(|engine, text, text_len| unsafe {
@@ -114,12 +117,12 @@ impl EngineHandle {
         })
     }
 
-    /// Moves what rewrite files have to a new one, and lets go of the lent blocks.
+    /// Moves all records that the tables have in rewrite files to new ones, and drops the lent blocks.
     ///
     /// # Errors
     ///
-    /// `TryAgain` where a block isn't lent, and those of the library. Some regions may then have
-    /// moved.
+    /// `TryAgain` where a block has to be read that isn't lent; those of the library. The records of some regions may
+    /// have moved then.
     pub(crate) fn rewrite_again(&mut self) -> Result<()> {
         // SAFETY: `held`: the handle holds an engine.
         self.call(|engine, text, text_len| unsafe {
@@ -127,12 +130,12 @@ impl EngineHandle {
         })
     }
 
-    /// Orders that the append files go that no table needs, and returns how many.
+    /// Orders that the append files which no table needs are deleted, and returns how many.
     ///
     /// # Errors
     ///
-    /// `Failed`; `Full` where what is to be told before has 2^56 bytes or more, or the last rewrite
-    /// file more than 2^63; `Memory`.
+    /// `Failed` where the engine isn't intact; `Full` where 2^56 bytes or more would have to be written to the rewrite
+    /// queue before, or its last file has more than 2^63 bytes; `Memory`.
     pub(crate) fn purge_expired_files(&mut self) -> Result<usize> {
         let mut count = 0;
         // SAFETY: `held`: the handle holds an engine.
@@ -142,12 +145,12 @@ impl EngineHandle {
         Ok(count)
     }
 
-    /// Orders that the rewrite files go that no table needs, and returns how many.
+    /// Orders that the rewrite files which no table needs are deleted, and returns how many.
     ///
     /// # Errors
     ///
-    /// `Failed`; `Full` where what is to be told before has 2^56 bytes or more, or the last rewrite
-    /// file more than 2^63; `Memory`.
+    /// `Failed` where the engine isn't intact; `Full` where 2^56 bytes or more would have to be written to the rewrite
+    /// queue before, or its last file has more than 2^63 bytes; `Memory`.
     pub(crate) fn purge_rewrite_files(&mut self) -> Result<usize> {
         let mut count = 0;
         // SAFETY: `held`: the handle holds an engine.
@@ -157,17 +160,17 @@ impl EngineHandle {
         Ok(count)
     }
 
-    /// Makes a call on the engine, with room for the text of its refusal.
+    /// Makes a call of the library on the engine. The call gets the handle, and room for the text of its error.
     ///
     /// # Errors
     ///
-    /// The refusal.
+    /// The error of the call.
     fn call(&mut self, call: impl FnOnce(*mut Handle, *mut u8, usize) -> Status) -> Result<()> {
         check_call(|text, text_len| call(&mut self.handle, text, text_len))
     }
 
-    /// Takes all orders, in order. Bytes that follow one another in a queue come in one. The only
-    /// error is `Memory`.
+    /// Takes all orders, and returns them in their order. Orders that follow one another and write to the same queue
+    /// become one. The only error is `Memory`.
     pub(crate) fn take_orders(&mut self) -> Result<Vec<Order>> {
         let mut orders = Vec::new();
         let mut none = Vec::new();
@@ -180,7 +183,7 @@ impl EngineHandle {
             let Some(order) = self.take_order(bytes)? else {
                 return Ok(orders);
             };
-            let queue = queue_of(order.is_rewrite);
+            let queue = queue_from_flag(order.is_rewrite);
             match (order.kind, orders.last_mut()) {
                 (0, Some(Order::Write(last, _))) if *last == queue => {}
                 (0, Some(Order::Write(_, bytes))) => {
@@ -196,8 +199,8 @@ impl EngineHandle {
         }
     }
 
-    /// Takes the oldest order, and puts its bytes behind those of `bytes`; `None` where no order waits. The only error is `Memory`.
-    /// The order is then not taken.
+    /// Takes the oldest order, and appends the bytes that it writes to `bytes`; `None` where no order waits. The only
+    /// error is `Memory`: the order still waits then.
     fn take_order(&mut self, bytes: &mut Vec<u8>) -> Result<Option<OrderNumbers>> {
         let len = bytes.len();
         loop {
@@ -229,8 +232,9 @@ impl EngineHandle {
         }
     }
 
-    /// Lists the blocks that a rewriting up to the file `gate` reads, or without a gate one of rewritten records: those of whole
-    /// regions, until they have `max_size` bytes. The only error is `Memory`.
+    /// Returns the places of the blocks that the next call to move records reads: with a `gate` those of append files
+    /// numbered at or below it, without one those of rewrite files. They are those of whole regions, until they have
+    /// `max_size` bytes. The only error is `Memory`.
     pub(crate) fn moving_blocks(
         &mut self,
         gate: Option<u64>,
@@ -238,7 +242,7 @@ impl EngineHandle {
     ) -> Result<Vec<Block>> {
         let places = list(|room, len, count| {
             // SAFETY: `held`: the handle holds an engine.
-            memory_result(unsafe {
+            check_memory(unsafe {
                 raft_ffi_engine_moving_blocks(
                     &mut self.handle,
                     gate.into(),
@@ -252,12 +256,12 @@ impl EngineHandle {
         Ok(places.into_iter().map(Block::from).collect())
     }
 
-    /// Lends the bytes of a block to the next call that moves records. They are copied. The only
-    /// error is `Memory`.
+    /// Lends the bytes of a block to the next call that moves records. The library copies them. The only error is
+    /// `Memory`.
     pub(crate) fn lend(&mut self, block: Block, bytes: &[u8]) -> Result<()> {
         let is_rewrite = block.file.queue == Queue::Rewrite;
         // SAFETY: `held`: the handle holds an engine.
-        memory_result(unsafe {
+        check_memory(unsafe {
             raft_ffi_engine_lend(
                 &mut self.handle,
                 is_rewrite,
@@ -269,12 +273,12 @@ impl EngineHandle {
         })
     }
 
-    /// Returns the value of a region's key, `None` where it has none. The only error is `Memory`.
+    /// Returns a copy of the value of a region's key; `None` where it has none. The only error is `Memory`.
     pub(crate) fn value(&mut self, region: u64, key: &[u8]) -> Result<Option<Vec<u8>>> {
         let mut is_found = false;
         let mut room = Vec::new();
         make_room(&mut room, MOST_VALUES)?;
-        let value = list_in(room, |room, len, count| {
+        let value = list_with_room(room, |room, len, count| {
             // SAFETY: `held`: the handle holds an engine.
             is_found = unsafe {
                 raft_ffi_engine_value(
@@ -292,8 +296,8 @@ impl EngineHandle {
         Ok(is_found.then_some(value))
     }
 
-    /// Lists the keys of a region from `start` on and, with an `end`, below it, with their values,
-    /// in order. The only error is `Memory`.
+    /// Returns the keys of a region from `start` on and, with an `end`, below it, with their values, in the order of
+    /// the keys. The only error is `Memory`.
     pub(crate) fn scan(
         &mut self,
         region: u64,
@@ -303,7 +307,7 @@ impl EngineHandle {
         let (is_bounded, end) = (end.is_some(), end.unwrap_or_default());
         list_packed_pairs(|lens, lens_len, count, bytes, bytes_len, len| {
             // SAFETY: `held`: the handle holds an engine.
-            memory_result(unsafe {
+            check_memory(unsafe {
                 raft_ffi_engine_scan(
                     &mut self.handle,
                     region,
@@ -323,7 +327,7 @@ impl EngineHandle {
         })
     }
 
-    /// Returns what a region's table has, `None` where there is none.
+    /// Returns how many records the table of a region has, and which files it needs; `None` where there is no table.
     pub(crate) fn summary(&mut self, region: u64) -> Option<Summary> {
         let mut summary = SummaryNumbers::default();
         // SAFETY: `held`: the handle holds an engine.
@@ -331,7 +335,7 @@ impl EngineHandle {
         is_found.then(|| summary.into())
     }
 
-    /// Returns the least index of a region's entries, `None` without entries.
+    /// Returns the least index of a region's entries; `None` where it has no entries.
     pub(crate) fn first_index(&mut self, region: u64) -> Option<u64> {
         let mut index = 0;
         // SAFETY: `held`: the handle holds an engine.
@@ -339,7 +343,7 @@ impl EngineHandle {
         is_found.then_some(index)
     }
 
-    /// Returns the greatest index of a region's entries, `None` without entries.
+    /// Returns the greatest index of a region's entries; `None` where it has no entries.
     pub(crate) fn last_index(&mut self, region: u64) -> Option<u64> {
         let mut index = 0;
         // SAFETY: `held`: the handle holds an engine.
@@ -356,11 +360,13 @@ impl EngineHandle {
         is_found.then(|| entry.into())
     }
 
-    /// Lists the entries of a range of a region's indexes, up to `max_size` bytes, if that is given.
+    /// Returns the entries of a range of a region's indexes with their places, in order. With a `max_size` these are
+    /// the first ones, as many as have at most so many bytes together; the first one that has bytes is returned
+    /// whatever its size.
     ///
     /// # Errors
     ///
-    /// `EntryCompacted` or `EntryNotFound` where the range isn't there, `Memory`.
+    /// `EntryCompacted` or `EntryNotFound` where the region doesn't have all of a range that isn't empty; `Memory`.
     pub(crate) fn entries(
         &mut self,
         region: u64,
@@ -384,18 +390,18 @@ impl EngineHandle {
                 )
             })
         })?;
-        Ok(entries_of(list))
+        Ok(to_entries(list))
     }
 
-    /// Lists the regions that have a table, in rising order. The only error is `Memory`.
+    /// Returns the numbers of the regions that have a table, in rising order. The only error is `Memory`.
     pub(crate) fn regions(&mut self) -> Result<Vec<u64>> {
         list(|room, len, count| {
             // SAFETY: `held`: the handle holds an engine.
-            memory_result(unsafe { raft_ffi_engine_regions(&mut self.handle, room, len, count) })
+            check_memory(unsafe { raft_ffi_engine_regions(&mut self.handle, room, len, count) })
         })
     }
 
-    /// Counts the live records of a queue.
+    /// Returns how many records are live in a queue.
     pub(crate) fn count_live(&mut self, queue: Queue) -> usize {
         // SAFETY: `held`: the handle holds an engine.
         unsafe { raft_ffi_engine_live(&mut self.handle, queue == Queue::Rewrite) }
@@ -412,15 +418,15 @@ impl Drop for EngineHandle {
 impl From<PlaceNumbers> for Block {
     fn from(place: PlaceNumbers) -> Block {
         Block {
-            file: FileId::new(queue_of(place.is_rewrite), place.seq),
+            file: FileId::new(queue_from_flag(place.is_rewrite), place.seq),
             offset: place.offset,
             len: place.len,
         }
     }
 }
 
-/// Returns the queue that a flag names.
-fn queue_of(is_rewrite: bool) -> Queue {
+/// Returns the rewrite queue if `is_rewrite` is true, else the append queue.
+fn queue_from_flag(is_rewrite: bool) -> Queue {
     if is_rewrite {
         Queue::Rewrite
     } else {
@@ -428,13 +434,13 @@ fn queue_of(is_rewrite: bool) -> Queue {
     }
 }
 
-/// Tests the checksum of a whole entry block, and returns how many of its bytes, from the first on,
-/// are entry bytes: none of one without bytes.
+/// Checks a whole entry block against its checksum, and returns how many of its bytes, from the first one on, are entry
+/// bytes: 0 for a block without bytes.
 ///
 /// # Errors
 ///
-/// `Corruption` where it has one to four bytes, or the checksum is another; `Memory`.
-pub(crate) fn block_entries(bytes: &[u8]) -> Result<usize> {
+/// `Corruption` where it has one to four bytes, or the checksum is another one; `Memory`.
+pub(crate) fn check_entry_block(bytes: &[u8]) -> Result<usize> {
     let mut len = 0;
     // SAFETY: the bytes are lent for the call.
     check_call(|text, text_len| unsafe {

@@ -1,23 +1,29 @@
-//! The handle of the items of a batch.
+//! Handles of the items of a batch.
 
-use super::{EntryNumbers, File, Handle, Status, check_call, entries_of, list_found, with_handle};
+use super::{
+    EntryNumbers, File, Handle, Status, check_call, list_if_found, to_entries, with_handle,
+};
 use crate::{Content, Entry, FilePart, Item, Result};
 use std::cell::Cell;
 use std::mem;
 
+/// An item without its lists, as the library fills it in.
 #[repr(C)]
 #[derive(Clone, Copy, Default)]
 struct ItemHead {
     region: u64,
+    /// The index of a `Compact` or a `Truncate`.
     number: u64,
+    /// What it does, from 0 on in the order of the variants of [`Content`].
     kind: u32,
 }
 
 unsafe extern "C" {
-    /// Reads the items of the log batch at `at` of `bytes` into `items`, which is empty before, and
-    /// sets `next` to where the next batch begins; `bytes` stand in `file` from `offset` on. If
-    /// `at` is the end of `bytes`, `items` stays empty and `next` isn't set. The code is 0, or that
-    /// of the error for a batch that can't be read, or 11 (`Memory`): `items` stays empty then.
+    /// Reads the items of the log batch at position `at` of `bytes` into `items`, which is empty
+    /// before, and sets `next` to the position where the next batch begins; `bytes` stand in `file`
+    /// from `offset` on. If `at` is the end of `bytes`, `items` stays empty and `next` isn't set.
+    /// The code is 0, or that of the error for a batch that can't be read, or 11 (`Memory`):
+    /// `items` stays empty then.
     fn raft_ffi_items_next(
         items: *mut Handle,
         file: File,
@@ -31,10 +37,12 @@ unsafe extern "C" {
     ) -> Status;
     /// Returns how many items there are.
     fn raft_ffi_items_len(items: *mut Handle) -> usize;
-    /// Returns whether there is an item `i`, from 0 on, and sets `head` to what it says.
+    /// Returns whether there is an item `i`, counted from 0. If there is one, `head` is set to what
+    /// it says.
     fn raft_ffi_items_head(items: *mut Handle, i: usize, head: *mut ItemHead) -> bool;
-    /// Returns whether item `i` is one of entries, lists as many of them in `entries` as there is
-    /// room for, and sets `count` to how many there are.
+    /// Returns whether there is an item `i`, counted from 0, and it is one of entries. If so, as
+    /// many of them as there is room for are listed in `entries`, and `count` is set to how many
+    /// there are, which may be more.
     fn raft_ffi_items_entries(
         items: *mut Handle,
         i: usize,
@@ -42,8 +50,9 @@ unsafe extern "C" {
         entries_len: usize,
         count: *mut usize,
     ) -> bool;
-    /// Returns whether item `i` changes a key, copies as many bytes of the key into `key` as there
-    /// is room for, and sets `len` to how many it has.
+    /// Returns whether there is an item `i`, counted from 0, and it changes a key. If so, as many
+    /// bytes of the key as there is room for are copied into `key`, and `len` is set to how many it
+    /// has, which may be more.
     fn raft_ffi_items_key(
         items: *mut Handle,
         i: usize,
@@ -51,8 +60,9 @@ unsafe extern "C" {
         key_len: usize,
         len: *mut usize,
     ) -> bool;
-    /// Returns whether item `i` puts a value, copies as many bytes of the value into `value` as
-    /// there is room for, and sets `len` to how many it has.
+    /// Returns whether there is an item `i`, counted from 0, and it puts a value. If so, as many
+    /// bytes of the value as there is room for are copied into `value`, and `len` is set to how
+    /// many it has, which may be more.
     fn raft_ffi_items_value(
         items: *mut Handle,
         i: usize,
@@ -64,7 +74,7 @@ unsafe extern "C" {
     fn raft_ffi_items_drop(items: Handle);
 }
 
-/// Holds the items of a batch.
+/// Owns the items of a batch, in the library.
 #[derive(Debug)]
 pub(crate) struct ItemsHandle(pub(super) Cell<Handle>);
 
@@ -72,13 +82,16 @@ pub(crate) struct ItemsHandle(pub(super) Cell<Handle>);
 unsafe impl Send for ItemsHandle {}
 
 impl ItemsHandle {
-    /// Reads the batch that stands at `at` in a part, and returns its items, and where the next
-    /// batch begins; `None` at the end.
+    /// Reads the batch that stands at byte `at` of a part, and returns its items, and where the
+    /// next batch begins; `None` at the end of the part. Panics if `at` is past the end.
     ///
     /// # Errors
     ///
-    /// The reason why no batch can be read there, with its place; `Memory`.
-    pub(crate) fn next(part: FilePart<'_>, at: usize) -> Result<Option<(ItemsHandle, usize)>> {
+    /// The reason why no batch can be read there; `Memory`.
+    pub(crate) fn read_batch_at(
+        part: FilePart<'_>,
+        at: usize,
+    ) -> Result<Option<(ItemsHandle, usize)>> {
         part.check_end()?;
         assert!(at <= part.bytes.len(), "no batch stands behind the end");
         if at == part.bytes.len() {
@@ -103,7 +116,8 @@ impl ItemsHandle {
         Ok(Some((ItemsHandle(Cell::new(handle)), next)))
     }
 
-    /// Gives the library's handle away, which is to be freed by someone else.
+    /// Returns the library's handle. Its value has to be freed by the caller, or given to the
+    /// library.
     pub(super) fn into_raw(self) -> Handle {
         let handle = self.0.get();
         mem::forget(self);
@@ -116,14 +130,15 @@ impl ItemsHandle {
         with_handle(&self.0, |items| unsafe { raft_ffi_items_len(items) })
     }
 
-    /// Returns the region of the item at a position, `None` behind the last one.
+    /// Returns the region of the item at position `i`; `None` behind the last item.
     pub(crate) fn region(&self, i: usize) -> Option<u64> {
-        Some(self.head(i)?.region)
+        Some(self.item_head(i)?.region)
     }
 
-    /// Returns the item at a position, copied out of the library; `None` behind the last one.
+    /// Returns a copy of the item at position `i`; `None` behind the last item. It panics where the
+    /// item has an entry without a place.
     pub(crate) fn item(&self, i: usize) -> Option<Item> {
-        let head = self.head(i)?;
+        let head = self.item_head(i)?;
         let index = head.number;
         Some(Item {
             region: head.region,
@@ -141,8 +156,8 @@ impl ItemsHandle {
         })
     }
 
-    /// Returns what the item at a position says, without its lists; `None` behind the last one.
-    fn head(&self, i: usize) -> Option<ItemHead> {
+    /// Returns the item at position `i` without its lists; `None` behind the last item.
+    fn item_head(&self, i: usize) -> Option<ItemHead> {
         let mut head = ItemHead::default();
         // SAFETY: `held`: the handle holds items.
         let is_found = with_handle(&self.0, |items| unsafe {
@@ -151,20 +166,20 @@ impl ItemsHandle {
         is_found.then_some(head)
     }
 
-    /// Returns the entries of an item that is known to have a list of them.
+    /// Returns the entries of the item at position `i`, which has to be one of entries.
     fn entries(&self, i: usize) -> Vec<Entry> {
-        let list = list_found(|room, len, count| {
+        let list = list_if_found(|room, len, count| {
             // SAFETY: `held`: the handle holds items.
             with_handle(&self.0, |items| unsafe {
                 raft_ffi_items_entries(items, i, room, len, count)
             })
         });
-        entries_of(list.expect("an item of entries has entries"))
+        to_entries(list.expect("an item of entries has entries"))
     }
 
-    /// Returns the key of an item that is known to change one.
+    /// Returns the key of the item at position `i`, which has to change a key.
     fn key(&self, i: usize) -> Vec<u8> {
-        list_found(|room, len, count| {
+        list_if_found(|room, len, count| {
             // SAFETY: `held`: the handle holds items.
             with_handle(&self.0, |items| unsafe {
                 raft_ffi_items_key(items, i, room, len, count)
@@ -173,9 +188,9 @@ impl ItemsHandle {
         .expect("a change of a key has a key")
     }
 
-    /// Returns the value of an item that is known to put one.
+    /// Returns the value of the item at position `i`, which has to put a key.
     fn value(&self, i: usize) -> Vec<u8> {
-        list_found(|room, len, count| {
+        list_if_found(|room, len, count| {
             // SAFETY: `held`: the handle holds items.
             with_handle(&self.0, |items| unsafe {
                 raft_ffi_items_value(items, i, room, len, count)

@@ -1,9 +1,10 @@
-//! Lists that a call of the library finds.
+//! Lists that a call of the library fills in.
 
 use crate::{Error, Pair, Result};
 use std::alloc::{Layout, handle_alloc_error};
 
-/// Lists what a call finds: it gets room, puts as much there as fits, and says how much there is.
+/// Returns the list that a call fills in. The call gets room, a pointer and a length, puts as much of the list there as fits, and
+/// sets a count to how long the whole list is. Where it is longer than the room the call is made again, with more room.
 ///
 /// # Errors
 ///
@@ -11,15 +12,16 @@ use std::alloc::{Layout, handle_alloc_error};
 pub(super) fn list<T: Copy + Default>(
     call: impl FnMut(*mut T, usize, &mut usize) -> Result<()>,
 ) -> Result<Vec<T>> {
-    list_in(Vec::new(), call)
+    list_with_room(Vec::new(), call)
 }
 
-/// Lists what a call finds, as [`list`] does, by one call where `room` is enough.
+/// Returns the list that a call fills in, as [`list`] does. The call gets `room` first, so one call is enough where the list
+/// isn't longer.
 ///
 /// # Errors
 ///
 /// Those of the call, `Memory`.
-pub(super) fn list_in<T: Copy + Default>(
+pub(super) fn list_with_room<T: Copy + Default>(
     mut room: Vec<T>,
     mut call: impl FnMut(*mut T, usize, &mut usize) -> Result<()>,
 ) -> Result<Vec<T>> {
@@ -34,7 +36,7 @@ pub(super) fn list_in<T: Copy + Default>(
     }
 }
 
-/// Makes `room` at least `count` long.
+/// Lengthens `room` to `count` items at least, with default ones.
 ///
 /// # Errors
 ///
@@ -46,8 +48,9 @@ pub(super) fn make_room<T: Copy + Default>(room: &mut Vec<T>, count: usize) -> R
     Ok(())
 }
 
-/// Lists what a call finds; `None` where it finds nothing. Without memory for the list the program ends, as where a `Vec` grows.
-pub(super) fn list_found<T: Copy + Default>(
+/// Returns the list that a call fills in, as [`list`] does; `None` where the call returns false, since there is no such list.
+/// Without memory for the list the program ends, as it does where a `Vec` grows.
+pub(super) fn list_if_found<T: Copy + Default>(
     mut call: impl FnMut(*mut T, usize, &mut usize) -> bool,
 ) -> Option<Vec<T>> {
     let mut is_found = false;
@@ -61,16 +64,17 @@ pub(super) fn list_found<T: Copy + Default>(
     }
 }
 
-/// Keys with their values, one behind the other, as the library puts them.
+/// Keys with their values, as the library lists them.
 #[derive(Clone, Debug, Default)]
 pub(crate) struct PackedPairs {
-    /// The length of each key and of its value, in turn.
+    /// The length in bytes of each key and of its value, in turn.
     pub(crate) lens: Vec<usize>,
-    /// The bytes of all.
+    /// The bytes of all keys and values, one behind the other.
     pub(crate) bytes: Vec<u8>,
 }
 
-/// Lists keys with their values, which a call finds as the length of each and the bytes of all.
+/// Returns the keys and values that a call lists. The call gets room for their lengths and room for their bytes, puts there as
+/// much as fits, and sets how many of each there are. Where there are more it is made again, with more room.
 ///
 /// # Errors
 ///
@@ -98,7 +102,7 @@ pub(super) fn list_packed_pairs(
     }
 }
 
-/// Lists keys with their values, as [`list_packed_pairs`] does, each as bytes of its own.
+/// Returns the keys and values that a call lists, as [`list_packed_pairs`] does, each as bytes of its own.
 ///
 /// # Errors
 ///

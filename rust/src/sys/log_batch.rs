@@ -1,7 +1,7 @@
-//! The handle of a batch that is written.
+//! Handles of log batches that are made, to be written.
 
 use super::{
-    File, Handle, ItemsHandle, Packed, Status, check_call, list, memory_result, with_handle,
+    File, Handle, ItemsHandle, Packed, Status, check_call, check_memory, list, with_handle,
 };
 use crate::{Error, FileId, LogFile, Queue, Result, Stage};
 use std::cell::Cell;
@@ -14,12 +14,12 @@ unsafe extern "C" {
     /// Returns how far a batch has come: 0 while it is open, 1 once its bytes are made, 2 once they
     /// are signed.
     fn raft_ffi_batch_stage(batch: *mut Handle) -> u32;
-    /// Returns about how many bytes a batch has or will have.
+    /// Returns about how many bytes a batch has or will have: at least as many as it will, if all
+    /// region ids and indexes are below 2^56, unless it is too long to be encoded.
     fn raft_ffi_batch_size(batch: *mut Handle) -> usize;
     /// Adds entries of a region to an open batch. Their indexes rise by one from `first` on, all
     /// below 2^64. The bytes of the entries stand in `bytes`, one after another, and `lens` says
-    /// how many each has; what stands behind them isn't looked at. Without entries nothing is
-    /// added.
+    /// how many each has; what stands after them isn't looked at. Without entries nothing is added.
     ///
     /// The code is 0; 9 (`Full`), if the batch would have 2^31 entry bytes or more; or 11
     /// (`Memory`). The batch is unchanged after an error.
@@ -109,7 +109,7 @@ unsafe extern "C" {
 /// The greatest offset at which a batch may have been written.
 const LAST_OFFSET: u64 = u64::MAX - 16;
 
-/// Holds a batch that is written.
+/// Owns a log batch of the library that is made, to be written.
 #[derive(Debug)]
 pub(crate) struct LogBatchHandle(pub(super) Cell<Handle>);
 
@@ -121,21 +121,22 @@ impl LogBatchHandle {
     pub(crate) fn new() -> Result<LogBatchHandle> {
         let mut handle = Handle::EMPTY;
         // SAFETY: `empty`: the handle is empty.
-        memory_result(unsafe { raft_ffi_batch_new(&mut handle) })?;
-        Ok(LogBatchHandle::of(handle))
+        check_memory(unsafe { raft_ffi_batch_new(&mut handle) })?;
+        Ok(LogBatchHandle::from_raw(handle))
     }
 
-    /// Holds the batch of a handle that isn't empty.
-    pub(super) fn of(handle: Handle) -> LogBatchHandle {
+    /// Makes the owner of the batch that a handle holds. The handle isn't empty.
+    pub(super) fn from_raw(handle: Handle) -> LogBatchHandle {
         LogBatchHandle(Cell::new(handle))
     }
 
-    /// Returns where the library's handle stands.
+    /// Returns a pointer to the library's handle, for a call that changes the batch.
     pub(super) fn as_ptr(&mut self) -> *mut Handle {
         self.0.as_ptr()
     }
 
-    /// Gives the library's handle away, which is to be freed by someone else.
+    /// Returns the library's handle. Its value has to be freed by the caller, or given to the
+    /// library.
     fn into_raw(self) -> Handle {
         let handle = self.0.get();
         mem::forget(self);
@@ -152,11 +153,11 @@ impl LogBatchHandle {
         }
     }
 
-    /// Tests that items may be added.
+    /// Checks that the batch is open, so that items can be added.
     ///
     /// # Errors
     ///
-    /// `InvalidArgument` where the batch is no longer open.
+    /// `InvalidArgument` where it isn't.
     pub(super) fn check_open(&self) -> Result<()> {
         match self.stage() {
             Stage::Open => Ok(()),
@@ -164,7 +165,7 @@ impl LogBatchHandle {
         }
     }
 
-    /// Tests that the bytes are signed.
+    /// Checks that the bytes of the batch are made and signed.
     ///
     /// # Errors
     ///
@@ -176,39 +177,41 @@ impl LogBatchHandle {
         }
     }
 
-    /// Returns about how many bytes there are or will be.
-    pub(crate) fn size(&self) -> usize {
+    /// Returns about how many bytes the batch will have, or exactly how many it has once they are
+    /// made; 0 without items.
+    pub(crate) fn approximate_size(&self) -> usize {
         // SAFETY: `held`: the handle holds a batch.
         with_handle(&self.0, |batch| unsafe { raft_ffi_batch_size(batch) })
     }
 
-    /// Adds entries that are packed, the first of them at the index `first`.
+    /// Adds an item with the packed entries, the first of them at the index `first`.
     ///
     /// # Errors
     ///
-    /// Those of `add`.
+    /// Those of [`LogBatchHandle::add_entries`].
     pub(crate) fn add_packed(&mut self, region: u64, first: u64, packed: &Packed) -> Result<()> {
         let (lens, bytes) = packed.lens_and_bytes();
-        self.add(region, first, lens, bytes)
+        self.add_entries(region, first, lens, bytes)
     }
 
-    /// Adds an entry of a region, whose bytes are `entry`, at an index.
+    /// Adds an item with a single entry, whose bytes are `entry`, at an index.
     ///
     /// # Errors
     ///
-    /// Those of `add`.
+    /// Those of [`LogBatchHandle::add_entries`].
     pub(crate) fn add_entry(&mut self, region: u64, index: u64, entry: &[u8]) -> Result<()> {
-        self.add(region, index, &[entry.len()], entry)
+        self.add_entries(region, index, &[entry.len()], entry)
     }
 
-    /// Adds entries from the index `first` on, whose bytes stand one behind the other, each as long
-    /// as `lens` says.
+    /// Adds an item with entries of a region. Their indexes rise by one from `first` on. Their
+    /// bytes stand in `bytes`, one behind the other, and `lens` has the length of each. Without
+    /// entries nothing is added.
     ///
     /// # Errors
     ///
-    /// `InvalidArgument` for a batch that isn't open, or where an index would be 2^64 - 1 or more;
-    /// `Full` where the entry bytes would pass 2^31 - 1; `Memory`. The batch is then as it was.
-    fn add(&mut self, region: u64, first: u64, lens: &[usize], bytes: &[u8]) -> Result<()> {
+    /// `InvalidArgument` where the batch isn't open, or an index would be 2^64 - 1 or more; `Full`
+    /// where the batch would have 2^31 entry bytes or more; `Memory`. The batch is as it was then.
+    fn add_entries(&mut self, region: u64, first: u64, lens: &[usize], bytes: &[u8]) -> Result<()> {
         self.check_open()?;
         if first.checked_add(lens.len() as u64).is_none() {
             return Err(Error::invalid_argument(
@@ -232,45 +235,45 @@ impl LogBatchHandle {
         })
     }
 
-    /// Adds that all records of a region go.
+    /// Adds an item that removes all records of a region.
     ///
     /// # Errors
     ///
-    /// `InvalidArgument` for a batch that isn't open, `Memory`. The batch is then as it was.
+    /// `InvalidArgument` where the batch isn't open; `Memory`. The batch is as it was then.
     pub(crate) fn clean(&mut self, region: u64) -> Result<()> {
         self.check_open()?;
         // SAFETY: `held`, `open`: the handle holds an open batch.
-        memory_result(unsafe { raft_ffi_batch_clean(self.0.as_ptr(), region) })
+        check_memory(unsafe { raft_ffi_batch_clean(self.0.as_ptr(), region) })
     }
 
-    /// Adds that the entries of a region below an index go.
+    /// Adds an item that removes the entries of a region below an index.
     ///
     /// # Errors
     ///
-    /// `InvalidArgument` for a batch that isn't open, `Memory`. The batch is then as it was.
+    /// `InvalidArgument` where the batch isn't open; `Memory`. The batch is as it was then.
     pub(crate) fn compact(&mut self, region: u64, index: u64) -> Result<()> {
         self.check_open()?;
         // SAFETY: `held`, `open`: the handle holds an open batch.
-        memory_result(unsafe { raft_ffi_batch_compact(self.0.as_ptr(), region, index) })
+        check_memory(unsafe { raft_ffi_batch_compact(self.0.as_ptr(), region, index) })
     }
 
-    /// Adds that the entries of a region from an index on go.
+    /// Adds an item that removes the entries of a region from an index on.
     ///
     /// # Errors
     ///
-    /// `InvalidArgument` for a batch that isn't open, `Memory`. The batch is then as it was.
+    /// `InvalidArgument` where the batch isn't open; `Memory`. The batch is as it was then.
     pub(crate) fn truncate(&mut self, region: u64, index: u64) -> Result<()> {
         self.check_open()?;
         // SAFETY: `held`, `open`: the handle holds an open batch.
-        memory_result(unsafe { raft_ffi_batch_truncate(self.0.as_ptr(), region, index) })
+        check_memory(unsafe { raft_ffi_batch_truncate(self.0.as_ptr(), region, index) })
     }
 
-    /// Adds that a key of a region gets a value. Both are copied.
+    /// Adds an item that gives a key of a region a value. Both are copied.
     ///
     /// # Errors
     ///
-    /// `InvalidArgument` for a batch that isn't open, or for the key of the group markers;
-    /// `Memory`. The batch is then as it was.
+    /// `InvalidArgument` where the batch isn't open, or the key is that of the group markers;
+    /// `Memory`. The batch is as it was then.
     pub(crate) fn put(&mut self, region: u64, key: &[u8], value: &[u8]) -> Result<()> {
         self.check_open()?;
         // SAFETY: `held`, `open`: the handle holds an open batch.
@@ -288,25 +291,25 @@ impl LogBatchHandle {
         })
     }
 
-    /// Adds that a key of a region goes.
+    /// Adds an item that removes a key of a region and its value.
     ///
     /// # Errors
     ///
-    /// `InvalidArgument` for a batch that isn't open, `Memory`. The batch is then as it was.
+    /// `InvalidArgument` where the batch isn't open; `Memory`. The batch is as it was then.
     pub(crate) fn delete(&mut self, region: u64, key: &[u8]) -> Result<()> {
         self.check_open()?;
         // SAFETY: `held`, `open`: the handle holds an open batch.
-        memory_result(unsafe {
+        check_memory(unsafe {
             raft_ffi_batch_delete(self.0.as_ptr(), region, key.as_ptr(), key.len())
         })
     }
 
-    /// Moves the items of another open batch to the end of this one.
+    /// Moves all items of another open batch to the end of this one. The other one is empty then.
     ///
     /// # Errors
     ///
-    /// `InvalidArgument` for a batch that isn't open; `Full` where the entry bytes would pass 2^31
-    /// - 1; `Memory`. Both are then as they were.
+    /// `InvalidArgument` where one of both isn't open; `Full` where they have 2^31 entry bytes or
+    /// more together; `Memory`. Both are as they were then.
     pub(crate) fn merge(&mut self, more: &mut LogBatchHandle) -> Result<()> {
         self.check_open()?;
         more.check_open()?;
@@ -316,12 +319,13 @@ impl LogBatchHandle {
         })
     }
 
-    /// Makes the bytes, to which nothing is added from then on, and returns how many they are.
+    /// Makes the bytes of the batch, and returns how many they are: 0 without items. Nothing can be
+    /// added from then on.
     ///
     /// # Errors
     ///
-    /// `InvalidArgument` for a batch that isn't open, `Full` from 2^56 bytes on, `Memory`. The
-    /// batch is then as it was.
+    /// `InvalidArgument` where the batch isn't open; `Full` where it would have 2^56 bytes or more;
+    /// `Memory`. The batch is as it was then.
     pub(crate) fn finish(&mut self) -> Result<usize> {
         self.check_open()?;
         let mut len = 0;
@@ -332,11 +336,11 @@ impl LogBatchHandle {
         Ok(len)
     }
 
-    /// Signs the bytes for a file; it may be repeated for others.
+    /// Signs the bytes of the batch for a file. It may be signed again, for another file.
     ///
     /// # Errors
     ///
-    /// `InvalidArgument` for a batch that is still open.
+    /// `InvalidArgument` where the batch is still open.
     pub(crate) fn sign(&mut self, file: LogFile) -> Result<()> {
         if self.stage() == Stage::Open {
             return Err(Error::invalid_argument("the batch is still open"));
@@ -346,11 +350,11 @@ impl LogBatchHandle {
         Ok(())
     }
 
-    /// Returns a copy of the signed bytes.
+    /// Returns a copy of the signed bytes; none without items.
     ///
     /// # Errors
     ///
-    /// `InvalidArgument` for a batch that isn't signed, `Memory`.
+    /// `InvalidArgument` where the batch isn't signed; `Memory`.
     pub(crate) fn bytes(&self) -> Result<Vec<u8>> {
         self.check_signed()?;
         list(|room, len, count| {
@@ -362,11 +366,12 @@ impl LogBatchHandle {
         })
     }
 
-    /// Gives entries and key values their places: the batch stands at `offset` in a file.
+    /// Gives each entry and each key value its place: the batch was written to `file` at `offset`,
+    /// and has `len` bytes there.
     ///
     /// # Errors
     ///
-    /// `InvalidArgument` for a batch that isn't signed, or an offset above 2^64 - 17.
+    /// `InvalidArgument` where the batch isn't signed, or the offset is above 2^64 - 17.
     pub(crate) fn place_items(&mut self, file: FileId, offset: u64, len: usize) -> Result<()> {
         self.check_signed()?;
         if offset > LAST_OFFSET {
@@ -387,13 +392,13 @@ impl LogBatchHandle {
         Ok(())
     }
 
-    /// Takes the items out, at whatever stage the batch is. The only error is `Memory`. The batch
-    /// is gone then.
+    /// Returns the items of the batch, whatever its stage. The only error is `Memory`: the batch is
+    /// lost then.
     pub(crate) fn into_items(self) -> Result<ItemsHandle> {
         let batch = self.into_raw();
         let mut items = Handle::EMPTY;
         // SAFETY: `held`, `empty`: the one handle holds a batch, which is given away, and the other one is empty.
-        memory_result(unsafe { raft_ffi_batch_into_items(batch, &mut items) })?;
+        check_memory(unsafe { raft_ffi_batch_into_items(batch, &mut items) })?;
         Ok(ItemsHandle(Cell::new(items)))
     }
 }

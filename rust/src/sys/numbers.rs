@@ -1,7 +1,8 @@
-//! Numbers that cross to the library and back.
+//! Structs of numbers that are passed to the library and back.
 
 use crate::{Block, Entry, FileId, LogFile, Queue, Summary, Version};
 
+/// A log file as the library takes it.
 #[repr(C)]
 #[derive(Clone, Copy)]
 pub(super) struct File {
@@ -10,6 +11,7 @@ pub(super) struct File {
     pub(super) is_signed: bool,
 }
 
+/// A number, or none, as the library takes and fills it in.
 #[repr(C)]
 #[derive(Clone, Copy, Default)]
 pub(super) struct Maybe {
@@ -17,6 +19,7 @@ pub(super) struct Maybe {
     pub(super) number: u64,
 }
 
+/// A [`Summary`] as the library fills it in.
 #[repr(C)]
 #[derive(Clone, Copy, Default)]
 pub(super) struct SummaryNumbers {
@@ -27,6 +30,7 @@ pub(super) struct SummaryNumbers {
     pub(super) rewrite_seq: Maybe,
 }
 
+/// An [`Entry`] as the library takes and fills it in.
 #[repr(C)]
 #[derive(Clone, Copy, Default)]
 pub(super) struct EntryNumbers {
@@ -60,7 +64,7 @@ impl From<Option<u64>> for Maybe {
 }
 
 impl Maybe {
-    /// Returns the number, if there is one.
+    /// Returns the number; `None` where there is none.
     pub(super) fn number(self) -> Option<u64> {
         self.is_some.then_some(self.number)
     }
@@ -94,7 +98,7 @@ impl From<&Entry> for EntryNumbers {
 }
 
 impl From<EntryNumbers> for Entry {
-    /// Makes an entry that has a place, as those of tables, of read batches and of written ones do.
+    /// Makes the entry. It panics where the entry has no place; those of tables, of read batches and of written ones have one.
     fn from(entry: EntryNumbers) -> Entry {
         assert!(entry.is_placed, "entry {} has no place", entry.index);
         let queue = if entry.is_rewrite {
@@ -119,11 +123,11 @@ impl From<EntryNumbers> for Entry {
 }
 
 /// Returns entries as the library takes them.
-pub(super) fn numbers_of(entries: &[Entry]) -> Vec<EntryNumbers> {
+pub(super) fn to_entry_numbers(entries: &[Entry]) -> Vec<EntryNumbers> {
     entries.iter().map(EntryNumbers::from).collect()
 }
 
-/// Returns entries that the library gave.
-pub(super) fn entries_of(numbers: Vec<EntryNumbers>) -> Vec<Entry> {
+/// Returns the entries that the library has filled in, each of which must have a place.
+pub(super) fn to_entries(numbers: Vec<EntryNumbers>) -> Vec<Entry> {
     numbers.into_iter().map(Entry::from).collect()
 }

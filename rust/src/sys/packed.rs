@@ -1,22 +1,23 @@
-//! Entries that are packed to be lent to the library.
+//! Packs entries, to lend them to the library.
 
 use crate::{Error, Result};
 use std::error;
 
-/// Up to how many bytes of room are kept once the entries in it were added.
+/// How many bytes of room are kept at most once the entries in it were added: 1 MiB.
 const KEPT: usize = 1 << 20;
 
-/// The bytes of entries, one behind the other, with the length of each: the lengths are those of the bytes.
+/// The bytes of entries, one behind the other, and the length of each. Behind them there may be bytes of an entry that couldn't
+/// be packed.
 #[derive(Debug, Default)]
 pub(crate) struct Packed {
     lens: Vec<usize>,
     bytes: Vec<u8>,
-    /// How many bytes of room were asked for.
+    /// How many bytes of room [`Packed::with_capacity`] was asked for. They are always kept.
     asked: usize,
 }
 
 impl Packed {
-    /// Makes room for entries of `bytes` bytes together.
+    /// Makes a pack of no entries, with room for entries of `bytes` bytes together.
     ///
     /// # Errors
     ///
@@ -33,13 +34,13 @@ impl Packed {
         Ok(packed)
     }
 
-    /// Forgets all entries, and keeps the room.
+    /// Removes all entries. The room stays.
     pub(crate) fn clear(&mut self) {
         self.lens.clear();
         self.bytes.clear();
     }
 
-    /// Gives room back, but for as much as is kept for the next entries.
+    /// Removes all entries, and gives back the room that is more than what is kept for the next ones.
     pub(crate) fn shrink(&mut self) {
         self.clear();
         self.lens.shrink_to(KEPT / size_of::<usize>());
@@ -56,7 +57,7 @@ impl Packed {
         (&self.lens, &self.bytes)
     }
 
-    /// Packs entries in place of those that are there, in room that is made once for all.
+    /// Packs entries in place of those that are there. Room for all of them is made at once.
     ///
     /// # Errors
     ///
@@ -74,7 +75,7 @@ impl Packed {
             .try_for_each(|entry| self.push(entry.as_ref()))
     }
 
-    /// Packs an entry.
+    /// Packs an entry behind the others.
     ///
     /// # Errors
     ///
@@ -89,11 +90,12 @@ impl Packed {
         Ok(())
     }
 
-    /// Packs an entry that the call `put` writes behind the bytes of those that are there.
+    /// Packs an entry whose bytes the call `put` appends to those that are there.
     ///
     /// # Errors
     ///
-    /// Those of the call, also where it takes bytes of the others away.
+    /// That of the call; a text where the call took bytes away that were there before. The entry isn't packed then, but bytes of
+    /// it may be there.
     pub(crate) fn push_with<E: Into<Box<dyn error::Error + Send + Sync>>>(
         &mut self,
         put: impl FnOnce(&mut Vec<u8>) -> std::result::Result<(), E>,

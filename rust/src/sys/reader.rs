@@ -1,8 +1,8 @@
-//! The handle of a reader, and the opening of an engine over the files that readers have read.
+//! Handles of readers, and the opening of an engine over the files that readers have read.
 
 use super::engine_calls::{TailNumbers, raft_ffi_engine_open};
 use super::{
-    EngineHandle, File, Handle, Status, TEXT_LEN, check_call, list, memory_result, refusal_of,
+    EngineHandle, File, Handle, Status, TEXT_LEN, check_call, check_memory, error_with_text, list,
 };
 use crate::{
     CutTail, DamagedBatch, Error, FileId, FilePart, LogFile, Queue, Recovered, RecoveryMode,
@@ -10,7 +10,7 @@ use crate::{
 };
 use std::mem;
 
-/// A file of a queue by its number, and how many bytes it has.
+/// The number of a file, and its length in bytes.
 #[repr(C)]
 #[derive(Clone, Copy, Debug)]
 pub(crate) struct Size {
@@ -24,7 +24,8 @@ unsafe extern "C" {
     fn raft_ffi_reader_new(reader: *mut Handle) -> u32;
     /// Replays `bytes`, batches that stand in `file` from `offset` on. The code is 0, or that of
     /// the error if a batch can't be read or can't follow those before it, or 11 (`Memory`). After
-    /// an error the reader is gone: it may have taken in some of the batches.
+    /// an error `reader` is empty: what it held may have taken in some of the batches, and is
+    /// dropped.
     fn raft_ffi_reader_replay(
         reader: *mut Handle,
         file: File,
@@ -34,12 +35,12 @@ unsafe extern "C" {
         text: *mut u8,
         text_len: usize,
     ) -> Status;
-    /// Replays the batches at the start of `bytes`, which stand in the last file of a queue from
-    /// `offset` on, up to the first one that can't be read, and sets `len` to how many bytes they
-    /// have. The entries of each batch are checked: the reader notes which batches of an append
-    /// file have damaged ones; in a rewrite file the first such batch is an error.
+    /// Replays the batches at the start of `bytes`, up to the first one that can't be read, and
+    /// sets `len` to how many bytes they have. `bytes` stand in the last file of a queue from
+    /// `offset` on. The entries of each batch are checked: the reader notes which batches of an
+    /// append file have damaged ones; in a rewrite file the first such batch is an error.
     ///
-    /// The code is 0, or that of the error. After an error the reader is gone.
+    /// The code is 0, or that of the error. After an error `reader` is empty, and `len` isn't set.
     fn raft_ffi_reader_replay_last(
         reader: *mut Handle,
         file: File,
@@ -51,7 +52,7 @@ unsafe extern "C" {
         text_len: usize,
     ) -> Status;
     /// Takes in what `newer` has read, the batches that follow in the same queue. `newer` is gone
-    /// then. The code is 0, or that of the error. After an error the reader is gone too.
+    /// then. The code is 0, or that of the error. After an error `reader` is empty too.
     fn raft_ffi_reader_merge(
         reader: *mut Handle,
         newer: Handle,
@@ -60,27 +61,31 @@ unsafe extern "C" {
         text_len: usize,
     ) -> Status;
     /// Lists in `offsets` where in the last append file the batches with damaged entries begin that
-    /// a reader has found, in order, as many as there is room for, and returns how many there are.
+    /// a reader has found, in order, as many as there is room for. Returns how many there are,
+    /// which may be more.
     fn raft_ffi_reader_damaged(reader: *mut Handle, offsets: *mut u64, offsets_len: usize)
     -> usize;
-    /// Says why the entries of the batch that begins at `offset` of `file` are refused, if they are
-    /// damaged: the code of that error, with its text in `text`.
+    /// Returns the error with which damaged entries of the batch that begins at `offset` of `file`
+    /// are refused: its code, and its text in `text`. Whether they are damaged isn't tested.
     fn raft_ffi_damaged_entries(file: File, offset: u64, text: *mut u8, text_len: usize) -> Status;
     /// Frees the reader.
     fn raft_ffi_reader_drop(reader: Handle);
 }
 
-/// Holds a reader: what was read of a stretch of a queue's batches.
+/// Owns a reader of the library: what was read of neighboring batches of a queue.
 #[derive(Debug)]
 pub(crate) struct ReaderHandle(Handle);
 
 // SAFETY: the library proves that its handle may move to another thread, and each call takes `self`.
 unsafe impl Send for ReaderHandle {}
 
-/// The files of a queue that a reader has read, and what stands in the last one behind its batches.
+/// The files of a queue that were read.
 pub(crate) struct ReadFiles {
+    /// The reader that has read all their batches, up to one in the last file that can't be read.
     pub(crate) reader: ReaderHandle,
+    /// The number and the length of each file, oldest first.
     pub(crate) sizes: Vec<Size>,
+    /// The bytes of the last file from that batch on; none if the file could be read to its end.
     pub(crate) rest: Vec<u8>,
 }
 
@@ -89,15 +94,15 @@ impl ReaderHandle {
     pub(crate) fn new() -> Result<ReaderHandle> {
         let mut handle = Handle::EMPTY;
         // SAFETY: `empty`: the handle is empty.
-        memory_result(unsafe { raft_ffi_reader_new(&mut handle) })?;
+        check_memory(unsafe { raft_ffi_reader_new(&mut handle) })?;
         Ok(ReaderHandle(handle))
     }
 
-    /// Replays the batches of a part, and returns the reader.
+    /// Replays the batches of a part, which follow those that were replayed before, and returns the reader.
     ///
     /// # Errors
     ///
-    /// The refusal of the first batch that is refused. The reader is then gone.
+    /// That of the first batch that can't be read or can't follow those before it; `Memory`. The reader is lost then.
     pub(crate) fn replay(self, part: FilePart<'_>) -> Result<ReaderHandle> {
         part.check_end()?;
         let mut handle = self.into_raw();
@@ -117,14 +122,14 @@ impl ReaderHandle {
         Ok(ReaderHandle(handle))
     }
 
-    /// Replays the batches of a part of the last file of a queue, up to the first one that can't be read, and returns how many
-    /// bytes they have. The entries of each batch are checked; where those of a batch of an append file are damaged the reader
-    /// notes it.
+    /// Replays the batches of a part of a queue's last file, up to the first one that can't be read. Returns the reader, and how
+    /// many bytes these batches have. The entries of each batch are checked: the reader notes which batches of an append file
+    /// have damaged ones.
     ///
     /// # Errors
     ///
-    /// `Corruption` where the entries of a batch of a rewrite file are damaged; the refusal of the first batch that doesn't fit
-    /// those before it; `Memory`. The reader is then gone.
+    /// `Corruption` for the first batch of a rewrite file with damaged entries; that of the first batch that can't follow those
+    /// before it; `Memory`. The reader is lost then.
     pub(crate) fn replay_last(self, part: FilePart<'_>) -> Result<(ReaderHandle, usize)> {
         part.check_end()?;
         let mut handle = self.into_raw();
@@ -146,11 +151,11 @@ impl ReaderHandle {
         Ok((ReaderHandle(handle), len))
     }
 
-    /// Takes in what the reader `newer` has read of the batches that follow, all of the queue `queue`.
+    /// Merges the reader `newer`, of the batches that follow in the queue `queue`, into this one, and returns that.
     ///
     /// # Errors
     ///
-    /// Those of [`Context::merge`](crate::Context::merge). Both readers are then gone.
+    /// Those of [`Context::merge`](crate::Context::merge). Both readers are lost then.
     pub(crate) fn merge(self, newer: ReaderHandle, queue: Queue) -> Result<ReaderHandle> {
         let (mut handle, newer) = (self.into_raw(), newer.into_raw());
         // SAFETY: `held`, `newer`: both handles hold a reader, and the newer one is given away. After a refusal the
@@ -161,8 +166,8 @@ impl ReaderHandle {
         Ok(ReaderHandle(handle))
     }
 
-    /// Returns the batches whose entries the reader has found damaged, first to last, all of them in `file`, the last one of the
-    /// append queue. The only error is `Memory`.
+    /// Returns the batches with damaged entries that the reader has found, in order. `file` is the last append file, which has
+    /// all of them. The only error is `Memory`.
     fn damaged_batches(&mut self, file: LogFile) -> Result<Vec<DamagedBatch>> {
         let offsets = list(|room, len, count| {
             // SAFETY: `held`: the handle holds a reader.
@@ -175,7 +180,7 @@ impl ReaderHandle {
         batches.collect()
     }
 
-    /// Gives the library's handle away, which is to be freed by someone else.
+    /// Returns the library's handle. Its value has to be freed by the caller, or given to the library.
     fn into_raw(self) -> Handle {
         let handle = self.0;
         mem::forget(self);
@@ -190,11 +195,11 @@ impl Drop for ReaderHandle {
     }
 }
 
-/// Returns the batch at an offset of a file, whose entries are damaged, with the refusal of these.
+/// Returns the batch with damaged entries that begins at an offset of a file, with the error for these entries.
 ///
 /// # Errors
 ///
-/// `Memory`, where there is none for the words of the refusal.
+/// `Memory`, where there is none for the text of that error.
 fn damaged_batch(file: LogFile, offset: u64) -> Result<DamagedBatch> {
     // SAFETY: the text is lent for the call.
     let refused = check_call(|text, text_len| unsafe {
@@ -210,11 +215,12 @@ fn damaged_batch(file: LogFile, offset: u64) -> Result<DamagedBatch> {
     }
 }
 
-/// Opens an engine over files of both queues, and tells what was cut off, and which batches have damaged entries.
+/// Opens an engine over files of both queues that were read, and returns it with what couldn't be read: the tails that were cut
+/// off, and the batches with damaged entries. The files aren't changed: the engine has orders for that.
 ///
 /// # Errors
 ///
-/// Those of the library. Nothing was ordered then.
+/// Those of [`Engine::with_files`](crate::Engine::with_files), but for `Io`. There is no engine then, so nothing is ordered.
 pub(crate) fn open_engine(
     mut append: ReadFiles,
     rewrite: ReadFiles,
@@ -260,12 +266,13 @@ pub(crate) fn open_engine(
         rewrite: rewrite_tail.into_cut(Queue::Rewrite),
         damaged,
     };
-    Ok((EngineHandle::of(handle), recovered))
+    Ok((EngineHandle::from_raw(handle), recovered))
 }
 
-/// Room for what is told of a tail that was cut off.
+/// Room for what the library says of a tail that was cut off.
 struct Tail {
     numbers: TailNumbers,
+    /// The text of the reason.
     reason: [u8; TEXT_LEN],
 }
 
@@ -279,21 +286,21 @@ impl Default for Tail {
 }
 
 impl Tail {
-    /// Returns what is told of the tail; `None` where nothing was cut off.
+    /// Returns what the library has said of the tail of a queue's last file; `None` where nothing was cut off.
     fn into_cut(self, queue: Queue) -> Option<CutTail> {
         let numbers = self.numbers.is_some.then_some(self.numbers)?;
         let file = FileId::new(queue, numbers.seq);
-        let reason = refusal_of(numbers.code, numbers.text_len, &self.reason);
+        let reason = error_with_text(numbers.code, numbers.text_len, &self.reason);
         Some(CutTail {
             file,
             offset: numbers.offset,
             len: numbers.len,
-            reason: Some(reason.at(file, numbers.offset)),
+            reason: Some(reason.with_place(file, numbers.offset)),
         })
     }
 }
 
-/// Returns the number that the library has for a mode.
+/// Returns the number of a mode in the library.
 fn mode_number(mode: RecoveryMode) -> u32 {
     match mode {
         RecoveryMode::AbsoluteConsistency => 0,

@@ -1,4 +1,4 @@
-//! The calls on tables, and on those of a slot.
+//! Declarations of the calls on tables, and on those of a slot.
 
 use super::{EntryNumbers, Handle, Maybe, Status, SummaryNumbers};
 
@@ -8,28 +8,30 @@ unsafe extern "C" {
     pub(super) fn raft_ffi_tables_new(tables: *mut Handle) -> u32;
     /// Returns how many records are live in a queue.
     pub(super) fn raft_ffi_tables_live(tables: *mut Handle, is_rewrite: bool) -> usize;
-    /// Returns whether a region has a table, and sets `summary` to what it has.
+    /// Returns whether a region has a table. If it has one, `summary` is set to what that has.
     pub(super) fn raft_ffi_tables_summary(
         tables: *mut Handle,
         region: u64,
         summary: *mut SummaryNumbers,
     ) -> bool;
     /// Lists in `regions` the regions that have a table, in rising order, as many as there is room
-    /// for, and sets `count` to how many there are. Returns 0, or 11 (`Memory`).
+    /// for. Sets `count` to how many there are, which may be more. Returns 0, or 11 (`Memory`):
+    /// nothing is set then.
     pub(super) fn raft_ffi_tables_regions(
         tables: *mut Handle,
         regions: *mut u64,
         regions_len: usize,
         count: *mut usize,
     ) -> u32;
-    /// Lists in `regions` the regions that were cleaned, in order, as many as there is room for,
-    /// and returns how many there are.
+    /// Lists in `regions` the regions that were cleaned, in order, as many as there is room for.
+    /// Returns how many there are, which may be more.
     pub(super) fn raft_ffi_tables_cleaned(
         tables: *mut Handle,
         regions: *mut u64,
         regions_len: usize,
     ) -> usize;
-    /// Returns whether a region has an entry of that index, and sets `entry` to it.
+    /// Returns whether a region has an entry with the index `index`. If it has one, `entry` is set
+    /// to it.
     pub(super) fn raft_ffi_tables_entry(
         tables: *mut Handle,
         region: u64,
@@ -37,13 +39,13 @@ unsafe extern "C" {
         entry: *mut EntryNumbers,
     ) -> bool;
     /// Lists in `entries` the entries of a region from `begin` on and below `end`, as many as there
-    /// is room for, and sets `count` to how many there are. With a maximal size it stops before the
-    /// first one with which the total of lengths passes that size and exceeds the entry's own
-    /// length. A region without a table has no entries.
+    /// is room for. Sets `count` to how many there are, which may be more. With a maximal size it
+    /// stops before the first entry with which the total of lengths passes that size and exceeds
+    /// the entry's own length. A region without a table has no entries.
     ///
     /// The code is 0, or 11 (`Memory`), or, where the range isn't empty, 7 (`EntryCompacted`), if
     /// it begins below the first entry, or 8 (`EntryNotFound`), if there are no entries or it ends
-    /// above their end.
+    /// above their end. Nothing is listed after an error.
     pub(super) fn raft_ffi_tables_entries(
         tables: *mut Handle,
         region: u64,
@@ -57,8 +59,8 @@ unsafe extern "C" {
         text_len: usize,
     ) -> Status;
     /// Lists in `entries` the appended entries of a region, from the first one on while their file
-    /// is numbered at or below `gate`, as many as there is room for, and sets `count` to how many
-    /// there are. Returns 0, or 11 (`Memory`).
+    /// is numbered at or below `gate`, as many as there is room for. Sets `count` to how many there
+    /// are, which may be more. Returns 0, or 11 (`Memory`): nothing is set then.
     pub(super) fn raft_ffi_tables_entries_before(
         tables: *mut Handle,
         region: u64,
@@ -67,8 +69,9 @@ unsafe extern "C" {
         entries_len: usize,
         count: *mut usize,
     ) -> u32;
-    /// Lists in `entries` the rewritten entries of a region, as many as there is room for, and sets
-    /// `count` to how many there are. Returns 0, or 11 (`Memory`).
+    /// Lists in `entries` the rewritten entries of a region, as many as there is room for. Sets
+    /// `count` to how many there are, which may be more. Returns 0, or 11 (`Memory`): nothing is
+    /// set then.
     pub(super) fn raft_ffi_tables_rewritten_entries(
         tables: *mut Handle,
         region: u64,
@@ -76,8 +79,9 @@ unsafe extern "C" {
         entries_len: usize,
         count: *mut usize,
     ) -> u32;
-    /// Returns whether `key` of a region has a value, copies as many of its bytes into `value` as
-    /// there is room for, and sets `len` to how many it has.
+    /// Returns whether `key` of a region has a value. If it has one, as many of its bytes are
+    /// copied into `value` as there is room for, and `len` is set to how many it has, which may be
+    /// more.
     pub(super) fn raft_ffi_tables_value(
         tables: *mut Handle,
         region: u64,
@@ -87,10 +91,10 @@ unsafe extern "C" {
         value_len: usize,
         len: *mut usize,
     ) -> bool;
-    /// Puts `entries`, new ones of the append queue, behind the entries of a region that are below
-    /// their first index. The others of the region are dropped; without new entries all stay. The
-    /// code is 0, or that of the error, as 1 (`InvalidArgument`) if the indexes of `entries` don't
-    /// rise by one. The tables are unchanged after an error.
+    /// Appends `entries`, new ones of the append queue, to the table of a region. The region's
+    /// entries from their first index on are dropped before; without new entries nothing is
+    /// changed. The code is 0, or that of the error, as 1 (`InvalidArgument`) if the indexes of
+    /// `entries` don't rise by one. The tables are unchanged after an error.
     pub(super) fn raft_ffi_tables_append(
         tables: *mut Handle,
         region: u64,
@@ -119,9 +123,9 @@ unsafe extern "C" {
         text: *mut u8,
         text_len: usize,
     ) -> Status;
-    /// Gives `key` of a region `value`, which was written to file `seq` of a queue. The code is 0;
-    /// 9 (`Full`), if more than 2^64 - 1 records would be live in that queue; or 11 (`Memory`). The
-    /// tables are unchanged after an error.
+    /// Sets the value of `key` of a region to `value`, which was written to file `seq` of a queue.
+    /// The code is 0; 9 (`Full`), if more than 2^64 - 1 records would be live in that queue; or 11
+    /// (`Memory`). The tables are unchanged after an error.
     pub(super) fn raft_ffi_tables_put(
         tables: *mut Handle,
         region: u64,
@@ -144,11 +148,11 @@ unsafe extern "C" {
         text: *mut u8,
         text_len: usize,
     ) -> Status;
-    /// Gives the entries of a region that `entries` names the places there, which are in the
-    /// rewrite queue, as far as they may move: with a gate those in append files numbered at or
-    /// below it, without one those that are rewritten already. The code is 0, or that of the error,
-    /// as 1 (`InvalidArgument`) if the indexes of `entries` don't rise by one. The tables are
-    /// unchanged after an error.
+    /// Moves entries of a region to new places. `entries` name the entries, with their places in
+    /// the rewrite queue. Only those move that may: with a gate those in append files numbered at
+    /// or below it, without one those that are rewritten already. The code is 0, or that of the
+    /// error, as 1 (`InvalidArgument`) if the indexes of `entries` don't rise by one. The tables
+    /// are unchanged after an error.
     pub(super) fn raft_ffi_tables_rewrite(
         tables: *mut Handle,
         region: u64,
@@ -158,10 +162,10 @@ unsafe extern "C" {
         text: *mut u8,
         text_len: usize,
     ) -> Status;
-    /// Moves the pair of a region's `key` to file `seq` of the rewrite queue: one in the append
-    /// queue if there is a gate and its file is numbered at or below it, one in the rewrite queue
-    /// always. The code is 0, or that of the error, as 2 (`Corruption`) if the pair is in a later
-    /// rewrite file. The tables are unchanged after an error.
+    /// Moves `key` of a region, with its value, to file `seq` of the rewrite queue. One in the
+    /// append queue moves only if there is a gate and its file is numbered at or below it; one in
+    /// the rewrite queue always does. The code is 0, or that of the error, as 2 (`Corruption`) if
+    /// the pair is in a later rewrite file. The tables are unchanged after an error.
     pub(super) fn raft_ffi_tables_rewrite_key(
         tables: *mut Handle,
         region: u64,
@@ -172,9 +176,9 @@ unsafe extern "C" {
         text: *mut u8,
         text_len: usize,
     ) -> Status;
-    /// Sets the first and the last file of a region's atomic group, once the group's End is
-    /// written. `start` is at most `end`. Returns 0, or 11 (`Memory`): the tables are unchanged
-    /// then.
+    /// Sets the first and the last file of a region's atomic group, `start` and `end`, once the
+    /// group's End is written. `start` is at most `end`. Returns 0, or 11 (`Memory`): the tables
+    /// are unchanged then.
     pub(super) fn raft_ffi_tables_atomic_group(
         tables: *mut Handle,
         region: u64,
@@ -193,20 +197,20 @@ unsafe extern "C" {
         is_listed: bool,
         found: *mut bool,
     ) -> u32;
-    /// Merges `newer`, the tables of later batches, into `tables`, each into the table of its
-    /// region. `newer` is gone then. The cleaned regions stay. The code is 0, or that of the error.
-    /// After an error each region has its old table or the merged one; after 11 (`Memory`) that of
-    /// one region may be lost.
+    /// Merges `newer`, the tables of later batches, into `tables`, region by region. `newer` is
+    /// gone then. The cleaned regions stay. The code is 0, or that of the error. After an error
+    /// each region has its old table or the merged one; after 11 (`Memory`) that of one region may
+    /// be lost.
     pub(super) fn raft_ffi_tables_merge_newer(
         tables: *mut Handle,
         newer: Handle,
         text: *mut u8,
         text_len: usize,
     ) -> Status;
-    /// Merges `append`, appended tables, into `tables`, rewritten ones, each into the table of its
-    /// region. `append` is gone then. The cleaned regions stay. The code is 0, or that of the
-    /// error. After an error each region has its old table or the merged one; after 11 (`Memory`)
-    /// that of one region may be lost.
+    /// Merges `append`, appended tables, into `tables`, rewritten ones, region by region. `append`
+    /// is gone then. The cleaned regions stay. The code is 0, or that of the error. After an error
+    /// each region has its old table or the merged one; after 11 (`Memory`) that of one region may
+    /// be lost.
     pub(super) fn raft_ffi_tables_merge_append(
         tables: *mut Handle,
         append: Handle,
@@ -234,11 +238,11 @@ unsafe extern "C" {
         text: *mut u8,
         text_len: usize,
     ) -> Status;
-    /// Lists the pairs of a region whose file in the append queue is numbered at or below `gate`,
-    /// in the order of the keys: the length of each key and of its value in turn in `lens`, and
-    /// their bytes, one behind the other, in `bytes`, each as far as there is room. `count` is set
-    /// to how many lengths there are, and `len` to how many bytes. With a gate of 2^64 - 1 it lists
-    /// all appended ones. Returns 0, or 11 (`Memory`).
+    /// Lists the pairs of a region that are in append files numbered at or below `gate`, in the
+    /// order of the keys. `lens` gets the length of each key and of its value in turn, and `bytes`
+    /// their bytes, one after another, each as far as there is room. `count` is set to how many
+    /// lengths there are, and `len` to how many bytes, which may be more. With a gate of 2^64 - 1
+    /// it lists all appended pairs. Returns 0, or 11 (`Memory`): nothing is set then.
     pub(super) fn raft_ffi_tables_pairs_before(
         tables: *mut Handle,
         region: u64,
@@ -250,8 +254,8 @@ unsafe extern "C" {
         bytes_len: usize,
         len: *mut usize,
     ) -> u32;
-    /// Lists the rewritten pairs of a region, in the order of the keys, as
-    /// `raft_ffi_tables_pairs_before` lists the appended ones.
+    /// Lists the rewritten pairs of a region, in the order of the keys, in `lens` and `bytes` as
+    /// `raft_ffi_tables_pairs_before` does. Returns 0, or 11 (`Memory`): nothing is set then.
     pub(super) fn raft_ffi_tables_rewritten_pairs(
         tables: *mut Handle,
         region: u64,
@@ -263,7 +267,8 @@ unsafe extern "C" {
         len: *mut usize,
     ) -> u32;
     /// Lists the pairs of a region whose key is at or above `start` and, with `is_bounded`, below
-    /// `end`, in the order of the keys, as `raft_ffi_tables_pairs_before` does.
+    /// `end`, in the order of the keys. They are listed in `lens` and `bytes` as
+    /// `raft_ffi_tables_pairs_before` does. Returns 0, or 11 (`Memory`): nothing is set then.
     pub(super) fn raft_ffi_tables_scan(
         tables: *mut Handle,
         region: u64,
@@ -280,8 +285,9 @@ unsafe extern "C" {
         len: *mut usize,
     ) -> u32;
     /// Tests whether the tables would accept the items of `batch` once it is written to the append
-    /// queue, at whatever place. It changes nothing. The code is 0 if they would; else that of the
-    /// error with which the first item that they don't accept would be refused, or 11 (`Memory`).
+    /// queue, at whatever place. It changes nothing. The code is 0 if they would. Else it is that
+    /// of the error with which the first item that isn't accepted would be refused, or 11
+    /// (`Memory`).
     pub(super) fn raft_ffi_tables_check_append(
         tables: *mut Handle,
         batch: *mut Handle,
@@ -289,8 +295,8 @@ unsafe extern "C" {
         text_len: usize,
     ) -> Status;
     /// Moves the cleaned regions into `batch`, which is empty before: an open batch with a `Clean`
-    /// of each, in order. The list of the tables is empty then. Returns 0, or 11 (`Memory`): the
-    /// list is as it was then, and `batch` stays empty.
+    /// for each, in order. The list of the tables is empty then. Returns 0, or 11 (`Memory`): the
+    /// list is unchanged then, and `batch` stays empty.
     pub(super) fn raft_ffi_tables_cleaned_logs(tables: *mut Handle, batch: *mut Handle) -> u32;
     /// Moves the table of a region, if there is one, from `tables` to `to`, in place of the one
     /// that the region has there. Both lists of cleaned regions stay. The code is 0; 9 (`Full`), if

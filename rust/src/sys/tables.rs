@@ -1,4 +1,4 @@
-//! The handle of tables.
+//! Handles of tables.
 
 use super::table_calls::{
     raft_ffi_slot_apply_append, raft_ffi_slot_apply_rewrite, raft_ffi_slot_check_append,
@@ -14,15 +14,15 @@ use super::table_calls::{
     raft_ffi_tables_summary, raft_ffi_tables_truncate, raft_ffi_tables_value,
 };
 use super::{
-    EntryNumbers, Handle, ItemsHandle, LogBatchHandle, SummaryNumbers, check_call, entries_of,
-    list, list_found, list_pairs, memory_result, numbers_of, with_handle,
+    EntryNumbers, Handle, ItemsHandle, LogBatchHandle, SummaryNumbers, check_call, check_memory,
+    list, list_if_found, list_pairs, to_entries, to_entry_numbers, with_handle,
 };
 use crate::{Entry, FileId, Pair, Queue, Result, Summary};
 use std::cell::Cell;
 use std::mem;
 use std::ops::Range;
 
-/// Holds tables. A call that reads takes them out and puts them in again.
+/// Owns tables of the library. A call that only reads them lends their handle from the cell.
 #[derive(Debug)]
 pub(crate) struct TablesHandle(pub(super) Cell<Handle>);
 
@@ -34,18 +34,19 @@ impl TablesHandle {
     pub(crate) fn new() -> Result<TablesHandle> {
         let mut handle = Handle::EMPTY;
         // SAFETY: `empty`: the handle is empty.
-        memory_result(unsafe { raft_ffi_tables_new(&mut handle) })?;
+        check_memory(unsafe { raft_ffi_tables_new(&mut handle) })?;
         Ok(TablesHandle(Cell::new(handle)))
     }
 
-    /// Gives the library's handle away, which is to be freed by someone else.
+    /// Returns the library's handle. Its value has to be freed by the caller, or given to the
+    /// library.
     fn into_raw(self) -> Handle {
         let handle = self.0.get();
         mem::forget(self);
         handle
     }
 
-    /// Counts the live records of a queue.
+    /// Returns how many records are live in a queue.
     pub(crate) fn count_live(&self, queue: Queue) -> usize {
         // SAFETY: `held`: the handle holds tables.
         with_handle(&self.0, |tables| unsafe {
@@ -53,7 +54,8 @@ impl TablesHandle {
         })
     }
 
-    /// Returns what a region's table has, `None` where there is none.
+    /// Returns how many records the table of a region has, and which files it needs; `None` where
+    /// there is no table.
     pub(crate) fn summary(&self, region: u64) -> Option<Summary> {
         let mut summary = SummaryNumbers::default();
         // SAFETY: `held`: the handle holds tables.
@@ -63,19 +65,20 @@ impl TablesHandle {
         is_found.then(|| summary.into())
     }
 
-    /// Lists the regions that have a table, in rising order. The only error is `Memory`.
+    /// Returns the numbers of the regions that have a table, in rising order. The only error is
+    /// `Memory`.
     pub(crate) fn regions(&self) -> Result<Vec<u64>> {
         list(|room, len, count| {
             // SAFETY: `held`: the handle holds tables.
-            memory_result(with_handle(&self.0, |tables| unsafe {
+            check_memory(with_handle(&self.0, |tables| unsafe {
                 raft_ffi_tables_regions(tables, room, len, count)
             }))
         })
     }
 
-    /// Lists the regions that were cleaned, in order.
+    /// Returns the list of cleaned regions, in the order in which they were cleaned.
     pub(crate) fn cleaned(&self) -> Vec<u64> {
-        list_found(|room, len, count| {
+        list_if_found(|room, len, count| {
             // SAFETY: `held`: the handle holds tables.
             *count = with_handle(&self.0, |tables| unsafe {
                 raft_ffi_tables_cleaned(tables, room, len)
@@ -95,11 +98,14 @@ impl TablesHandle {
         is_found.then(|| entry.into())
     }
 
-    /// Lists the entries of a range of a region's indexes, up to `max_size` bytes, if that is given.
+    /// Returns the entries of a range of a region's indexes with their places, in order. With a
+    /// `max_size` these are the first ones, as many as have at most so many bytes together; the
+    /// first one that has bytes is returned whatever its size.
     ///
     /// # Errors
     ///
-    /// `EntryCompacted` or `EntryNotFound` where the range isn't there, `Memory`.
+    /// `EntryCompacted` or `EntryNotFound` where the region doesn't have all of a range that isn't
+    /// empty; `Memory`.
     pub(crate) fn entries(
         &self,
         region: u64,
@@ -125,35 +131,36 @@ impl TablesHandle {
                 })
             })
         })?;
-        Ok(entries_of(list))
+        Ok(to_entries(list))
     }
 
-    /// Lists the appended entries of a region, from the first on while their file is at or below a
-    /// gate. The only error is `Memory`.
+    /// Returns the appended entries of a region, from the first one on, as long as their file is
+    /// numbered at or below `gate`. The only error is `Memory`.
     pub(crate) fn entries_before(&self, region: u64, gate: u64) -> Result<Vec<Entry>> {
         let list = list(|room, len, count| {
             // SAFETY: `held`: the handle holds tables.
-            memory_result(with_handle(&self.0, |tables| unsafe {
+            check_memory(with_handle(&self.0, |tables| unsafe {
                 raft_ffi_tables_entries_before(tables, region, gate, room, len, count)
             }))
         })?;
-        Ok(entries_of(list))
+        Ok(to_entries(list))
     }
 
-    /// Lists the rewritten entries of a region. The only error is `Memory`.
+    /// Returns the entries of a region that are in rewrite files, in order. The only error is
+    /// `Memory`.
     pub(crate) fn rewritten_entries(&self, region: u64) -> Result<Vec<Entry>> {
         let list = list(|room, len, count| {
             // SAFETY: `held`: the handle holds tables.
-            memory_result(with_handle(&self.0, |tables| unsafe {
+            check_memory(with_handle(&self.0, |tables| unsafe {
                 raft_ffi_tables_rewritten_entries(tables, region, room, len, count)
             }))
         })?;
-        Ok(entries_of(list))
+        Ok(to_entries(list))
     }
 
-    /// Returns the value of a region's key, `None` where it has none.
+    /// Returns a copy of the value of a region's key; `None` where it has none.
     pub(crate) fn value(&self, region: u64, key: &[u8]) -> Option<Vec<u8>> {
-        list_found(|room, len, count| {
+        list_if_found(|room, len, count| {
             // SAFETY: `held`: the handle holds tables.
             with_handle(&self.0, |tables| unsafe {
                 raft_ffi_tables_value(tables, region, key.as_ptr(), key.len(), room, len, count)
@@ -161,12 +168,12 @@ impl TablesHandle {
         })
     }
 
-    /// Lists the appended keys of a region whose file is at or below a gate, with their values, in
-    /// order. The only error is `Memory`.
+    /// Returns the keys of a region that are in append files numbered at or below `gate`, with
+    /// their values, in the order of the keys. The only error is `Memory`.
     pub(crate) fn pairs_before(&self, region: u64, gate: u64) -> Result<Vec<Pair>> {
         list_pairs(|lens, lens_len, count, bytes, bytes_len, len| {
             // SAFETY: `held`: the handle holds tables.
-            memory_result(with_handle(&self.0, |tables| unsafe {
+            check_memory(with_handle(&self.0, |tables| unsafe {
                 raft_ffi_tables_pairs_before(
                     tables, region, gate, lens, lens_len, count, bytes, bytes_len, len,
                 )
@@ -174,12 +181,12 @@ impl TablesHandle {
         })
     }
 
-    /// Lists the rewritten keys of a region with their values, in order. The only error is
-    /// `Memory`.
+    /// Returns the keys of a region that are in rewrite files, with their values, in the order of
+    /// the keys. The only error is `Memory`.
     pub(crate) fn rewritten_pairs(&self, region: u64) -> Result<Vec<Pair>> {
         list_pairs(|lens, lens_len, count, bytes, bytes_len, len| {
             // SAFETY: `held`: the handle holds tables.
-            memory_result(with_handle(&self.0, |tables| unsafe {
+            check_memory(with_handle(&self.0, |tables| unsafe {
                 raft_ffi_tables_rewritten_pairs(
                     tables, region, lens, lens_len, count, bytes, bytes_len, len,
                 )
@@ -187,12 +194,13 @@ impl TablesHandle {
         })
     }
 
-    /// Lists all keys of a region with their values, in order. The only error is `Memory`.
+    /// Returns all keys of a region with their values, in the order of the keys. The only error is
+    /// `Memory`.
     pub(crate) fn pairs(&self, region: u64) -> Result<Vec<Pair>> {
         let none: &[u8] = &[];
         list_pairs(|lens, lens_len, count, bytes, bytes_len, len| {
             // SAFETY: `held`: the handle holds tables.
-            memory_result(with_handle(&self.0, |tables| unsafe {
+            check_memory(with_handle(&self.0, |tables| unsafe {
                 raft_ffi_tables_scan(
                     tables,
                     region,
@@ -212,8 +220,12 @@ impl TablesHandle {
         })
     }
 
-    /// Tests whether the tables would accept the items of a batch of the append queue: `Corruption`
-    /// where they would refuse one, or `Memory`.
+    /// Checks that the tables would accept the items of a batch, once it is written to the append
+    /// queue. Nothing is changed.
+    ///
+    /// # Errors
+    ///
+    /// `Corruption` where they would refuse an item; `Memory`.
     pub(crate) fn check_append(&self, batch: &LogBatchHandle) -> Result<()> {
         check_call(|text, text_len| {
             with_handle(&self.0, |tables| {
@@ -225,9 +237,13 @@ impl TablesHandle {
         })
     }
 
-    /// Tests whether the tables would accept those items of a batch whose regions are of the slot
-    /// `number`: `Corruption` where they would refuse one, or `Memory`.
-    pub(crate) fn check_share(&self, number: usize, batch: &LogBatchHandle) -> Result<()> {
+    /// Checks that the tables of slot `number` would accept those items of a batch whose regions
+    /// belong to that slot, once the batch is written to the append queue. Nothing is changed.
+    ///
+    /// # Errors
+    ///
+    /// `Corruption` where they would refuse an item; `Memory`.
+    pub(crate) fn check_slot_append(&self, number: usize, batch: &LogBatchHandle) -> Result<()> {
         check_call(|text, text_len| {
             with_handle(&self.0, |tables| {
                 // SAFETY: `held`, `batch`: the handles hold tables and a batch.
@@ -238,23 +254,25 @@ impl TablesHandle {
         })
     }
 
-    /// Hands out the cleaned regions as an open batch with a `Clean` for each. The list is then
-    /// empty. The only error is `Memory`. The list is then as it was.
+    /// Returns an open batch with a `Clean` for each of the cleaned regions, in order, and empties
+    /// their list. The only error is `Memory`: the list is as it was then.
     pub(crate) fn take_cleaned_logs(&mut self) -> Result<LogBatchHandle> {
         let mut batch = Handle::EMPTY;
         // SAFETY: `held`, `empty`: the one handle holds tables, and the other one is empty.
-        memory_result(unsafe { raft_ffi_tables_cleaned_logs(self.0.as_ptr(), &mut batch) })?;
-        Ok(LogBatchHandle::of(batch))
+        check_memory(unsafe { raft_ffi_tables_cleaned_logs(self.0.as_ptr(), &mut batch) })?;
+        Ok(LogBatchHandle::from_raw(batch))
     }
 
-    /// Puts new entries of the append queue in place of those of a region from their start on.
+    /// Puts new entries of the append queue behind the entries of a region that are below their
+    /// first index. All other entries of the region are dropped.
     ///
     /// # Errors
     ///
-    /// `InvalidArgument` where they are no run of the append queue, `Corruption` where they leave a
-    /// hole or begin below the first entry, `Full`, `Memory`. The tables are then as they were.
+    /// `InvalidArgument` where the indexes don't rise by one, or a place is in the rewrite queue;
+    /// `Corruption` where the new entries leave a hole behind those of the region, or begin below
+    /// all of them; `Full`; `Memory`. The tables are as they were then.
     pub(crate) fn append(&mut self, region: u64, entries: &[Entry]) -> Result<()> {
-        let run = numbers_of(entries);
+        let run = to_entry_numbers(entries);
         // SAFETY: `held`: the handle holds tables.
         check_call(|text, text_len| unsafe {
             raft_ffi_tables_append(
@@ -268,8 +286,8 @@ impl TablesHandle {
         })
     }
 
-    /// Drops the entries of a region below an index, and returns how many they were. The only error
-    /// is `Memory`. The tables are then as they were.
+    /// Drops the entries of a region below an index, and returns how many were dropped. The only
+    /// error is `Memory`: the tables are as they were then.
     pub(crate) fn compact(&mut self, region: u64, index: u64) -> Result<u64> {
         let mut dropped = 0;
         // SAFETY: `held`: the handle holds tables.
@@ -279,8 +297,8 @@ impl TablesHandle {
         Ok(dropped)
     }
 
-    /// Drops the entries of a region at or above an index, and returns how many they were. The only
-    /// error is `Memory`. The tables are then as they were.
+    /// Drops the entries of a region from an index on, and returns how many were dropped. The only
+    /// error is `Memory`: the tables are as they were then.
     pub(crate) fn truncate(&mut self, region: u64, index: u64) -> Result<u64> {
         let mut dropped = 0;
         // SAFETY: `held`: the handle holds tables.
@@ -290,8 +308,13 @@ impl TablesHandle {
         Ok(dropped)
     }
 
-    /// Puts a key of a region with its value, both copied, as from this file. It is refused with
-    /// `Full` or `Memory`, and the tables are then as they were.
+    /// Gives a key of a region a value. Both are copied; `file` is the one to which they were
+    /// written.
+    ///
+    /// # Errors
+    ///
+    /// `Full` where more than 2^64 - 1 records would be live in the queue; `Memory`. The tables are
+    /// as they were then.
     pub(crate) fn put(
         &mut self,
         region: u64,
@@ -316,8 +339,8 @@ impl TablesHandle {
         })
     }
 
-    /// Deletes a key of a region with its value. The only error is `Memory`. The tables are then as
-    /// they were.
+    /// Deletes a key of a region and its value, if there is one. The only error is `Memory`: the
+    /// tables are as they were then.
     pub(crate) fn delete(&mut self, region: u64, key: &[u8]) -> Result<()> {
         // SAFETY: `held`: the handle holds tables.
         check_call(|text, text_len| unsafe {
@@ -332,21 +355,22 @@ impl TablesHandle {
         })
     }
 
-    /// Gives entries of a region the places of a run of the rewrite queue, as far as the gate lets
-    /// them move.
+    /// Moves entries of a region to the places in the rewrite queue that `entries` has, as far as
+    /// they may move: with a `gate` those in append files numbered at or below it, without one
+    /// those that are in rewrite files already.
     ///
     /// # Errors
     ///
-    /// `InvalidArgument` where it is no run of the rewrite queue, `Corruption` where the common
-    /// indexes begin behind the rewritten entries, or with a gate before their end, `Full`,
-    /// `Memory`. The tables are then as they were.
+    /// `InvalidArgument` where the indexes don't rise by one, or a place is in the append queue;
+    /// `Corruption` where the indexes that both have begin behind the rewritten entries, or with a
+    /// gate before the end of these; `Full`; `Memory`. The tables are as they were then.
     pub(crate) fn rewrite(
         &mut self,
         region: u64,
         entries: &[Entry],
         gate: Option<u64>,
     ) -> Result<()> {
-        let run = numbers_of(entries);
+        let run = to_entry_numbers(entries);
         // SAFETY: `held`: the handle holds tables.
         check_call(|text, text_len| unsafe {
             raft_ffi_tables_rewrite(
@@ -361,13 +385,14 @@ impl TablesHandle {
         })
     }
 
-    /// Moves a key of a region to the file of number `seq` of the rewrite queue, if the gate lets
-    /// it.
+    /// Moves a key of a region with its value to the rewrite file numbered `seq`: from an append
+    /// file only if there is a `gate` and the file is numbered at or below it, from a rewrite file
+    /// always.
     ///
     /// # Errors
     ///
-    /// `Corruption` where it stands in a later rewrite file, `Full`, `Memory`. The tables are then
-    /// as they were.
+    /// `Corruption` where the key is in a later rewrite file; `Full`; `Memory`. The tables are as
+    /// they were then.
     pub(crate) fn rewrite_key(
         &mut self,
         region: u64,
@@ -390,28 +415,31 @@ impl TablesHandle {
         })
     }
 
-    /// Sets the first and the last file of a region's atomic group, the first of which is at or
-    /// below the last. The only error is `Memory`. The tables are then as they were.
+    /// Sets the first and the last rewrite file of a region's last atomic group. `start` must be at
+    /// most `end`. The only error is `Memory`: the tables are as they were then.
     pub(crate) fn set_atomic_group(&mut self, region: u64, start: u64, end: u64) -> Result<()> {
         assert!(start <= end, "an atomic group starts behind its end");
         // SAFETY: `held`, `range`: the handle holds tables, and the files are in order.
-        memory_result(unsafe { raft_ffi_tables_atomic_group(self.0.as_ptr(), region, start, end) })
+        check_memory(unsafe { raft_ffi_tables_atomic_group(self.0.as_ptr(), region, start, end) })
     }
 
-    /// Removes a region's table, lists the region as cleaned with `is_listed`, and returns whether
-    /// there was a table. The only error is `Memory`. The tables are then as they were.
+    /// Removes the table of a region, and returns whether there was one. With `is_listed` it lists
+    /// the region as cleaned. The only error is `Memory`: the tables are as they were then.
     pub(crate) fn remove(&mut self, region: u64, is_listed: bool) -> Result<bool> {
         let mut is_found = false;
         // SAFETY: `held`: the handle holds tables.
-        memory_result(unsafe {
+        check_memory(unsafe {
             raft_ffi_tables_remove(self.0.as_ptr(), region, is_listed, &mut is_found)
         })?;
         Ok(is_found)
     }
 
-    /// Moves the table of a region, if there is one, in place of that of the other tables. Where
-    /// that is refused, with `Full` or `Memory`, the table is gone, and the others are as they
-    /// were.
+    /// Moves the table of a region, if there is one, to the tables `to`, in place of the one that
+    /// the region has there.
+    ///
+    /// # Errors
+    ///
+    /// `Full`, `Memory`. The table is lost then, and `to` is as it was.
     pub(crate) fn move_table(&mut self, region: u64, to: &mut TablesHandle) -> Result<()> {
         // SAFETY: `held`, `to`: both handles hold tables.
         check_call(|text, text_len| unsafe {
@@ -419,8 +447,12 @@ impl TablesHandle {
         })
     }
 
-    /// Merges the tables of a newer neighbor, each into the table of its region. Where one can't be
-    /// merged others are merged or as they were, and the rest is lost.
+    /// Merges tables of the batches that follow, each into the table of its region.
+    ///
+    /// # Errors
+    ///
+    /// Those of [`Tables::merge_newer`](crate::Tables::merge_newer). Some tables are merged then,
+    /// the others as they were, and the rest of `newer` is lost.
     pub(crate) fn merge_newer(&mut self, newer: TablesHandle) -> Result<()> {
         let newer = newer.into_raw();
         // SAFETY: `held`, `newer`: both handles hold tables, and the newer one is given away.
@@ -429,8 +461,13 @@ impl TablesHandle {
         })
     }
 
-    /// Merges appended tables, each into the rewritten table of its region. Where one can't be
-    /// merged others are merged or as they were, and the rest is lost.
+    /// Merges tables of the append queue into these of the rewrite queue, each into the table of
+    /// its region.
+    ///
+    /// # Errors
+    ///
+    /// Those of [`Tables::merge_append`](crate::Tables::merge_append). Some tables are merged then,
+    /// the others as they were, and the rest of `append` is lost.
     pub(crate) fn merge_append(&mut self, append: TablesHandle) -> Result<()> {
         let append = append.into_raw();
         // SAFETY: `held`, `append`: both handles hold tables, and the second one is given away.
@@ -439,8 +476,12 @@ impl TablesHandle {
         })
     }
 
-    /// Writes items of the append queue to the tables, in order. Where an item is refused those in
-    /// front of it are written, and nothing else.
+    /// Applies the items of a batch of the append queue, in order.
+    ///
+    /// # Errors
+    ///
+    /// `Corruption`, `Full` or `Memory` at the first item that is refused. The items before it are
+    /// applied then, and no others.
     pub(crate) fn apply_append(&mut self, items: ItemsHandle) -> Result<()> {
         let items = items.into_raw();
         // SAFETY: `held`, `items`: the handles hold tables and items, and the items are given away.
@@ -449,8 +490,13 @@ impl TablesHandle {
         })
     }
 
-    /// Writes items that were rewritten to the file of number `seq` to the tables, in order. Where
-    /// an item is refused those in front of it are written, and nothing else.
+    /// Applies items that were written to the rewrite file numbered `seq` to move records, in
+    /// order. `gate` says which places move, as for [`TablesHandle::rewrite`].
+    ///
+    /// # Errors
+    ///
+    /// `Corruption`, `Full` or `Memory` at the first item that is refused. The items before it are
+    /// applied then, and no others.
     pub(crate) fn apply_rewrite(
         &mut self,
         items: ItemsHandle,
@@ -464,10 +510,15 @@ impl TablesHandle {
         })
     }
 
-    /// Writes those items of the append queue whose regions are of the slot `number`, in order.
-    /// Where an item is refused those in front of it are written; without memory for copies of the
-    /// items none.
-    pub(crate) fn apply_share(&mut self, number: usize, items: &ItemsHandle) -> Result<()> {
+    /// Applies those items of a batch of the append queue whose regions belong to slot `number`, in
+    /// order.
+    ///
+    /// # Errors
+    ///
+    /// `Corruption`, `Full` or `Memory` at the first item that is refused. The items before it are
+    /// applied then, and no others. Where there is no memory for copies of the items none is
+    /// applied.
+    pub(crate) fn apply_slot_append(&mut self, number: usize, items: &ItemsHandle) -> Result<()> {
         check_call(|text, text_len| {
             // SAFETY: `held`, `items`: the handles hold tables and items.
             with_handle(&items.0, |items| unsafe {
@@ -476,9 +527,16 @@ impl TablesHandle {
         })
     }
 
-    /// Writes those rewritten items whose regions are of the slot `number`, in order. Where an item
-    /// is refused those in front of it are written; without memory for copies of the items none.
-    pub(crate) fn rewrite_share(
+    /// Applies those items whose regions belong to slot `number`, in order. They were written to
+    /// the rewrite file numbered `seq` to move records: `gate` says which places move, as for
+    /// [`TablesHandle::rewrite`].
+    ///
+    /// # Errors
+    ///
+    /// `Corruption`, `Full` or `Memory` at the first item that is refused. The items before it are
+    /// applied then, and no others. Where there is no memory for copies of the items none is
+    /// applied.
+    pub(crate) fn apply_slot_rewrite(
         &mut self,
         number: usize,
         items: &ItemsHandle,

@@ -1,10 +1,10 @@
-//! Tables are changed.
+//! Changes tables.
 
 use crate::{Batch, Entry, Error, FileId, LogBatch, Result, Tables};
 
 impl Tables {
-    /// Puts new entries of the append queue after those of a region below their start. All others go; where
-    /// there are no new ones, all stay.
+    /// Puts new entries of the append queue, with consecutive indexes, behind the entries of a region that are below their first
+    /// index. All other entries of the region are dropped. Without new entries nothing changes.
     ///
     /// ```
     /// # use raft_recover::{Block, Entry, FileId, Queue, Tables};
@@ -21,13 +21,14 @@ impl Tables {
     ///
     /// # Errors
     ///
-    /// `InvalidArgument` where the indexes don't rise by one or a place is in the rewrite queue; `Corruption` where they start
-    /// below all entries or leave a hole behind them; `Full`, `Memory`.
+    /// `InvalidArgument` where the indexes don't rise by one, or a place is in the rewrite queue; `Corruption` where the new
+    /// entries leave a hole behind those of the region, or begin below all of them; `Full` where more than 2^64 - 1 records would
+    /// be live; `Memory`.
     pub fn append(&mut self, region: u64, entries: &[Entry]) -> Result<()> {
         self.handle.append(region, entries)
     }
 
-    /// Drops the entries of a region below an index, and returns how many those were.
+    /// Drops the entries of a region below an index, and returns how many were dropped.
     ///
     /// ```
     /// # use raft_recover::{Block, Entry, FileId, Queue, Tables};
@@ -48,7 +49,7 @@ impl Tables {
         self.handle.compact(region, index)
     }
 
-    /// Drops the entries of a region at or above an index, and returns how many those were.
+    /// Drops the entries of a region from an index on, and returns how many were dropped.
     ///
     /// ```
     /// # use raft_recover::{Block, Entry, FileId, Queue, Tables};
@@ -69,7 +70,7 @@ impl Tables {
         self.handle.truncate(region, index)
     }
 
-    /// Puts a key of a region with its value, which were written to the file `file`.
+    /// Gives a key of a region a value. Both are copied; `file` is the one to which they were written.
     ///
     /// ```
     /// # use raft_recover::{FileId, Queue, Tables};
@@ -86,7 +87,7 @@ impl Tables {
         self.handle.put(region, key, value, file)
     }
 
-    /// Deletes a key of a region and its value.
+    /// Deletes a key of a region and its value, if there is one.
     ///
     /// ```
     /// # use raft_recover::{FileId, Queue, Tables};
@@ -104,8 +105,8 @@ impl Tables {
         self.handle.delete(region, key)
     }
 
-    /// Gives entries of a region the places of a run of the rewrite queue, as far as they may move: with a gate those in files
-    /// at or below it, without one those that are rewritten already.
+    /// Moves entries of a region to the places in the rewrite queue that `entries` has, as far as they may move: with a `gate`
+    /// those in append files numbered at or below it, without one those that are in rewrite files already.
     ///
     /// ```
     /// # use raft_recover::{Block, Entry, FileId, Queue, Tables};
@@ -130,8 +131,8 @@ impl Tables {
         self.handle.rewrite(region, entries, gate)
     }
 
-    /// Moves the pair of a region's key to the file of number `seq` of the rewrite queue: one in the append queue where there is
-    /// a gate and its file is at or below it, one in the rewrite queue always.
+    /// Moves a key of a region with its value to the rewrite file numbered `seq`: from an append file only if there is a `gate`
+    /// and the file is numbered at or below it, from a rewrite file always.
     ///
     /// ```
     /// # use raft_recover::{FileId, Queue, Tables};
@@ -155,7 +156,7 @@ impl Tables {
         self.handle.rewrite_key(region, key, gate, seq)
     }
 
-    /// Sets the first and the last file of a region's atomic group, once the group's End is written.
+    /// Sets the first and the last rewrite file of a region's last atomic group, once the end of that group is written.
     ///
     /// ```
     /// # use raft_recover::{FileId, Queue, Tables};
@@ -179,8 +180,8 @@ impl Tables {
         self.handle.set_atomic_group(region, start, end)
     }
 
-    /// Takes a region's table away, and returns whether there was one. Where that is asked for, it lists the region as cleaned,
-    /// also where it has no table.
+    /// Removes the table of a region, and returns whether there was one. With `is_listed` it lists the region as cleaned, even if
+    /// it had no table.
     ///
     /// ```
     /// # use raft_recover::{FileId, Queue, Tables};
@@ -194,16 +195,16 @@ impl Tables {
     ///
     /// # Errors
     ///
-    /// `Memory`, where the region is to be listed.
+    /// `Memory`, only with `is_listed`.
     pub fn remove(&mut self, region: u64, is_listed: bool) -> Result<bool> {
         self.handle.remove(region, is_listed)
     }
 
-    /// Hands out the cleaned regions as an open batch with a `Clean` for each, in order. The list is then empty.
+    /// Returns an open batch with a `Clean` for each of the cleaned regions, in order, and empties their list.
     ///
-    /// The batch belongs in the rewrite queue, once the append queue is synced. So does what else takes rewritten records
-    /// away, which is not listed: compactions, truncations, deletions of keys, and each run that replaces entries, as the
-    /// truncation at its first index.
+    /// The batch has to be written to the rewrite queue, once the append queue is synced. The same goes for all else that takes
+    /// rewritten records away, which isn't listed: compactions, truncations, deletions of keys, and entries that replace others,
+    /// as a truncation at their first index.
     ///
     /// ```
     /// # use raft_recover::{Content, Tables};
@@ -217,16 +218,16 @@ impl Tables {
     ///
     /// # Errors
     ///
-    /// `Memory`. The list is then as it was.
+    /// `Memory`. The list is as it was then.
     pub fn take_cleaned_logs(&mut self) -> Result<LogBatch> {
         let regions = self.cleaned();
-        Ok(LogBatch::of_cleans(
+        Ok(LogBatch::from_cleans(
             self.handle.take_cleaned_logs()?,
             &regions,
         ))
     }
 
-    /// Writes the items of a batch of the append queue to the tables, in order.
+    /// Applies the items of a batch of the append queue, in order.
     ///
     /// ```
     /// # use raft_recover::{LogBatch, LogFile, Queue, Tables, Version};
@@ -244,15 +245,13 @@ impl Tables {
     ///
     /// # Errors
     ///
-    /// `Corruption`, `Full` or `Memory` at the first item that is refused. The items in front of it are written, and nothing
-    /// else.
+    /// `Corruption`, `Full` or `Memory` at the first item that is refused. The items before it are applied then, and no others.
     pub fn apply_append(&mut self, batch: Batch) -> Result<()> {
         self.handle.apply_append(batch.into_handle())
     }
 
-    /// Writes the items of a batch that was rewritten to the file of number `seq` of the rewrite queue to the tables, in order.
-    /// With a gate the places that move are those in append files at or below it, without one those that are rewritten
-    /// already.
+    /// Applies the items of a batch, in order. The batch was written to the rewrite file numbered `seq`, to move records: `gate`
+    /// says which, as for [`Tables::rewrite`].
     ///
     /// ```
     /// # use raft_recover::{FileId, LogBatch, LogFile, Queue, Tables, Version};
@@ -272,7 +271,7 @@ impl Tables {
     ///
     /// # Errors
     ///
-    /// As [`Tables::apply_append`].
+    /// Those of [`Tables::apply_append`].
     pub fn apply_rewrite(&mut self, batch: Batch, gate: Option<u64>, seq: u64) -> Result<()> {
         self.handle.apply_rewrite(batch.into_handle(), gate, seq)
     }

@@ -1,10 +1,10 @@
-//! Tables are read.
+//! Reads tables.
 
 use crate::{Entry, LogBatch, Pair, Queue, Result, Summary, Tables};
 use std::ops::Range;
 
 impl Tables {
-    /// Returns how many records are live in a queue.
+    /// Returns how many records are live in a queue: entries and key values that the tables have there.
     ///
     /// ```
     /// # use raft_recover::{FileId, Queue, Tables};
@@ -18,7 +18,7 @@ impl Tables {
         self.handle.count_live(queue)
     }
 
-    /// Returns the regions that have a table, in rising order.
+    /// Returns the numbers of the regions that have a table, in rising order.
     ///
     /// ```
     /// # use raft_recover::{FileId, Queue, Tables};
@@ -35,7 +35,7 @@ impl Tables {
         self.handle.regions()
     }
 
-    /// Returns the regions that were cleaned, in the order of their `Clean`s.
+    /// Returns the list of cleaned regions, in the order in which they were cleaned. A region may be in it several times.
     ///
     /// ```
     /// # use raft_recover::Tables;
@@ -49,7 +49,7 @@ impl Tables {
         self.handle.cleaned()
     }
 
-    /// Returns what a region's table has; `None` where the region has no table.
+    /// Returns how many records the table of a region has, and which files it needs; `None` where the region has no table.
     ///
     /// ```
     /// # use raft_recover::{FileId, Queue, Tables};
@@ -83,8 +83,9 @@ impl Tables {
         self.handle.entry(region, index)
     }
 
-    /// Returns the entries of a range of indexes, in order. With a maximal size it stops before the first one with which the
-    /// total of lengths passes that size and exceeds the entry's own length. A region without a table has no entries.
+    /// Returns the entries of a range of a region's indexes with their places, in order. With a `max_size` these are the first
+    /// ones, as many as have at most so many bytes together; the first one that has bytes is returned whatever its size. A region
+    /// without a table has no entries.
     ///
     /// ```
     /// # use raft_recover::{Block, Entry, FileId, Queue, Tables};
@@ -101,8 +102,8 @@ impl Tables {
     ///
     /// # Errors
     ///
-    /// Where the range isn't empty: `EntryNotFound` without entries, `EntryCompacted` where it begins below the first entry,
-    /// `EntryNotFound` where its end is above the end of the entries; else `Memory` alone.
+    /// Where the range isn't empty: `EntryCompacted` where it begins below the region's first entry; `EntryNotFound` where it
+    /// ends behind the last one, or the region has none. Else `Memory` alone.
     pub fn entries(
         &self,
         region: u64,
@@ -112,7 +113,8 @@ impl Tables {
         self.handle.entries(region, range, max_size)
     }
 
-    /// Returns the appended entries of a region from the first on while their file is at or below `gate`.
+    /// Returns the appended entries of a region, from the first one on, as long as their file is numbered at or below `gate`.
+    /// None where the region has no table.
     ///
     /// ```
     /// # use raft_recover::{Block, Entry, FileId, Queue, Tables};
@@ -133,7 +135,7 @@ impl Tables {
         self.handle.entries_before(region, gate)
     }
 
-    /// Returns the rewritten entries of a region.
+    /// Returns the entries of a region that are in rewrite files, in order. They are its first ones.
     ///
     /// ```
     /// # use raft_recover::{Block, Entry, FileId, Queue, Tables};
@@ -155,7 +157,7 @@ impl Tables {
         self.handle.rewritten_entries(region)
     }
 
-    /// Returns the value of a region's key; `None` where the key has no value.
+    /// Returns a copy of the value of a region's key; `None` where the key has no value.
     ///
     /// ```
     /// # use raft_recover::{FileId, Queue, Tables};
@@ -170,8 +172,8 @@ impl Tables {
         self.handle.value(region, key)
     }
 
-    /// Returns the appended keys of a region with their values, up to a file: those in append files at or below `gate`, in
-    /// the order of the keys.
+    /// Returns the keys of a region that are in append files numbered at or below `gate`, with their values, in the order of the
+    /// keys.
     ///
     /// ```
     /// # use raft_recover::{FileId, Queue, Tables};
@@ -189,7 +191,7 @@ impl Tables {
         self.handle.pairs_before(region, gate)
     }
 
-    /// Returns the rewritten keys of a region with their values, in the order of the keys.
+    /// Returns the keys of a region that are in rewrite files, with their values, in the order of the keys.
     ///
     /// ```
     /// # use raft_recover::{FileId, Queue, Tables};
@@ -226,8 +228,8 @@ impl Tables {
         self.handle.pairs(region)
     }
 
-    /// Tests whether [`Tables::apply_append`] would accept the items of a batch once it is written to the append queue. It
-    /// changes nothing, and the stage of the batch doesn't matter.
+    /// Checks that [`Tables::apply_append`] would accept the items of a batch, once the batch is written to the append queue.
+    /// Nothing is changed, and the batch may be at any stage.
     ///
     /// ```
     /// # use raft_recover::{Block, Entry, FileId, LogBatch, Queue, Tables};
@@ -246,9 +248,9 @@ impl Tables {
     ///
     /// # Errors
     ///
-    /// `Corruption` where an item would be refused: the text names the region, the index and the reason. `Memory`.
+    /// `Corruption` where an item would be refused: the error has the item, the region and the index. `Memory`.
     pub fn check_append(&self, batch: &LogBatch) -> Result<()> {
         let checked = self.handle.check_append(batch.handle());
-        checked.map_err(|e| batch.name_misfit(e, |_| true, |region| self.summary(region)))
+        checked.map_err(|e| batch.name_refused_item(e, |_| true, |region| self.summary(region)))
     }
 }

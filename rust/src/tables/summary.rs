@@ -1,6 +1,6 @@
-//! What a region's table has.
+//! What a region's table has, in numbers.
 
-/// What a region's table has.
+/// What a region's table has, in numbers.
 ///
 /// ```
 /// use raft_recover::{FileId, Queue, Summary, Tables};
@@ -13,14 +13,14 @@
 /// ```
 #[derive(Clone, Copy, PartialEq, Eq, Hash, Debug, Default)]
 pub struct Summary {
-    /// How many entries.
+    /// How many entries the region has.
     pub entries: usize,
-    /// How many keys with a value.
+    /// How many keys with a value the region has.
     pub keys: usize,
-    /// The least index.
+    /// The least index of its entries; `None` where it has none.
     pub first_index: Option<u64>,
-    /// The least file in the append queue that it needs.
+    /// The number of the oldest append file that it needs; `None` where it needs none.
     pub append_seq: Option<u64>,
-    /// The least file in the rewrite queue that it needs.
+    /// The number of the oldest rewrite file that it needs; `None` where it needs none.
     pub rewrite_seq: Option<u64>,
 }

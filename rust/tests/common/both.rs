@@ -1,11 +1,12 @@
-//! Files in a folder, and in memory beside it.
+//! Files in a folder, with a copy in memory.
 
 #![allow(dead_code)]
 
 use raft_recover::{FileId, Files, FolderFiles, MemoryFiles, Queue};
 use std::io;
 
-/// Files in a folder, of which each change is noted in memory once it was made. What is read is the same in both.
+/// Files in a folder, with a copy in memory. Each change is made in the folder, and, if that succeeds, in memory. What is read is
+/// compared.
 pub struct Both {
     pub folder: FolderFiles,
     pub memory: MemoryFiles,

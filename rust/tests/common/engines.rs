@@ -4,19 +4,19 @@
 
 use raft_recover::{Ask, Engine, Files, LogBatch, MemoryFiles, Options, Result};
 
-/// A new engine over files in memory.
+/// Opens a new engine over files in memory.
 pub fn engine() -> Engine<MemoryFiles> {
     Engine::with_files(MemoryFiles::new(), Options::new()).unwrap()
 }
 
-/// Writes a batch that a call fills.
+/// Writes the batch that `fill` fills, without a sync.
 pub fn write<F: Files>(engine: &Engine<F>, fill: impl FnOnce(&mut LogBatch) -> Result<()>) {
     let mut batch = LogBatch::new().unwrap();
     fill(&mut batch).unwrap();
     engine.write(&mut batch, false).unwrap();
 }
 
-/// What was asked of files since then, but for the bytes.
+/// Returns what was asked of files behind the first `before` asks, as words, without the bytes.
 pub fn asked_since(files: &MemoryFiles, before: usize) -> Vec<String> {
     let asks = files.asks();
     let shown = asks[before..].iter().map(|ask| match ask {

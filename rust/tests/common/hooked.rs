@@ -1,11 +1,11 @@
-//! Files that ask a test before each call.
+//! Files that let a test decide on each call.
 
 #![allow(dead_code)]
 
 use raft_recover::{FileId, Files, MemoryFiles, Queue};
 use std::io;
 
-/// A call on files, but for `list`.
+/// A call of [`Files`], but for `list`.
 #[derive(Clone, Copy, Debug)]
 pub enum Call<'a> {
     Write(FileId, &'a [u8]),
@@ -13,24 +13,26 @@ pub enum Call<'a> {
     Rotate(FileId),
     Delete(FileId),
     Truncate(FileId, u64),
-    /// Which file is read, from which byte on, and how many bytes.
+    /// The file that is read, the offset, and how many bytes.
     Read(FileId, u64, usize),
 }
 
 impl Call<'_> {
-    /// Whether the call changes something.
+    /// Tests whether the call changes something.
     pub fn is_change(&self) -> bool {
         !matches!(self, Call::Read(..))
     }
 }
 
-/// Files in memory that ask a test before each call. The call is made where the test says `Ok`.
+/// Files in memory that make a call of a test, the hook, before each call on them. Where the hook returns an error, so does the
+/// call, and nothing is done.
 pub struct Hooked<H> {
     pub files: MemoryFiles,
     hook: H,
 }
 
 impl<H: Fn(Call<'_>) -> io::Result<()> + Send + Sync> Hooked<H> {
+    /// Returns a handle to the same files, whose calls `hook` is asked about.
     pub fn new(files: &MemoryFiles, hook: H) -> Hooked<H> {
         let files = files.clone();
         Hooked { files, hook }

@@ -1,4 +1,4 @@
-//! The files of demo/, and entries.
+//! What several tests use: the files of demo/, entries, batches, and folders that are deleted at the end.
 
 #![allow(dead_code)]
 
@@ -14,7 +14,7 @@ pub mod model;
 pub mod seeds;
 pub mod slots;
 
-/// A file of the append queue, signed.
+/// Returns file `seq` of the append queue, in version 2.
 pub fn file(seq: u64) -> LogFile {
     LogFile {
         queue: Queue::Append,
@@ -23,19 +23,19 @@ pub fn file(seq: u64) -> LogFile {
     }
 }
 
-/// The bytes of the four files of demo/.
+/// Returns the bytes of the four files of demo/.
 pub fn files() -> Vec<Vec<u8>> {
     (1..=4)
         .map(|n| fs::read(top().join(format!("demo/{n}.log"))).unwrap())
         .collect()
 }
 
-/// The top folder of the repository.
+/// Returns the top folder of the repository.
 pub fn top() -> &'static Path {
     Path::new(concat!(env!("CARGO_MANIFEST_DIR"), "/.."))
 }
 
-/// The files as parts.
+/// Makes a part of each file: that of the first one is of file 1 of the append queue, and so on.
 pub fn parts(files: &[Vec<u8>]) -> Vec<FilePart<'_>> {
     (1..)
         .zip(files)
@@ -47,7 +47,7 @@ pub fn parts(files: &[Vec<u8>]) -> Vec<FilePart<'_>> {
         .collect()
 }
 
-/// The lines that `raftlog recover` prints of demo/, as README.md has them.
+/// Returns the lines that `raftlog recover` prints for demo/, as README.md has them.
 pub fn lines() -> String {
     let readme = fs::read_to_string(top().join("README.md")).unwrap();
     let lines: String = readme
@@ -61,7 +61,7 @@ pub fn lines() -> String {
     lines
 }
 
-/// An entry of ten bytes in a file of a queue.
+/// Makes an entry of ten bytes in file `seq` of a queue.
 pub fn entry(queue: Queue, seq: u64, index: u64) -> Entry {
     Entry {
         index,
@@ -75,12 +75,12 @@ pub fn entry(queue: Queue, seq: u64, index: u64) -> Entry {
     }
 }
 
-/// Consecutive entries in one block of a file.
+/// Makes entries with these indexes, all in one block of file `seq` of a queue.
 pub fn run(queue: Queue, seq: u64, indexes: std::ops::Range<u64>) -> Vec<Entry> {
     indexes.map(|index| entry(queue, seq, index)).collect()
 }
 
-/// The bytes of a batch with these items, signed for a file.
+/// Returns the bytes of a batch with the items that `add` adds, signed for a file.
 pub fn batch_bytes(file: LogFile, add: impl FnOnce(&mut LogBatch)) -> Vec<u8> {
     let mut batch = LogBatch::new().unwrap();
     add(&mut batch);
@@ -89,8 +89,8 @@ pub fn batch_bytes(file: LogFile, add: impl FnOnce(&mut LogBatch)) -> Vec<u8> {
     batch.bytes().unwrap()
 }
 
-/// The bytes of a batch with the key of the group markers, `__\x01`, in place of `__\x02`. Its last four bytes are the CRC-32
-/// of its items, combined with the signature by xor, so they change by what that of the items changes.
+/// Makes a group marker of the key `__\x02` in a batch: returns its bytes with the key `__\x01` instead. Its last four bytes are
+/// the CRC-32 of its items, combined with the signature by exclusive or; so they change by as much as the CRC-32 does.
 pub fn with_group_marker(mut bytes: Vec<u8>) -> Vec<u8> {
     let items = u64::from_be_bytes(bytes[8..16].try_into().unwrap()) as usize;
     let end = bytes.len() - 4;
@@ -104,10 +104,11 @@ pub fn with_group_marker(mut bytes: Vec<u8>) -> Vec<u8> {
     bytes
 }
 
-/// A folder of this test's own, in memory where the system has such ones. It is deleted at the end.
+/// A new folder for one test, in memory if the system has such folders. It is deleted when this is dropped.
 pub struct TempFolder(PathBuf);
 
 impl TempFolder {
+    /// Makes a folder of a name that no other has in this process.
     pub fn new() -> TempFolder {
         static COUNT: AtomicU64 = AtomicU64::new(0);
         let name = format!(
@@ -126,6 +127,7 @@ impl TempFolder {
         TempFolder(path)
     }
 
+    /// Returns the path of the folder.
     pub fn path(&self) -> &Path {
         &self.0
     }

@@ -1,24 +1,26 @@
-//! What an engine has to have: maps, and changes of them that are drawn.
+//! A model of the regions of an engine: maps, and random changes of them.
 
 #![allow(dead_code)]
 
 use raft_recover::{Engine, Files, LogBatch, Result};
 use std::collections::BTreeMap;
 
-/// The keys that changes name.
+/// The keys that random changes name.
 pub const KEYS: [&[u8]; 3] = [b"a", b"b", b"c"];
 
-/// The key of the region of a thread under which the number of its last batch stands.
+/// The key under which the first region of a thread has the number of the thread's last batch.
 pub const COUNT: &[u8] = b"count";
 
-/// Drawn numbers, the same ones for a seed.
+/// A source of random numbers, the same ones for the same seed.
 pub struct Draw(u64);
 
 impl Draw {
+    /// Returns the source of a seed.
     pub fn new(seed: u64) -> Draw {
         Draw(seed)
     }
 
+    /// Draws any number of 64 bits.
     fn next(&mut self) -> u64 {
         self.0 = self.0.wrapping_add(0x9e37_79b9_7f4a_7c15);
         let mut z = self.0;
@@ -27,17 +29,17 @@ impl Draw {
         z ^ (z >> 31)
     }
 
-    /// A number below `end`.
+    /// Draws a number below `end`.
     pub fn below(&mut self, end: usize) -> usize {
         (self.next() % end as u64) as usize
     }
 
-    /// Whether something is done that is done once in `n` times.
+    /// Draws whether to do something: true once in `n` times on average.
     pub fn once_in(&mut self, n: usize) -> bool {
         self.below(n) == 0
     }
 
-    /// Bytes, of which some are drawn.
+    /// Draws up to 23 bytes.
     pub fn bytes(&mut self) -> Vec<u8> {
         let len = self.below(24);
         let word = self.next().to_le_bytes();
@@ -45,14 +47,14 @@ impl Draw {
     }
 }
 
-/// The entries and keys of a region.
+/// The entries of a region by their indexes, and its keys with their values.
 #[derive(Clone, PartialEq, Eq, Debug, Default)]
 pub struct Region {
     pub entries: BTreeMap<u64, Vec<u8>>,
     pub keys: BTreeMap<Vec<u8>, Vec<u8>>,
 }
 
-/// A change of a region.
+/// A change of a region, as an item of a batch makes it.
 #[derive(Clone, Debug)]
 pub enum Change {
     Entries(u64, Vec<Vec<u8>>),
@@ -64,7 +66,7 @@ pub enum Change {
 }
 
 impl Change {
-    /// Draws a change that an engine takes of such a region.
+    /// Draws a change that an engine accepts for a region with these records.
     pub fn draw(draw: &mut Draw, region: &Region) -> Change {
         let first = region.entries.keys().next().copied();
         let last = region.entries.keys().next_back().copied();
@@ -92,7 +94,7 @@ impl Change {
         }
     }
 
-    /// Makes it of a region.
+    /// Makes the change in the model of a region.
     pub fn apply(&self, region: &mut Region) {
         match self {
             Change::Entries(first, strings) => {
@@ -109,7 +111,7 @@ impl Change {
         }
     }
 
-    /// Adds it to a batch.
+    /// Adds the change to a batch.
     pub fn add(&self, region: u64, batch: &mut LogBatch) -> Result<()> {
         match self {
             Change::Entries(first, strings) => batch.add_entries(region, *first, strings),
@@ -122,7 +124,7 @@ impl Change {
     }
 }
 
-/// What an engine has of a region.
+/// Reads all that an engine has of a region.
 pub fn region_of<F: Files>(engine: &Engine<F>, id: u64) -> Result<Region> {
     let read = engine.entries(id, ..)?;
     let entries = (read.index().unwrap_or(0)..).zip(read).collect();

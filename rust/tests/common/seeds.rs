@@ -1,16 +1,16 @@
-//! Histories by their seeds, on all processors.
+//! Runs random histories, by their seeds, on all processors.
 
 #![allow(dead_code)]
 
 use std::sync::atomic::{AtomicU64, Ordering::Relaxed};
 use std::{env, mem, thread};
 
-/// A number that a variable names, or another one where it isn't set.
+/// Returns the number in an environment variable, or `otherwise` where it isn't set.
 pub fn number(variable: &str, otherwise: u64) -> u64 {
     env::var(variable).map_or(otherwise, |text| text.parse().unwrap())
 }
 
-/// Runs so many histories from a seed on, and tells the seed of one that fails.
+/// Calls `run` with `histories` seeds from `first` on, on all processors, and prints the seed of a history that fails.
 pub fn run_each(first: u64, histories: u64, run: impl Fn(u64) + Sync) {
     let next = AtomicU64::new(first);
     let threads = thread::available_parallelism().map_or(1, usize::from);
@@ -31,7 +31,7 @@ pub fn run_each(first: u64, histories: u64, run: impl Fn(u64) + Sync) {
     });
 }
 
-/// Tells the seed of a history that fails.
+/// The seed of a history, which is printed if this is dropped: then the history has panicked.
 struct Failing(u64);
 
 impl Drop for Failing {

@@ -1,4 +1,4 @@
-//! Slots, and tables for them.
+//! Slots and tables for tests.
 
 #![allow(dead_code)]
 
@@ -10,17 +10,18 @@ pub const APPEND_9: FileId = FileId {
     seq: 9,
 };
 
-/// The slot of a region.
+/// Makes the slot that a region belongs to, without tables.
 pub fn slot(region: u64) -> Slot {
     Slot::new(slot_of(region)).unwrap()
 }
 
-/// A region of another slot.
+/// Returns the least number of a region that belongs to another slot.
 pub fn other(region: u64) -> u64 {
     (0..).find(|id| slot_of(*id) != slot_of(region)).unwrap()
 }
 
-/// Tables of 600 regions with entries and a key; some were cleaned, and have a table again.
+/// Makes tables of 600 regions with entries and a key. Each seventh was cleaned before, and each second has entries in the
+/// rewrite queue. Region 700 is listed as cleaned twice.
 pub fn many_tables() -> Tables {
     let mut tables = Tables::new().unwrap();
     for region in 0..600 {

@@ -1,4 +1,4 @@
-//! The items of a batch that is written: how many there are, and which one is refused.
+//! Tests the items of a batch that is written: how many there are, and which one an error names.
 
 use crate::common::engines::{engine, write};
 use crate::common::model::{Change, Draw, Region};
@@ -89,10 +89,10 @@ fn a_batch_has_the_room_that_is_asked_for() {
     assert_eq!(refused.kind, ErrorKind::Memory);
 }
 
-/// Adds an item to a batch.
+/// A call that adds an item to a batch.
 type Add = fn(&mut LogBatch) -> Result<()>;
 
-/// Items of which the last one is refused by an engine in which region 7 has the entries 3 to 5.
+/// Items, of which an engine refuses the last one, if region 7 has the entries 3 to 5.
 const REFUSED: [&[Add]; 9] = [
     &[|batch| batch.add_entries(7, 7, &["hole"])],
     &[|batch| batch.add_entries(7, 2, &["in front"])],
@@ -179,8 +179,8 @@ fn a_written_batch_has_no_items_and_those_that_come_are_counted_anew() {
     }
 }
 
-/// Draws changes of regions, not all of which fit.
-fn drawn(draw: &mut Draw) -> Vec<(u64, Change)> {
+/// Draws changes of regions, some of which don't fit.
+fn draw_changes(draw: &mut Draw) -> Vec<(u64, Change)> {
     let count = 1 + draw.below(8);
     let change = |draw: &mut Draw| {
         let mut region = Region::default();
@@ -195,6 +195,7 @@ fn drawn(draw: &mut Draw) -> Vec<(u64, Change)> {
     (0..count).map(|_| change(draw)).collect()
 }
 
+/// Returns a batch with changes of regions.
 fn batch_of(changes: &[(u64, Change)]) -> LogBatch {
     let mut batch = LogBatch::new().unwrap();
     for (region, change) in changes {
@@ -216,7 +217,7 @@ fn all_items_before_the_named_one_fit_and_it_doesnt() {
                 tables.append(region, &entries).unwrap();
             }
         }
-        let changes = drawn(&mut draw);
+        let changes = draw_changes(&mut draw);
         let batch = batch_of(&changes);
         assert_eq!(batch.len(), changes.len());
         let Err(e) = tables.check_append(&batch) else {

@@ -1,4 +1,4 @@
-//! Batches that are written, read again, and applied.
+//! Tests batches that are written, read again, and applied.
 
 use crate::common::{file, run};
 use raft_recover::{
@@ -12,7 +12,7 @@ const APPEND_3: FileId = FileId {
     seq: 3,
 };
 
-/// An open batch with an item of each kind.
+/// Makes an open batch with an item of each kind.
 fn batch() -> LogBatch {
     let mut batch = LogBatch::new().unwrap();
     batch.add_entries(7, 10, &["one", "", "three"]).unwrap();
@@ -24,7 +24,7 @@ fn batch() -> LogBatch {
     batch
 }
 
-/// The items of the batch, their entry block standing at an offset of file 3 of the append queue.
+/// Returns the items that this batch has once it is in file 3 of the append queue, with its entry block at `offset`.
 fn items(offset: u64) -> Vec<Item> {
     let entry = |index, entry_offset, len| Entry {
         index,
@@ -56,8 +56,8 @@ fn items(offset: u64) -> Vec<Item> {
     .to_vec()
 }
 
-/// Makes and signs the bytes of a batch.
-fn sealed(batch: &mut LogBatch) -> Vec<u8> {
+/// Makes the bytes of a batch, signs them for that file, and returns them.
+fn seal(batch: &mut LogBatch) -> Vec<u8> {
     batch.finish().unwrap();
     batch.sign(file(3)).unwrap();
     batch.bytes().unwrap()
@@ -89,7 +89,7 @@ fn what_is_written_is_read_again() {
 fn the_bytes_of_entries_stand_at_their_places() {
     let mut batch = batch();
     let mut file = vec![0; 100];
-    file.extend(sealed(&mut batch));
+    file.extend(seal(&mut batch));
     batch.written(APPEND_3, 100).unwrap();
     let Content::Entries(entries) = batch.into_items().unwrap().get(0).unwrap().content else {
         panic!("the first item has entries");
@@ -110,7 +110,7 @@ fn the_bytes_of_entries_stand_at_their_places() {
 fn places_are_in_the_queue_that_a_batch_is_written_to() {
     for queue in [Queue::Append, Queue::Rewrite] {
         let mut batch = batch();
-        sealed(&mut batch);
+        seal(&mut batch);
         batch.sign(LogFile { queue, ..file(3) }).unwrap();
         batch.written(FileId { queue, seq: 3 }, 0).unwrap();
         let items = batch.into_items().unwrap();
@@ -124,7 +124,7 @@ fn places_are_in_the_queue_that_a_batch_is_written_to() {
 #[test]
 fn a_batch_is_signed_for_one_file_after_another() {
     let mut batch = batch();
-    let bytes = sealed(&mut batch);
+    let bytes = seal(&mut batch);
     batch.sign(file(4)).unwrap();
     let others = batch.bytes().unwrap();
     assert_eq!(bytes.len(), others.len());
@@ -143,7 +143,7 @@ fn a_batch_is_signed_for_one_file_after_another() {
 #[test]
 fn a_batch_is_written_to_the_file_that_it_is_signed_for() {
     let mut batch = batch();
-    sealed(&mut batch);
+    seal(&mut batch);
     let rewrite_3 = FileId::new(Queue::Rewrite, 3);
     let append_4 = FileId::new(Queue::Append, 4);
     for other in [rewrite_3, append_4] {
@@ -164,7 +164,7 @@ fn a_batch_is_written_to_the_file_that_it_is_signed_for() {
 fn entries_without_bytes_have_a_block_without_bytes() {
     let mut batch = LogBatch::new().unwrap();
     batch.add_entries(7, 1, &["", ""]).unwrap();
-    sealed(&mut batch);
+    seal(&mut batch);
     batch.written(APPEND_3, 100).unwrap();
     let Content::Entries(entries) = batch.into_items().unwrap().get(0).unwrap().content else {
         panic!("the first item has entries");
@@ -190,7 +190,7 @@ fn batches_are_merged() {
     let (mut first, mut more) = (batch(), batch());
     first.merge(&mut more).unwrap();
     assert!(more.into_items().unwrap().is_empty());
-    sealed(&mut first);
+    seal(&mut first);
     first.written(APPEND_3, 0).unwrap();
     let items = first.into_items().unwrap();
     assert_eq!(items.len(), 12);
@@ -263,7 +263,7 @@ fn written_batches_are_checked_and_applied() {
     let mut tables = Tables::new().unwrap();
     let mut batch = batch();
     tables.check_append(&batch).unwrap();
-    sealed(&mut batch);
+    seal(&mut batch);
     batch.written(APPEND_3, 0).unwrap();
     tables.check_append(&batch).unwrap();
     tables.apply_append(batch.into_items().unwrap()).unwrap();
@@ -330,7 +330,7 @@ fn all_keys_of_a_region_are_walked() {
 fn a_batch_moves_to_another_thread() {
     let mut batch = batch();
     let batch = thread::spawn(move || {
-        sealed(&mut batch);
+        seal(&mut batch);
         batch
     });
     assert_eq!(batch.join().unwrap().stage(), Stage::Signed);

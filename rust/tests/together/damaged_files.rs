@@ -1,5 +1,6 @@
-//! Files of which something synced was changed or taken away: an opening refuses them and names the place, or tells what it cuts. Two
-//! losses can't be seen, and are: a queue's last file that is gone, and damage in its last batch, which looks like a torn one.
+//! Tests files of which something synced was changed or taken away: an opening refuses them and names the place, or says what it
+//! cuts off. Two losses look like what a crash leaves, and can't be told from it: a queue's last file that is gone, and damage in
+//! its last batch.
 
 use crate::common::engines::write;
 use crate::common::model::{Region, region_of};
@@ -9,16 +10,19 @@ use raft_recover::{
 
 const FIRST: FileId = FileId::new(Queue::Append, 1);
 
-/// The files of an engine as others that were found, with one change.
-fn changed(files: &MemoryFiles, change: impl FnOnce(&mut [Vec<(u64, Vec<u8>)>; 2])) -> MemoryFiles {
+/// Returns the files of an engine as ones that are found, with one change.
+fn with_change(
+    files: &MemoryFiles,
+    change: impl FnOnce(&mut [Vec<(u64, Vec<u8>)>; 2]),
+) -> MemoryFiles {
     let mut held = [Queue::Append, Queue::Rewrite].map(|queue| files.files(queue));
     change(&mut held);
     let [append, rewrite] = held;
     MemoryFiles::found(append, rewrite)
 }
 
-/// One file with so many batches of one entry each, all of them synced.
-fn entries(count: u64) -> MemoryFiles {
+/// Returns a single file with `count` batches of one entry each, all of them synced.
+fn file_of_entries(count: u64) -> MemoryFiles {
     let files = MemoryFiles::new();
     let engine = Engine::with_files(files.clone(), Options::new()).unwrap();
     for index in 1..=count {
@@ -30,7 +34,7 @@ fn entries(count: u64) -> MemoryFiles {
     files
 }
 
-/// Tests that files are refused at a place, for this reason.
+/// Tests that an opening refuses files with this place and this reason.
 fn assert_refused(found: MemoryFiles, file: FileId, offset: u64, reason: &str) {
     let e = Engine::with_files(found.clone(), Options::new()).unwrap_err();
     let place = (ErrorKind::Corruption, Some(file), Some(offset));
@@ -44,24 +48,25 @@ fn assert_refused(found: MemoryFiles, file: FileId, offset: u64, reason: &str) {
 
 #[test]
 fn a_changed_bit_among_3_050_synced_entries_is_refused_by_its_place() {
-    let files = entries(3050);
-    let with_bit = |at: usize, bit: u8| changed(&files, |[append, _]| append[0].1[at] ^= 1 << bit);
+    let files = file_of_entries(3050);
+    let with_bit =
+        |at: usize, bit: u8| with_change(&files, |[append, _]| append[0].1[at] ^= 1 << bit);
     let reason =
         |at: u64| format!("no batch can be read there, but one stands behind it, at offset {at}");
     // of the first batch, which has 37 bytes, the length
     assert_refused(with_bit(0, 0), FIRST, 0, &reason(37));
-    // 9 batches of 37 bytes, 90 of 38 and 7 of 39 stand in front of it
+    // 9 batches of 37 bytes, 90 of 38 and 7 of 39 stand before it
     assert_refused(with_bit(4030, 0), FIRST, 4026, &reason(4065));
 }
 
 #[test]
 fn a_file_of_3_050_synced_entries_that_gets_another_number_is_refused() {
-    let found = changed(&entries(3050), |[append, _]| append[0].0 = 2);
+    let found = with_change(&file_of_entries(3050), |[append, _]| append[0].0 = 2);
     let reason = "no batch can be read there, but at offset 0 one stands that is signed for file 1";
     assert_refused(found, FileId::new(Queue::Append, 2), 0, reason);
 }
 
-/// Seven append files: each of them has an entry of region 7, and a newer value of its key `vote`.
+/// Returns seven append files: each of them has an entry of region 7, and a newer value of its key `vote`.
 fn seven_files() -> MemoryFiles {
     let files = MemoryFiles::new();
     let options = Options::new().target_file_size(1);
@@ -78,7 +83,7 @@ fn seven_files() -> MemoryFiles {
 
 #[test]
 fn of_seven_files_two_that_are_gone_are_missed() {
-    let found = changed(&seven_files(), |[append, _]| {
+    let found = with_change(&seven_files(), |[append, _]| {
         append.retain(|(seq, _)| ![3, 6].contains(seq))
     });
     let third = FileId::new(Queue::Append, 3);
@@ -87,14 +92,14 @@ fn of_seven_files_two_that_are_gone_are_missed() {
 
 #[test]
 fn that_the_last_files_of_a_queue_are_gone_cant_be_seen() -> Result<()> {
-    let found = changed(&seven_files(), |[append, _]| append.truncate(5));
+    let found = with_change(&seven_files(), |[append, _]| append.truncate(5));
     let engine = Engine::with_files(found, Options::new())?;
     assert_eq!(engine.recovered().cuts().count(), 0);
     assert_eq!(engine.last_index(7)?, Some(5));
     assert_eq!(engine.get(7, b"vote")?.unwrap(), 5_u64.to_le_bytes());
     // and of the rewrite queue
-    let files = moved()?;
-    let found = changed(&files, |[_, rewrite]| rewrite.clear());
+    let files = moved_files()?;
+    let found = with_change(&files, |[_, rewrite]| rewrite.clear());
     let engine = Engine::with_files(found, Options::new())?;
     assert_eq!(engine.recovered().cuts().count(), 0);
     let left = records(&engine)?;
@@ -106,8 +111,9 @@ fn that_the_last_files_of_a_queue_are_gone_cant_be_seen() -> Result<()> {
     Ok(())
 }
 
-/// Files of an engine of which regions 1 and 2 stand in the rewrite queue alone, in a batch each, and region 3 in the append queue.
-fn moved() -> Result<MemoryFiles> {
+/// Returns the files of an engine whose regions 1 and 2 are in the rewrite queue alone, in a batch each, and region 3 in the
+/// append queue.
+fn moved_files() -> Result<MemoryFiles> {
     let files = MemoryFiles::new();
     let engine = Engine::with_files(files.clone(), Options::new())?;
     for region in [1, 2] {
@@ -124,26 +130,26 @@ fn moved() -> Result<MemoryFiles> {
     Ok(files)
 }
 
-/// What an engine has of the regions 1 to 3.
+/// Returns what an engine has of the regions 1 to 3.
 fn records(engine: &Engine<MemoryFiles>) -> Result<Vec<Region>> {
     (1..=3).map(|id| region_of(engine, id)).collect()
 }
 
 #[test]
 fn each_bit_of_the_last_rewrite_file_is_refused_or_told() -> Result<()> {
-    let files = moved()?;
+    let files = moved_files()?;
     let held = files.files(Queue::Rewrite);
     let [(seq, bytes)] = &held[..] else {
         panic!("{} files", held.len());
     };
-    let (file, last) = (FileId::new(Queue::Rewrite, *seq), last_batch(bytes));
+    let (file, last) = (FileId::new(Queue::Rewrite, *seq), last_batch_start(bytes));
     assert!(0 < last);
-    let cut = changed(&files, |[_, rewrite]| rewrite[0].1.truncate(last));
+    let cut = with_change(&files, |[_, rewrite]| rewrite[0].1.truncate(last));
     let before_last = records(&Engine::with_files(cut, Options::new())?)?;
     let mut outcomes = [0; 2];
     for at in 0..bytes.len() {
         for bit in 0..8 {
-            let found = changed(&files, |[_, rewrite]| rewrite[0].1[at] ^= 1 << bit);
+            let found = with_change(&files, |[_, rewrite]| rewrite[0].1[at] ^= 1 << bit);
             match Engine::with_files(found, Options::new()) {
                 Ok(engine) => {
                     let cut = engine.recovered().rewrite.as_ref().unwrap();
@@ -164,12 +170,12 @@ fn each_bit_of_the_last_rewrite_file_is_refused_or_told() -> Result<()> {
     Ok(())
 }
 
-/// Where the last of two batches begins: the first seven bytes are the first one's length.
-fn last_batch(bytes: &[u8]) -> usize {
+/// Returns where the last of two batches begins: the first seven bytes are the length of the first one.
+fn last_batch_start(bytes: &[u8]) -> usize {
     (u64::from_be_bytes(bytes[..8].try_into().unwrap()) >> 8) as usize
 }
 
-/// Tests that a refusal names the batch with the damage.
+/// Tests that an error names the damaged batch.
 fn assert_is_at(e: &Error, file: FileId, offset: usize) {
     let place = (ErrorKind::Corruption, Some(file), Some(offset as u64));
     assert_eq!((e.kind, e.file, e.offset), place, "{e}");
@@ -187,7 +193,7 @@ fn three_hundred_restarts_with_a_write_each_grow_by_these_writes() -> Result<()>
         let entries = region_of(&engine, 7)?.entries;
         assert!(entries.keys().copied().eq(1..=index));
         drop(engine);
-        found = changed(&found, |_| ());
+        found = with_change(&found, |_| ());
     }
     let held = [Queue::Append, Queue::Rewrite].map(|queue| found.files(queue));
     let bytes = held.map(|held| held.iter().map(|(_, bytes)| bytes.len()).sum::<usize>());

@@ -1,4 +1,4 @@
-//! An engine over files in memory and in a folder: what is written, read and refused.
+//! Tests what an engine over files in memory and in a folder writes, reads and refuses.
 
 use crate::common::TempFolder;
 use crate::common::engines::{asked_since, engine, write};
@@ -11,7 +11,7 @@ use std::ops::Bound;
 
 const FIRST: FileId = FileId::new(Queue::Append, 1);
 
-/// Entries as text.
+/// Returns entries as texts.
 fn texts(entries: Result<Entries>) -> Vec<String> {
     let texts = entries.unwrap().map(String::from_utf8);
     texts.collect::<std::result::Result<_, _>>().unwrap()
@@ -57,7 +57,7 @@ fn what_is_written_is_found_again() {
     }
 }
 
-/// An engine whose region 7 has the entries 3 to 6.
+/// Opens an engine whose region 7 has the entries 3 to 6.
 fn compacted_engine() -> Engine<MemoryFiles> {
     let engine = engine();
     write(&engine, |batch| {

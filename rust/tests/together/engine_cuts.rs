@@ -1,4 +1,4 @@
-//! What is told of a torn tail that is cut when an engine is opened, and where it is kept.
+//! Tests what an engine says of a torn tail that its opening cut off, and where the tail is kept.
 
 use crate::common::TempFolder;
 use crate::common::engines::{engine, write};
@@ -11,7 +11,7 @@ use std::path::Path;
 
 const FIRST: FileId = FileId::new(Queue::Append, 1);
 
-/// The bytes of an append file of two batches, and how many the first one has.
+/// Returns the bytes of an append file of two batches, and how many the first batch has.
 fn two_batches() -> (Vec<u8>, usize) {
     let engine = engine();
     write(&engine, |batch| batch.put(7, b"key", b"value"));
@@ -22,7 +22,7 @@ fn two_batches() -> (Vec<u8>, usize) {
     (engine.files().files(Queue::Append).remove(0).1, whole)
 }
 
-/// Tests what is told of a tail of so many bytes behind a whole batch.
+/// Tests what is said of a tail of `len` bytes behind `whole` bytes of whole batches.
 fn assert_told(cut: &CutTail, file: FileId, whole: usize, len: usize) {
     let place = (file, whole as u64, len as u64);
     assert_eq!((cut.file, cut.offset, cut.len), place);
@@ -71,7 +71,7 @@ fn a_changed_byte_in_the_last_batch_is_told_as_the_reason() {
     assert_eq!(cut.reason.as_ref().unwrap().kind, ErrorKind::Corruption);
 }
 
-/// The files in a folder, but for `LOCK`.
+/// Returns the files in a folder by their names, without `LOCK`.
 fn files_in(folder: &Path) -> BTreeMap<String, Vec<u8>> {
     let entries = fs::read_dir(folder).unwrap().map(Result::unwrap);
     let files = entries.filter(|entry| entry.file_name() != "LOCK");
@@ -83,7 +83,8 @@ fn files_in(folder: &Path) -> BTreeMap<String, Vec<u8>> {
         .collect()
 }
 
-/// Opens a folder whose first append file has these bytes behind what it has, and returns how many were cut.
+/// Appends a tail to the first append file in a folder, opens the folder, and returns how many bytes were cut off; `None` where
+/// none were.
 fn cut_by_opening(folder: &Path, tail: &[u8]) -> Option<u64> {
     let path = folder.join("0000000000000001.raftlog");
     let mut bytes = fs::read(&path).unwrap();

@@ -1,5 +1,5 @@
-//! What an opening takes for a torn tail, and what for damage, which it refuses: where the reading of a queue's last file stops,
-//! what is left is cut if it may be part of one batch, or nothing that can be read stands in it.
+//! Tests what an opening takes for a torn tail, and what for damage, which it refuses. Where a queue's last file can't be read
+//! on, what is left is cut off if it may be part of a single batch, or has nothing that can be read.
 
 use crate::common::{batch_bytes, file};
 use raft_recover::{
@@ -7,7 +7,7 @@ use raft_recover::{
     crc32,
 };
 
-/// The bytes of a file of four batches, each with two entries and a key, and where they begin.
+/// Returns the bytes of a file of four batches, each with two entries and a key, and where the batches begin.
 fn four_batches(file: LogFile) -> (Vec<u8>, Vec<usize>) {
     let (mut bytes, mut places) = (Vec::new(), Vec::new());
     for n in 1..=4 {
@@ -20,8 +20,8 @@ fn four_batches(file: LogFile) -> (Vec<u8>, Vec<usize>) {
     (bytes, places)
 }
 
-/// Files of which the last one of a queue has this number and these bytes; the other queue has none.
-fn found(id: FileId, bytes: &[u8]) -> MemoryFiles {
+/// Returns files of which the last one of a queue has this id and these bytes; the other queue has none.
+fn found_files(id: FileId, bytes: &[u8]) -> MemoryFiles {
     let held = vec![(id.seq, bytes.to_vec())];
     match id.queue {
         Queue::Append => MemoryFiles::found(held, vec![]),
@@ -29,20 +29,21 @@ fn found(id: FileId, bytes: &[u8]) -> MemoryFiles {
     }
 }
 
-/// How many bytes an opening leaves of such a file, and cuts.
-fn opened(id: FileId, bytes: &[u8], options: &Options) -> Result<(u64, u64), Error> {
-    let engine = Engine::with_files(found(id, bytes), options.clone())?;
+/// Opens such files, and returns how many bytes of that file the opening leaves, and how many it cuts off.
+fn open_and_measure(id: FileId, bytes: &[u8], options: &Options) -> Result<(u64, u64), Error> {
+    let engine = Engine::with_files(found_files(id, bytes), options.clone())?;
     let cut = engine.recovered().cuts().map(|cut| cut.len).sum();
     Ok((bytes.len() as u64 - cut, cut))
 }
 
-/// Tests that such a file is refused at an offset, whether it is opened to be read alone or not, and nothing is asked of it.
+/// Tests that such files are refused at an offset, also where they are opened for reading only, and that nothing is asked of
+/// them.
 fn assert_refused(id: FileId, bytes: &[u8], offset: usize, reason: &str) {
     let text =
         format!("Corruption: {id}, offset {offset}: no batch can be read there, but {reason}");
     let place = (ErrorKind::Corruption, Some(id), Some(offset as u64));
     for read_only in [false, true] {
-        let files = found(id, bytes);
+        let files = found_files(id, bytes);
         let engine = match read_only {
             false => Engine::with_files(files.clone(), Options::new()),
             true => Engine::with_files_read_only(files.clone(), Options::new()),
@@ -83,7 +84,7 @@ fn all_of_a_last_batch_that_cant_be_read_is_cut() {
         let mut bytes = bytes.clone();
         bytes[i] ^= 0x80;
         let cut = (bytes.len() - last) as u64;
-        let left = opened(id, &bytes, &Options::new()).unwrap();
+        let left = open_and_measure(id, &bytes, &Options::new()).unwrap();
         assert_eq!(left, (last as u64, cut), "{i}");
     }
 }
@@ -104,7 +105,7 @@ fn a_changed_checksum_of_a_last_batch_may_be_that_for_another_file() {
             }
             _ => {
                 let cut = (bytes.len() - last) as u64;
-                let left = opened(id, &bytes, &Options::new()).unwrap();
+                let left = open_and_measure(id, &bytes, &Options::new()).unwrap();
                 assert_eq!(left, (last as u64, cut), "{bit}");
             }
         }
@@ -132,7 +133,7 @@ fn batches_of_version_1_say_nothing_of_their_file() {
     let (bytes, _) = four_batches(LogFile::new(Queue::Append, 3, Version::V1));
     let options = Options::new().version(Version::V1);
     let taken = FileId::new(Queue::Append, 2);
-    let left = opened(taken, &bytes, &options).unwrap();
+    let left = open_and_measure(taken, &bytes, &options).unwrap();
     assert_eq!(left, (bytes.len() as u64, 0));
 }
 
@@ -148,14 +149,14 @@ fn a_part_of_one_batch_is_cut_whatever_its_entries_hold() {
     let front = places[1] as u64;
     let id = FileId::from(file(1));
     for len in places[1]..bytes.len() {
-        let left = opened(id, &bytes[..len], &Options::new()).unwrap();
+        let left = open_and_measure(id, &bytes[..len], &Options::new()).unwrap();
         assert_eq!(left, (front, len as u64 - front), "{len}");
     }
     // with a batch behind it, it isn't part of one
     let len = bytes.len();
     bytes.extend_from_slice(&held[..places[1]]);
     bytes[len - 1] ^= 0x80;
-    let e = opened(id, &bytes, &Options::new()).unwrap_err();
+    let e = open_and_measure(id, &bytes, &Options::new()).unwrap_err();
     assert_eq!((e.kind, e.offset), (ErrorKind::Corruption, Some(front)));
 }
 
@@ -170,7 +171,7 @@ fn an_entry_that_ends_behind_its_block_is_refused_by_its_name() {
     bytes.extend(crc32(&items).to_le_bytes());
     let first = FileId::new(Queue::Append, 1);
     let options = Options::new().version(Version::V1);
-    let engine = Engine::with_files(found(first, &bytes), options).unwrap();
+    let engine = Engine::with_files(found_files(first, &bytes), options).unwrap();
     assert_eq!(engine.last_index(7).unwrap(), Some(11));
     for (index, e) in [
         (10, engine.entry(7, 10).unwrap_err()),
@@ -184,18 +185,18 @@ fn an_entry_that_ends_behind_its_block_is_refused_by_its_name() {
     }
 }
 
-/// Options of a mode.
-fn in_mode(mode: RecoveryMode) -> Options {
+/// Returns options with a mode.
+fn options_in_mode(mode: RecoveryMode) -> Options {
     Options::new().recovery_mode(mode)
 }
 
 #[test]
 fn nothing_is_cut_in_the_strict_mode() {
-    let strict = in_mode(RecoveryMode::AbsoluteConsistency);
+    let strict = options_in_mode(RecoveryMode::AbsoluteConsistency);
     for queue in [Queue::Append, Queue::Rewrite] {
         let id = FileId::new(queue, 1);
         let (bytes, places) = four_batches(LogFile::new(queue, 1, Version::V2));
-        let whole = opened(id, &bytes, &strict).unwrap();
+        let whole = open_and_measure(id, &bytes, &strict).unwrap();
         assert_eq!(whole, (bytes.len() as u64, 0));
         // a torn tail, and damage
         let mut damaged = bytes.clone();
@@ -204,7 +205,7 @@ fn nothing_is_cut_in_the_strict_mode() {
             (&bytes[..bytes.len() - 1], places[3]),
             (&damaged, places[1]),
         ] {
-            let e = opened(id, bytes, &strict).unwrap_err();
+            let e = open_and_measure(id, bytes, &strict).unwrap_err();
             let reason = "no batch can be read there, and nothing may be cut off";
             assert_eq!(e.text, format!("Corruption: {id}, offset {at}: {reason}"));
             let place = (ErrorKind::Corruption, Some(id), Some(at as u64));
@@ -215,7 +216,7 @@ fn nothing_is_cut_in_the_strict_mode() {
 
 #[test]
 fn all_from_damage_on_is_cut_in_the_mode_that_tolerates_it() {
-    let tolerant = in_mode(RecoveryMode::TolerateTailCorruption);
+    let tolerant = options_in_mode(RecoveryMode::TolerateTailCorruption);
     for queue in [Queue::Append, Queue::Rewrite] {
         let id = FileId::new(queue, 1);
         let (bytes, places) = four_batches(LogFile::new(queue, 1, Version::V2));
@@ -223,9 +224,9 @@ fn all_from_damage_on_is_cut_in_the_mode_that_tolerates_it() {
             let mut bytes = bytes.clone();
             bytes[at] ^= 1;
             let cut = (bytes.len() - at) as u64;
-            let left = opened(id, &bytes, &tolerant).unwrap();
+            let left = open_and_measure(id, &bytes, &tolerant).unwrap();
             assert_eq!(left, (at as u64, cut), "{at}");
-            let engine = Engine::with_files(found(id, &bytes), tolerant.clone()).unwrap();
+            let engine = Engine::with_files(found_files(id, &bytes), tolerant.clone()).unwrap();
             let told = engine.recovered().cuts().next().unwrap();
             assert_eq!((told.file, told.offset, told.len), (id, at as u64, cut));
             let reason = told.reason.as_ref().unwrap();
@@ -238,7 +239,7 @@ fn all_from_damage_on_is_cut_in_the_mode_that_tolerates_it() {
                 RecoveryMode::AbsoluteConsistency,
                 RecoveryMode::TolerateTornTail,
             ] {
-                let left = opened(id, &held, &in_mode(mode)).unwrap();
+                let left = open_and_measure(id, &held, &options_in_mode(mode)).unwrap();
                 assert_eq!(left, (held.len() as u64, 0));
             }
         }
@@ -255,11 +256,12 @@ fn a_missing_file_and_one_of_the_other_version_are_refused_in_each_mode() {
         RecoveryMode::TolerateTailCorruption,
     ] {
         let held = vec![(1, first.clone()), (3, third.clone())];
-        let e = Engine::with_files(MemoryFiles::found(held, vec![]), in_mode(mode)).unwrap_err();
+        let e = Engine::with_files(MemoryFiles::found(held, vec![]), options_in_mode(mode))
+            .unwrap_err();
         let missing = FileId::new(Queue::Append, 2);
         assert_eq!((e.kind, e.file), (ErrorKind::Corruption, Some(missing)));
-        let options = in_mode(mode).version(Version::V1);
-        let e = opened(FileId::from(file(1)), &first, &options).unwrap_err();
+        let options = options_in_mode(mode).version(Version::V1);
+        let e = open_and_measure(FileId::from(file(1)), &first, &options).unwrap_err();
         let text = "Corruption: append file 1, offset 0: a batch of the other version stands there";
         assert_eq!(e.text, text);
     }

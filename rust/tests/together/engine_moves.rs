@@ -1,4 +1,4 @@
-//! Records of an engine that move, and files that go.
+//! Tests how an engine moves records and deletes files.
 
 use crate::common::engines::{asked_since, engine, write};
 use crate::common::model::region_of;
@@ -177,7 +177,7 @@ fn a_purge_moves_records_where_there_are_too_many_bytes() {
     }
 }
 
-/// Writes ten entries of a hundred bytes, each in an append file of its own, of which an eleventh is the last.
+/// Opens an engine, and writes ten entries of a hundred bytes, each in an append file of its own. An eleventh file is the last.
 fn ten_files(options: &Options) -> Engine<MemoryFiles> {
     let options = options.clone().target_file_size(100);
     let engine = Engine::with_files(MemoryFiles::new(), options).unwrap();

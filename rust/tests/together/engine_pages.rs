@@ -1,19 +1,20 @@
-//! A disk that writes unsynced pages in any order: a page of zeros may stand in front of others behind what was synced. An entry
-//! that was synced is read then, or the files are refused, with the place, whichever way it was moving when the machine stopped.
+//! Tests crashes with a disk that writes unsynced pages in any order: behind what was synced a page of zeros may stand before
+//! others. An entry that was synced can be read then, or the files are refused with the place of the damage, whichever way the
+//! entry was moving at the crash.
 
 use crate::common::TempFolder;
 use crate::common::engines::{engine, write};
 use raft_recover::{Ask, Engine, ErrorKind, FileId, MemoryFiles, Options, Queue, Unsynced};
 use std::fs;
 
-/// The entry of a region: so many bytes, none of which is 0.
+/// Returns the bytes of the entry of a region: `len` bytes, none of which is 0.
 fn entry(region: u64, len: usize) -> Vec<u8> {
     vec![region as u8; len]
 }
 
-/// An engine of which region 1 and the next ones have so many entries, of so many bytes each, in the rewrite queue alone. All of
-/// it was synced, and the append files that had them are gone.
-fn moved(regions: u64, entries: usize, len: usize) -> Engine<MemoryFiles> {
+/// Opens an engine whose regions, from 1 on, have so many entries, of so many bytes each, in the rewrite queue alone. All of it
+/// is synced, and the append files that had them are deleted.
+fn moved_engine(regions: u64, entries: usize, len: usize) -> Engine<MemoryFiles> {
     let options = Options::new().purge_above(1).purge_garbage(0);
     let engine = Engine::with_files(MemoryFiles::new(), options).unwrap();
     for region in 1..=regions {
@@ -28,9 +29,9 @@ fn moved(regions: u64, entries: usize, len: usize) -> Engine<MemoryFiles> {
     engine
 }
 
-/// Has records move once more, by a purge, and returns the files that are left where the machine stops in it, once all records
-/// were written that move, and before they are synced: of the last rewrite file the pages of one block were not written, those of
-/// the first block of a batch or of the last one. Zeros stand there. All else stands.
+/// Has a purge move records once more, and returns the files that a crash leaves once all of these records are written and before
+/// they are synced. In the last rewrite file the pages of one block are zeros: those of the first block of a batch, if
+/// `is_first`, else those of its last one. All other bytes are there.
 fn left_in_purge(engine: &Engine<MemoryFiles>, is_first: bool) -> MemoryFiles {
     let files = engine.files();
     engine.purge().unwrap();
@@ -63,8 +64,8 @@ fn left_in_purge(engine: &Engine<MemoryFiles>, is_first: bool) -> MemoryFiles {
     MemoryFiles::found(left.files(Queue::Append), rewrite)
 }
 
-/// Where the entries stand in the batches of a file: behind the 16 bytes of a header, the first seven of which are the length of
-/// the batch, and the last eight the offset of its items, in front of which the checksum of the entries stands.
+/// Returns where the entries stand in the batches of a file: behind the 16 bytes of the header, up to the checksum before the
+/// items. The first seven bytes of the header are the length of the batch, the last eight the offset of its items.
 fn blocks_of(bytes: &[u8]) -> Vec<std::ops::Range<usize>> {
     let (mut blocks, mut at) = (Vec::new(), 0);
     while at < bytes.len() {
@@ -78,8 +79,8 @@ fn blocks_of(bytes: &[u8]) -> Vec<std::ops::Range<usize>> {
     blocks
 }
 
-/// Tests that an engine which is opened over what is left, if it isn't refused at a place that is named, has all entries, and
-/// that it has them after the next purge.
+/// Tests that an opening of files that a crash left refuses them with a place, or finds all entries; and that these are there
+/// after the next purge.
 fn assert_kept(left: MemoryFiles, regions: u64, entries: u64, len: usize) {
     let opened = match Engine::with_files(left, Options::new()) {
         Ok(opened) => opened,
@@ -101,20 +102,20 @@ fn assert_kept(left: MemoryFiles, regions: u64, entries: u64, len: usize) {
 
 #[test]
 fn an_entry_stays_that_was_moving_again_when_the_machine_stopped() {
-    assert_kept(left_in_purge(&moved(1, 1, 100), true), 1, 1, 100);
+    assert_kept(left_in_purge(&moved_engine(1, 1, 100), true), 1, 1, 100);
 }
 
 #[test]
 fn so_it_does_where_another_region_moved_behind_it() {
-    assert_kept(left_in_purge(&moved(2, 1, 100), true), 2, 1, 100);
-    assert_kept(left_in_purge(&moved(2, 1, 100), false), 2, 1, 100);
+    assert_kept(left_in_purge(&moved_engine(2, 1, 100), true), 2, 1, 100);
+    assert_kept(left_in_purge(&moved_engine(2, 1, 100), false), 2, 1, 100);
 }
 
 #[test]
 fn so_it_does_where_a_region_moved_in_a_group() {
     const LEN: usize = 100 << 10;
-    assert_kept(left_in_purge(&moved(1, 3, LEN), true), 1, 3, LEN);
-    assert_kept(left_in_purge(&moved(1, 3, LEN), false), 1, 3, LEN);
+    assert_kept(left_in_purge(&moved_engine(1, 3, LEN), true), 1, 3, LEN);
+    assert_kept(left_in_purge(&moved_engine(1, 3, LEN), false), 1, 3, LEN);
 }
 
 #[test]

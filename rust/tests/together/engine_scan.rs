@@ -1,4 +1,4 @@
-//! Keys of an engine that are read in order.
+//! Tests how an engine reads keys in order.
 
 use raft_recover::{Engine, LogBatch, MemoryFiles, Options};
 use std::collections::BTreeMap;
@@ -6,7 +6,7 @@ use std::ops::Bound;
 
 type Model = BTreeMap<Vec<u8>, Vec<u8>>;
 
-/// Keys that are fronts of one another, or have the least and the greatest byte.
+/// Keys that are prefixes of one another, or have the least and the greatest byte.
 const KEYS: [&[u8]; 9] = [
     b"",
     b"\0",
@@ -19,7 +19,7 @@ const KEYS: [&[u8]; 9] = [
     b"\xff\xff",
 ];
 
-/// Puts each of these keys of region 7 with this value, in a file of its own.
+/// Gives each of these keys of region 7 a value, and then begins a new file.
 fn put(engine: &Engine<MemoryFiles>, model: &mut Model, keys: &[&[u8]], value: &[u8]) {
     let mut batch = LogBatch::new().unwrap();
     for key in keys {
@@ -30,7 +30,7 @@ fn put(engine: &Engine<MemoryFiles>, model: &mut Model, keys: &[&[u8]], value: &
     engine.rotate().unwrap();
 }
 
-/// An engine with the keys in both queues, and what they are.
+/// Opens an engine with keys in both queues, and returns it with what it has to have.
 fn engine() -> (Engine<MemoryFiles>, Model) {
     let engine = Engine::with_files(MemoryFiles::new(), Options::new()).unwrap();
     let mut model = Model::new();

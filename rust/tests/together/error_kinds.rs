@@ -1,4 +1,4 @@
-//! The kinds of errors, by the numbers of the library.
+//! Tests the kinds of errors by their numbers in the library.
 
 use raft_recover::ErrorKind;
 

@@ -1,4 +1,4 @@
-//! The block that was read last is kept, so that its other entries cost no read.
+//! Tests that the block which was read last is kept, so that its other entries cost no read.
 
 use crate::common::engines::{engine, write};
 use crate::common::hooked::{Call, Hooked};
@@ -6,8 +6,8 @@ use raft_recover::{Engine, ErrorKind, Files, MemoryFiles, Options, Queue};
 use std::sync::Arc;
 use std::sync::atomic::{AtomicUsize, Ordering::SeqCst};
 
-/// Runs a test over an engine whose reads of blocks are counted.
-fn counting(test: impl FnOnce(&Engine<Arc<dyn Files>>, &dyn Fn() -> usize)) {
+/// Runs a test over an engine. The test also gets a call that returns how often a block was read.
+fn run_counting(test: impl FnOnce(&Engine<Arc<dyn Files>>, &dyn Fn() -> usize)) {
     let reads = Arc::new(AtomicUsize::new(0));
     let counted = reads.clone();
     let hooked = Hooked::new(&MemoryFiles::new(), move |call: Call<'_>| {
@@ -19,7 +19,7 @@ fn counting(test: impl FnOnce(&Engine<Arc<dyn Files>>, &dyn Fn() -> usize)) {
     test(&engine, &|| reads.swap(0, SeqCst));
 }
 
-/// The entries of a block: a hundred from an index on.
+/// Returns the texts of the entries of a block: a hundred from an index on.
 fn texts(first: u64) -> Vec<String> {
     (first..first + 100)
         .map(|index| index.to_string())
@@ -28,7 +28,7 @@ fn texts(first: u64) -> Vec<String> {
 
 #[test]
 fn the_entries_of_a_block_cost_one_read() {
-    counting(|engine, reads| {
+    run_counting(|engine, reads| {
         for first in [1, 101, 201] {
             write(engine, |batch| batch.add_entries(7, first, &texts(first)));
         }
@@ -47,7 +47,7 @@ fn the_entries_of_a_block_cost_one_read() {
 
 #[test]
 fn ranges_that_follow_one_another_read_each_block_once() {
-    counting(|engine, reads| {
+    run_counting(|engine, reads| {
         for first in (1..=2901).step_by(100) {
             write(engine, |batch| batch.add_entries(7, first, &texts(first)));
         }
@@ -67,7 +67,7 @@ fn ranges_that_follow_one_another_read_each_block_once() {
 
 #[test]
 fn so_many_blocks_and_bytes_are_kept_and_no_more() {
-    counting(|engine, reads| {
+    run_counting(|engine, reads| {
         for region in 0..20 {
             write(engine, |batch| batch.add_entries(region, 1, &texts(1)));
         }
@@ -119,7 +119,7 @@ fn so_many_blocks_and_bytes_are_kept_and_no_more() {
 
 #[test]
 fn an_entry_that_moved_is_read_at_its_place() {
-    counting(|engine, reads| {
+    run_counting(|engine, reads| {
         write(engine, |batch| batch.add_entries(7, 1, &texts(1)));
         assert_eq!(engine.entry(7, 1).unwrap().unwrap(), b"1");
         engine.rotate().unwrap();

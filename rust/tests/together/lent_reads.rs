@@ -1,9 +1,10 @@
-//! Entries and pairs that are lent, not copied.
+//! Tests that entries and pairs are lent, not copied.
 
 use crate::common::engines::{engine, write};
 use raft_recover::{Engine, ErrorKind, MemoryFiles};
 
-/// Entries 2 to 7 of region 7: two blocks in the rewrite queue, and two behind them, of which the last one has no bytes.
+/// Opens an engine whose region 7 has the entries 2 to 7: in two blocks of the rewrite queue, and in two of the append queue, the
+/// last of which has no bytes.
 fn engine_of_four_blocks() -> Engine<MemoryFiles> {
     let engine = engine();
     write(&engine, |batch| batch.add_entries(7, 1, &["1", "22"]));
@@ -20,7 +21,7 @@ fn engine_of_four_blocks() -> Engine<MemoryFiles> {
 
 const TEXTS: [&str; 6] = ["22", "333", "4444", "5", "66", ""];
 
-/// Whether two strings follow one another in memory, so that they weren't copied.
+/// Tests whether two byte strings follow one another in memory, so that neither was copied.
 fn are_neighbors(one: &[u8], other: &[u8]) -> bool {
     one.as_ptr_range().end == other.as_ptr()
 }

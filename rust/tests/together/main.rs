@@ -1,5 +1,5 @@
-//! Tests that may run beside one another in one process, in one program: a program of its own for each takes a second to compile and
-//! link. Tests that replace the heap, start processes, or wait for threads have their own.
+//! Tests that may run beside one another in one process, in one program: a program of its own for each takes a second to
+//! compile and link. Tests that replace the heap, start processes, or wait for threads have their own.
 
 #[path = "../common/mod.rs"]
 mod common;

@@ -1,4 +1,4 @@
-//! The files of an engine in memory, and what a stop of the machine leaves of them.
+//! Tests the files of an engine in memory, and what a crash of the machine leaves of them.
 
 use crate::common::model::{Region, region_of};
 use raft_recover::{Ask, Engine, FileId, Files, LogBatch, MemoryFiles, Options, Queue, Unsynced};
@@ -13,8 +13,8 @@ const NONE: Unsynced = Unsynced {
     deletions: 0,
 };
 
-/// Files of which this was asked.
-fn asked(asks: &[Ask]) -> MemoryFiles {
+/// Makes files, and asks this of them.
+fn files_after_asks(asks: &[Ask]) -> MemoryFiles {
     let files = MemoryFiles::new();
     for ask in asks {
         match ask {
@@ -32,12 +32,13 @@ fn asked(asks: &[Ask]) -> MemoryFiles {
     files
 }
 
+/// Returns the ask to append bytes to a file.
 fn write(file: FileId, bytes: &str) -> Ask {
     Ask::Write(file, bytes.as_bytes().to_vec())
 }
 
-/// What each count of unsynced steps leaves of the append queue, all deletions done or none.
-fn lefts(files: &MemoryFiles, all_deleted: bool) -> Vec<String> {
+/// Returns what each number of unsynced steps leaves of the append queue, with all deletions done or none.
+fn left_after_each_step(files: &MemoryFiles, all_deleted: bool) -> Vec<String> {
     let asks = files.asked();
     let most = files.unsynced(asks, Queue::Append);
     let deletions = if all_deleted { most.deletions } else { 0 };
@@ -79,15 +80,18 @@ fn a_front_of_what_was_not_synced_is_left() {
         ),
     ];
     for (asks, expected) in rows {
-        let files = asked(&[&begun, asks].concat());
-        assert_eq!(lefts(&files, false), expected, "{asks:?}");
+        let files = files_after_asks(&[&begun, asks].concat());
+        assert_eq!(left_after_each_step(&files, false), expected, "{asks:?}");
     }
 }
 
 #[test]
 fn a_first_file_may_not_be_there() {
-    assert_eq!(lefts(&asked(&[]), false), [""]);
-    assert_eq!(lefts(&asked(&[Ask::Begin(FIRST)]), false), ["", "1:"]);
+    assert_eq!(left_after_each_step(&files_after_asks(&[]), false), [""]);
+    assert_eq!(
+        left_after_each_step(&files_after_asks(&[Ask::Begin(FIRST)]), false),
+        ["", "1:"]
+    );
 }
 
 #[test]
@@ -99,17 +103,20 @@ fn deletions_that_were_not_synced_may_not_be_done() {
         Ask::Delete(FIRST),
         write(SECOND, "b"),
     ];
-    let files = asked(&asks);
-    assert_eq!(lefts(&files, true), ["", "2:", "2:b"]);
-    assert_eq!(lefts(&files, false), ["1:a", "1:a 2:", "1:a 2:b"]);
+    let files = files_after_asks(&asks);
+    assert_eq!(left_after_each_step(&files, true), ["", "2:", "2:b"]);
+    assert_eq!(
+        left_after_each_step(&files, false),
+        ["1:a", "1:a 2:", "1:a 2:b"]
+    );
     files.sync(Queue::Append).unwrap();
-    assert_eq!(lefts(&files, false), ["2:b"]);
+    assert_eq!(left_after_each_step(&files, false), ["2:b"]);
 }
 
 #[test]
 fn deletions_add_up_and_a_new_file_syncs_none_of_them() {
     let [third, fourth] = [3, 4].map(|seq| FileId::new(Queue::Append, seq));
-    let files = asked(&[
+    let files = files_after_asks(&[
         Ask::Begin(FIRST),
         Ask::Begin(SECOND),
         Ask::Begin(third),
@@ -120,15 +127,15 @@ fn deletions_add_up_and_a_new_file_syncs_none_of_them() {
     ]);
     let most = files.unsynced(7, Queue::Append);
     assert_eq!((most.steps, most.deletions), (1, 1));
-    assert_eq!(lefts(&files, false), ["2: 3:", "2: 3: 4:"]);
-    assert_eq!(lefts(&files, true), ["3:", "3: 4:"]);
+    assert_eq!(left_after_each_step(&files, false), ["2: 3:", "2: 3: 4:"]);
+    assert_eq!(left_after_each_step(&files, true), ["3:", "3: 4:"]);
     files.sync(Queue::Append).unwrap();
-    assert_eq!(lefts(&files, false), ["3: 4:"]);
+    assert_eq!(left_after_each_step(&files, false), ["3: 4:"]);
 }
 
 #[test]
 fn bytes_are_read_where_all_of_them_are_there() {
-    let files = asked(&[Ask::Begin(FIRST), write(FIRST, "abc")]);
+    let files = files_after_asks(&[Ask::Begin(FIRST), write(FIRST, "abc")]);
     let read = |offset, len| {
         let mut bytes = vec![0; len];
         files.read(FIRST, offset, &mut bytes).map(|()| bytes)
@@ -145,7 +152,7 @@ fn bytes_are_read_where_all_of_them_are_there() {
 
 #[test]
 fn one_queue_says_nothing_of_the_other() {
-    let files = asked(&[
+    let files = files_after_asks(&[
         Ask::Begin(FIRST),
         Ask::Begin(REWRITTEN),
         write(FIRST, "a"),
@@ -175,7 +182,7 @@ fn what_was_found_stays() {
 
 #[test]
 fn what_no_engine_asks_is_refused_and_changes_nothing() {
-    let files = asked(&[Ask::Begin(FIRST), Ask::Begin(SECOND), Ask::Begin(REWRITTEN)]);
+    let files = files_after_asks(&[Ask::Begin(FIRST), Ask::Begin(SECOND), Ask::Begin(REWRITTEN)]);
     let refused = [
         files.write(FIRST, b"."),
         files.truncate(FIRST, 0),
@@ -205,8 +212,7 @@ fn a_clone_is_a_handle_of_the_same_files() {
     assert_eq!(format!("{files:?}"), "MemoryFiles { asked: 1, .. }");
 }
 
-/// What a region has after a history with each kind of request, over files that were found with a torn tail, and what was asked of
-/// them.
+/// Makes each kind of change of an engine over files, and returns what its region 7 has then.
 fn history<F: Files>(files: F) -> Region {
     let options = Options::new().target_file_size(300).purge_above(600);
     let engine = Engine::with_files(files, options).unwrap();

@@ -1,15 +1,15 @@
-//! Messages of a program's own are written and read again.
+//! Tests messages of a program's own, which are written and read again.
 
 use crate::common::engines::engine;
 use raft_recover::{ErrorKind, LogBatch, Message};
 use std::error::Error as _;
 use std::num::ParseIntError;
 
-/// A number, which is written in digits, but for some that aren't.
+/// A number that is encoded in digits; some numbers can't be encoded.
 #[derive(Clone, Copy, PartialEq, Eq, Debug)]
 struct Number(u64);
 
-/// A number that can't be written.
+/// A number that can't be encoded.
 const REFUSED: Number = Number(13);
 
 impl Message for Number {
@@ -28,7 +28,7 @@ impl Message for Number {
     }
 }
 
-/// A message that takes away what stood before it.
+/// A message whose encoding takes away the bytes before it.
 struct Greedy;
 
 impl Message for Greedy {
@@ -143,7 +143,7 @@ fn a_message_that_cant_be_encoded_is_named_and_adds_nothing() {
     assert_eq!(engine.entries_of::<Number>(7, ..).unwrap(), [Number(1)]);
 }
 
-/// Some bytes, and one that takes what stands before it away.
+/// Messages of which one takes away the bytes before it.
 enum Mixed {
     Bytes,
     Greedy,

@@ -1,5 +1,5 @@
-//! Changes that find no room and leave the files as they were: what was left undone is done before the next change, and meanwhile all
-//! is read.
+//! Tests changes that find no room and leave the files as they were: what was left undone is done before the next change, and
+//! meanwhile all can be read.
 
 use crate::common::model::{Change, Draw, Region, region_of};
 use raft_recover::{
@@ -11,7 +11,7 @@ use std::sync::Arc;
 use std::sync::atomic::{AtomicU64, AtomicUsize, Ordering::SeqCst};
 use std::{error, io, thread};
 
-/// Files in memory that find no room for the next writes and new files, so many of them.
+/// Files in memory that have no room for some of the next writes and new files.
 #[derive(Default)]
 struct Crowded {
     files: MemoryFiles,
@@ -19,7 +19,7 @@ struct Crowded {
 }
 
 impl Crowded {
-    /// Refuses a change, if there is no room for it.
+    /// Returns an error in place of a change, as long as there is no room for it.
     fn find_room(&self) -> io::Result<()> {
         let left = |refused: usize| refused.checked_sub(1);
         match self.refused.fetch_update(SeqCst, SeqCst, left) {
@@ -65,19 +65,19 @@ impl Files for Crowded {
     }
 }
 
-/// Files that are written to, and soon are many.
+/// Returns options with files so small that there are soon many of them.
 fn options() -> Options {
     Options::new().target_file_size(300).purge_above(1500)
 }
 
-/// Tests that a change was refused for want of room.
+/// Tests that an error says that there is no room.
 fn assert_full(e: &Error) {
     assert_eq!(e.kind, ErrorKind::Io, "{e}");
     let source: &io::Error = error::Error::source(e).unwrap().downcast_ref().unwrap();
     assert_eq!(source.kind(), io::ErrorKind::StorageFull);
 }
 
-/// Makes a change until there is room for it, and returns how often there was none.
+/// Makes a change again and again until there is room for it. Returns how often there was none.
 fn until_there_is_room(mut change: impl FnMut() -> Result<()>) -> usize {
     let mut refused = 0;
     while let Err(e) = change() {
@@ -87,7 +87,7 @@ fn until_there_is_room(mut change: impl FnMut() -> Result<()>) -> usize {
     refused
 }
 
-/// An engine and what it has to have, by region.
+/// An engine, and what it has to have, by region.
 struct History {
     engine: Engine<Crowded>,
     model: BTreeMap<u64, Region>,
@@ -96,6 +96,7 @@ struct History {
 }
 
 impl History {
+    /// Begins the history of a seed with an engine over new files.
     fn new(seed: u64) -> History {
         History {
             engine: Engine::with_files(Crowded::default(), options()).unwrap(),
@@ -105,7 +106,7 @@ impl History {
         }
     }
 
-    /// Writes a drawn change of a drawn region, until there is room for it.
+    /// Writes a random change of a random region, again and again until there is room for it.
     fn write(&mut self, sync: bool) {
         let id = self.draw.below(4) as u64;
         let region = self.model.entry(id).or_default();
@@ -124,7 +125,7 @@ impl History {
         assert!(batch.is_empty());
     }
 
-    /// Takes a drawn step, for which there may be no room at first.
+    /// Takes a random step, again and again until there is room for it.
     fn step(&mut self) {
         if self.draw.once_in(4) {
             let refused = 1 + self.draw.below(3);
@@ -148,13 +149,14 @@ impl History {
         };
     }
 
-    /// Tests that all there is outlasts a stop of the machine that takes away what isn't synced.
+    /// Tests that a crash of the machine that takes away all that isn't synced leaves all records.
     fn assert_synced(&self) {
         let files = &self.engine.files().files;
         let none = Unsynced::default();
         self.assert_has(files.left(files.asked(), none, none));
     }
 
+    /// Tests that both an engine over files and the engine of the history have what the model has.
     fn assert_has(&self, files: MemoryFiles) {
         let engine = Engine::with_files(files, options()).unwrap();
         for (id, region) in &self.model {

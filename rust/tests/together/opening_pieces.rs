@@ -1,5 +1,5 @@
-//! How the files are read when an engine is opened: in pieces of 4 MiB that end where batches do, no byte twice, by any number of
-//! threads, which find the same. What has to be found follows from the batches of which the files are made.
+//! Tests how the files are read when an engine is opened: in pieces of 4 MiB that end where batches do, no byte twice. Any number
+//! of threads find the same. What they have to find follows from the batches of which the files are made.
 
 use crate::common::hooked::{Call, Hooked};
 use crate::common::model::{Region, region_of};
@@ -14,23 +14,23 @@ use std::sync::Mutex;
 
 const PIECE: usize = 4 << 20;
 
-/// How many bytes the entries have of which most files are made: more than 6 of them are a piece.
+/// The length in bytes of the entries of which most files are made. More than six of them make a piece.
 const ENTRY: usize = 600 << 10;
 
 const THREADS: [usize; 3] = [1, 2, 4];
 
-/// What regions have, by their ids.
+/// What an engine has, by its regions.
 type Regions = BTreeMap<u64, Region>;
 
-/// The bytes of a file, where its batches begin, and where it ends.
+/// A file: its bytes, where its batches begin, and where the last one ends.
 struct File {
     id: FileId,
     bytes: Vec<u8>,
     places: Vec<usize>,
 }
 
-/// Makes a file of batches, the first of which is that of this number: each has an entry of so many bytes, and a key with its number.
-/// They go to three regions in turn, each with entries from index 1 on.
+/// Makes a file of batches, the first of which has the number `first`. Each has an entry of so many bytes, and a key with its
+/// number. They go to three regions in turn, each with entries from index 1 on.
 fn file_of(queue: Queue, seq: u64, first: u64, sizes: &[usize]) -> File {
     let (mut bytes, mut places) = (Vec::new(), vec![0]);
     for (number, size) in (first..).zip(sizes) {
@@ -49,7 +49,7 @@ fn file_of(queue: Queue, seq: u64, first: u64, sizes: &[usize]) -> File {
     File { id, bytes, places }
 }
 
-/// The region of a batch, and the index of its entry.
+/// Returns the region of a batch, and the index of its entry.
 fn place_of(queue: Queue, number: u64) -> (u64, u64) {
     let region = match queue {
         Queue::Append => 1 + number % 3,
@@ -58,12 +58,12 @@ fn place_of(queue: Queue, number: u64) -> (u64, u64) {
     (region, 1 + number / 3)
 }
 
-/// The entry of a batch.
+/// Returns the bytes of the entry of a batch.
 fn entry(number: u64, size: usize) -> Vec<u8> {
     vec![number as u8 + 1; size]
 }
 
-/// Adds what batches with such entries give, the first of which is that of this number.
+/// Adds to `regions` what batches with entries of these sizes put into them. The first batch has the number `first`.
 fn add_batches(regions: &mut Regions, queue: Queue, first: u64, sizes: &[usize]) {
     for (number, size) in (first..).zip(sizes) {
         let (region, index) = place_of(queue, number);
@@ -74,8 +74,8 @@ fn add_batches(regions: &mut Regions, queue: Queue, first: u64, sizes: &[usize])
     }
 }
 
-/// Files of both queues.
-fn found(files: &[&File]) -> MemoryFiles {
+/// Returns files of both queues that are found.
+fn found_files(files: &[&File]) -> MemoryFiles {
     let [append, rewrite] = [Queue::Append, Queue::Rewrite].map(|queue| {
         let of_queue = files.iter().filter(|file| file.id.queue == queue);
         of_queue
@@ -85,16 +85,16 @@ fn found(files: &[&File]) -> MemoryFiles {
     MemoryFiles::found(append, rewrite)
 }
 
-/// All that an engine has.
+/// Returns all that an engine has.
 fn regions_of<F: Files>(engine: &Engine<F>) -> Regions {
     let ids = engine.regions().unwrap().into_iter();
     ids.map(|id| (id, region_of(engine, id).unwrap())).collect()
 }
 
-/// What is read of each file: from which byte on, and how many.
+/// The reads of each file: the offset of each, and how many bytes it has.
 type Reads = BTreeMap<FileId, Vec<(u64, usize)>>;
 
-/// Opens files by so many threads, and returns what is read of them meanwhile. What is found has to be this.
+/// Opens files by so many threads, tests that the engine has what is expected, and returns the reads meanwhile.
 fn open(files: &MemoryFiles, threads: usize, expected: &Regions) -> Reads {
     let reads = Mutex::new(Reads::new());
     let hooked = Hooked::new(files, |call: Call<'_>| {
@@ -110,7 +110,7 @@ fn open(files: &MemoryFiles, threads: usize, expected: &Regions) -> Reads {
     read
 }
 
-/// The refusal of files that are opened by so many threads.
+/// Returns the error of an opening of files by so many threads, which has to fail.
 fn refusal<F: Files>(files: F, threads: usize) -> Error {
     let options = Options::new().recovery_threads(threads);
     Engine::with_files(files, options).map(drop).unwrap_err()
@@ -127,7 +127,7 @@ fn files_of_several_pieces_are_read_in_pieces_and_no_byte_twice() {
             add_batches(&mut expected, queue, first, &sizes[..count]);
         }
     }
-    let held = found(&files.iter().collect::<Vec<_>>());
+    let held = found_files(&files.iter().collect::<Vec<_>>());
     for threads in THREADS {
         let reads = open(&held, threads, &expected);
         assert_eq!(reads.len(), files.len());
@@ -153,7 +153,7 @@ fn a_batch_that_is_longer_than_a_piece_is_read_whole() {
         let mut expected = Regions::new();
         add_batches(&mut expected, Queue::Append, 0, &sizes);
         let file = file_of(Queue::Append, 1, 0, &sizes);
-        let held = found(&[&file]);
+        let held = found_files(&[&file]);
         for threads in THREADS {
             let reads = &open(&held, threads, &expected)[&file.id];
             let all: usize = reads.iter().map(|(_, len)| *len).sum();
@@ -171,7 +171,7 @@ fn a_batch_that_is_longer_than_a_piece_is_read_whole() {
     let mut expected = Regions::new();
     add_batches(&mut expected, Queue::Append, 0, &[3 * PIECE, 10]);
     let [long, all] = [file.places[1], file.places[2]];
-    let reads = &open(&found(&[&file]), 4, &expected)[&file.id];
+    let reads = &open(&found_files(&[&file]), 4, &expected)[&file.id];
     assert_eq!(
         reads[..],
         [
@@ -198,7 +198,7 @@ fn a_torn_tail_is_cut_whatever_piece_it_stands_in() {
             .each_ref()
             .map(|file| (file.id, file.places[8] as u64, len as u64));
         for threads in THREADS {
-            let held = found(&torn.each_ref());
+            let held = found_files(&torn.each_ref());
             let options = Options::new().recovery_threads(threads);
             let read = Engine::with_files_read_only(held.clone(), options.clone()).unwrap();
             for engine in [read, Engine::with_files(held, options).unwrap()] {
@@ -211,8 +211,9 @@ fn a_torn_tail_is_cut_whatever_piece_it_stands_in() {
     }
 }
 
-/// The first file of a queue, with as many batches as three pieces have, and one bit changed in the items of batch `at`.
-fn damaged(queue: Queue, at: usize) -> File {
+/// Makes the first file of a queue, with as many batches as three pieces have. In the items of the batch at position `at` one bit
+/// is changed.
+fn damaged_file(queue: Queue, at: usize) -> File {
     let mut file = file_of(queue, 1, 0, &[ENTRY; 19]);
     let end = file.places[at + 1];
     file.bytes[end - 5] ^= 1; // in front of the checksum of the items
@@ -223,7 +224,7 @@ fn damaged(queue: Queue, at: usize) -> File {
 fn damage_with_sound_batches_behind_is_refused_by_every_number_of_threads() {
     for queue in [Queue::Append, Queue::Rewrite] {
         for at in [0, 5, 6, 12, 17] {
-            let file = damaged(queue, at);
+            let file = damaged_file(queue, at);
             let [place, next] = [file.places[at], file.places[at + 1]];
             let reason = format!("one stands behind it, at offset {next}");
             let id = file.id;
@@ -231,7 +232,7 @@ fn damage_with_sound_batches_behind_is_refused_by_every_number_of_threads() {
                 "Corruption: {id}, offset {place}: no batch can be read there, but {reason}"
             );
             for threads in THREADS {
-                let held = found(&[&file]);
+                let held = found_files(&[&file]);
                 let e = refusal(held.clone(), threads);
                 assert_eq!(
                     (e.kind, e.text.as_str()),
@@ -279,7 +280,7 @@ fn damaged_entries_of_the_last_append_file_are_named_whatever_piece_they_stand_i
 fn damage_is_cut_where_it_is_tolerated_and_nowhere_but_in_the_last_file() {
     let options = Options::new().recovery_mode(RecoveryMode::TolerateTailCorruption);
     for queue in [Queue::Append, Queue::Rewrite] {
-        let file = damaged(queue, 12);
+        let file = damaged_file(queue, 12);
         let mut expected = Regions::new();
         add_batches(&mut expected, queue, 0, &[ENTRY; 12]);
         let cut = (
@@ -289,12 +290,12 @@ fn damage_is_cut_where_it_is_tolerated_and_nowhere_but_in_the_last_file() {
         let behind = file_of(queue, 2, 19, &[10]);
         for threads in THREADS {
             let options = options.clone().recovery_threads(threads);
-            let engine = Engine::with_files(found(&[&file]), options.clone()).unwrap();
+            let engine = Engine::with_files(found_files(&[&file]), options.clone()).unwrap();
             let cuts = engine.recovered().cuts();
             let told: Vec<_> = cuts.map(|cut| (cut.offset, cut.len)).collect();
             assert_eq!(told, [cut]);
             assert!(regions_of(&engine) == expected);
-            let held = found(&[&file, &behind]);
+            let held = found_files(&[&file, &behind]);
             let e = Engine::with_files(held, options).map(drop).unwrap_err();
             let place = (Some(file.id), Some(file.places[12] as u64));
             assert_eq!((e.kind, (e.file, e.offset)), (ErrorKind::Corruption, place));
@@ -306,7 +307,7 @@ fn damage_is_cut_where_it_is_tolerated_and_nowhere_but_in_the_last_file() {
 fn a_read_that_fails_in_the_midst_is_refused_by_its_place() {
     let files = [Queue::Append, Queue::Rewrite]
         .map(|queue| [1, 2].map(|seq| file_of(queue, seq, 12 * (seq - 1), &[ENTRY; 12])));
-    let held = found(&files.iter().flatten().collect::<Vec<_>>());
+    let held = found_files(&files.iter().flatten().collect::<Vec<_>>());
     for failing in files.iter().flatten().map(|file| file.id) {
         for threads in THREADS {
             let hooked = Hooked::new(&held, |call: Call<'_>| match call {
@@ -328,7 +329,7 @@ fn a_file_that_gets_shorter_meanwhile_is_refused_by_the_place_of_the_read() {
     for queue in [Queue::Append, Queue::Rewrite] {
         let file = file_of(queue, 1, 0, &[ENTRY; 19]);
         for threads in THREADS {
-            let held = found(&[&file]);
+            let held = found_files(&[&file]);
             let hooked = Hooked::new(&held, |call: Call<'_>| match call {
                 Call::Read(file, 0, _) => held.truncate(file, PIECE as u64 + 1),
                 _ => Ok(()),
@@ -344,8 +345,8 @@ fn a_file_that_gets_shorter_meanwhile_is_refused_by_the_place_of_the_read() {
 #[test]
 fn of_two_refusals_the_first_one_in_order_is_told() {
     // the first file is damaged in its last piece, and the second one can't be read at all
-    let first = damaged(Queue::Append, 17);
-    let held = found(&[&first, &file_of(Queue::Append, 2, 19, &[10])]);
+    let first = damaged_file(Queue::Append, 17);
+    let held = found_files(&[&first, &file_of(Queue::Append, 2, 19, &[10])]);
     for threads in THREADS {
         let hooked = Hooked::new(&held, |call: Call<'_>| match call {
             Call::Read(file, ..) if file.seq == 2 => Err(io::ErrorKind::TimedOut.into()),
@@ -376,7 +377,8 @@ fn entries_that_leave_a_hole_are_refused_alike_by_every_number_of_threads() {
     assert!(refused.iter().all(|e| *e == refused[0]));
 }
 
-/// A batch of a rewrite file that begins a group (0), or ends it (2), by its marker, and has a key of a region.
+/// Returns the bytes of a batch of a rewrite file that begins a group (`status` 0) or ends it (2) by its marker, and has a key of
+/// a region.
 fn group_batch(region: u64, status: u8) -> Vec<u8> {
     let bytes = batch_bytes(LogFile::new(Queue::Rewrite, 1, Version::V2), |batch| {
         batch.put(region, b"__\x02", &[status]).unwrap();

@@ -1,4 +1,4 @@
-//! Parts of files: their batches one by one, and where one can't be read.
+//! Tests parts of files: their batches one by one, and where one can't be read.
 
 use crate::common::{batch_bytes, file, files, parts};
 use raft_recover::{

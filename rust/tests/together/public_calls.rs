@@ -1,11 +1,11 @@
-//! Each public call is made by a test that runs in either heap.
+//! Tests that each public call is made by a test that runs with either heap.
 
 use crate::common::top;
 use std::collections::BTreeSet;
 use std::fs;
 use std::path::Path;
 
-/// All sources of Rust in a folder and those below it, but for some, each with its text.
+/// Returns the texts of all Rust sources in a folder and in those below it, without the one that `but` names.
 fn sources(folder: &Path, but: &str) -> Vec<String> {
     let mut all = Vec::new();
     for entry in fs::read_dir(folder).unwrap() {
@@ -19,7 +19,7 @@ fn sources(folder: &Path, but: &str) -> Vec<String> {
     all
 }
 
-/// The last word in front of a `{`, `<` or ` for`, of a line that begins an `impl` or a trait: the type whose calls follow.
+/// Returns the type whose calls follow a line that begins an `impl` or a trait: the last word before a `{`, a `<` or ` for`.
 fn type_of(line: &str) -> String {
     let named = line.rsplit(" for ").next().unwrap();
     let named = named.trim_end_matches(" {");
@@ -38,7 +38,7 @@ fn type_of(line: &str) -> String {
         .to_owned()
 }
 
-/// The public calls of a source: as a test makes them, and of which type they are.
+/// Adds the public calls in a source to `calls`: each as a test makes it, and its type.
 fn calls(text: &str, calls: &mut BTreeSet<(String, String)>) {
     let (mut of, mut is_trait) = (String::new(), false);
     for line in text.lines() {

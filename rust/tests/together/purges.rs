@@ -1,4 +1,4 @@
-//! What a purge says: which files went, who needs the oldest one, and whether there is something to do.
+//! Tests what a purge says: which files it deleted, which regions need the oldest one, and whether there is something to do.
 
 use crate::common::engines::{engine, write};
 use crate::common::model::{Change, Draw, Region, region_of};
@@ -7,12 +7,14 @@ use raft_recover::{
 };
 use std::collections::BTreeMap;
 
+/// Returns append file `seq`.
 fn append(seq: u64) -> FileId {
     FileId::new(Queue::Append, seq)
 }
 
-/// The numbers of a holder: its region, its file, up to where it is compacted, and how many entries that takes.
-fn shown(holder: &Holder) -> (u64, u64, Option<u64>, u64) {
+/// Returns a holder as numbers: its region, its file, the index up to which it has to be compacted, and how many entries that
+/// takes away.
+fn holder_numbers(holder: &Holder) -> (u64, u64, Option<u64>, u64) {
     (
         holder.region,
         holder.file.seq,
@@ -85,7 +87,7 @@ fn the_holders_of_the_oldest_file_are_named_with_what_they_have_there() {
         (9, 1, None, 0),
         (11, 1, Some(6), 1),
     ];
-    assert_eq!(holders.iter().map(shown).collect::<Vec<_>>(), rows);
+    assert_eq!(holders.iter().map(holder_numbers).collect::<Vec<_>>(), rows);
 
     write(&engine, |batch| {
         batch.compact(7, 13)?;
@@ -95,7 +97,7 @@ fn the_holders_of_the_oldest_file_are_named_with_what_they_have_there() {
     });
     let holders = engine.purge().unwrap().holders;
     assert_eq!(
-        holders.iter().map(shown).collect::<Vec<_>>(),
+        holders.iter().map(holder_numbers).collect::<Vec<_>>(),
         [(11, 1, None, 0)]
     );
     write(&engine, |batch| batch.delete(11, b"key"));
@@ -116,23 +118,31 @@ fn what_moved_is_held_by_nobody() {
     assert_eq!(purged.files, [append(1)]);
     // those that moved go with the compaction, too
     assert_eq!(
-        purged.holders.iter().map(shown).collect::<Vec<_>>(),
+        purged
+            .holders
+            .iter()
+            .map(holder_numbers)
+            .collect::<Vec<_>>(),
         [(7, 2, Some(6), 5)]
     );
     engine.rewrite(2).unwrap();
     assert_eq!(engine.purge().unwrap().holders, []);
 }
 
-/// Small files, some of which go by themselves, and some once their records moved.
-fn drawn_options(draw: &mut Draw) -> Options {
+/// Draws options with small files, some of which are deleted at once, and some only when their records have moved.
+fn draw_options(draw: &mut Draw) -> Options {
     Options::new()
         .target_file_size(200 + draw.below(400) as u64)
         .purge_above(800 + draw.below(3000) as u64)
         .purge_garbage(20 + draw.below(70) as u8)
 }
 
-/// Makes a drawn change of a drawn region.
-fn change(engine: &Engine<MemoryFiles>, model: &mut BTreeMap<u64, Region>, draw: &mut Draw) {
+/// Makes a random change of a random region, in the engine and in the model.
+fn make_random_change(
+    engine: &Engine<MemoryFiles>,
+    model: &mut BTreeMap<u64, Region>,
+    draw: &mut Draw,
+) {
     let id = draw.below(4) as u64;
     let region = model.entry(id).or_default();
     let change = Change::draw(draw, region);
@@ -145,11 +155,11 @@ fn a_purge_asks_something_of_the_files_where_one_is_needed_and_else_nothing() {
     let (mut needed, mut needless) = (0, 0);
     for seed in 0..30 {
         let mut draw = Draw::new(seed);
-        let options = drawn_options(&mut draw);
+        let options = draw_options(&mut draw);
         let engine = Engine::with_files(MemoryFiles::new(), options).unwrap();
         let mut model = BTreeMap::new();
         for step in 0..300 {
-            change(&engine, &mut model, &mut draw);
+            make_random_change(&engine, &mut model, &mut draw);
             if draw.once_in(6) {
                 let (is_needed, before) = (engine.needs_purge().unwrap(), engine.files().asked());
                 engine.purge().unwrap();
@@ -169,14 +179,14 @@ fn a_purge_asks_something_of_the_files_where_one_is_needed_and_else_nothing() {
     assert!(needed > 100 && needless > 100, "{needed} {needless}");
 }
 
-/// An engine of a drawn history, and who needs its oldest file.
+/// Opens an engine, gives it a random history, and returns it with the regions that need its oldest file.
 fn drawn_holders(seed: u64) -> (Engine<MemoryFiles>, Vec<Holder>) {
     let mut draw = Draw::new(seed);
     let options = Options::new().target_file_size(300);
     let engine = Engine::with_files(MemoryFiles::new(), options).unwrap();
     let mut model = BTreeMap::new();
     for _ in 0..60 {
-        change(&engine, &mut model, &mut draw);
+        make_random_change(&engine, &mut model, &mut draw);
         if draw.once_in(20) {
             let first = engine.stats().append.first_file;
             engine.rewrite(first).unwrap();
@@ -186,7 +196,7 @@ fn drawn_holders(seed: u64) -> (Engine<MemoryFiles>, Vec<Holder>) {
     (engine, holders)
 }
 
-/// The regions of holders of a file.
+/// Returns the regions of those holders that need a file.
 fn regions<'a>(holders: impl IntoIterator<Item = &'a Holder>, file: FileId) -> Vec<u64> {
     let of_file = holders.into_iter().filter(|holder| holder.file == file);
     of_file.map(|holder| holder.region).collect()
@@ -232,8 +242,8 @@ fn once_its_holders_let_go_the_oldest_file_goes_and_nothing_moves() {
     assert!(held > 20, "{held}");
 }
 
-/// The rewrite queue of an engine that doesn't need this many of its bytes in a hundred, or some more, and one that has just moved
-/// its records.
+/// Opens an engine, moves a hundred entries to its rewrite queue, and compacts `garbage` of them, so that as many of a hundred
+/// bytes there, or some more, aren't needed.
 fn rewritten_with_garbage(options: Options, garbage: u8) -> Engine<MemoryFiles> {
     let engine = Engine::with_files(MemoryFiles::new(), options).unwrap();
     write(&engine, |batch| {

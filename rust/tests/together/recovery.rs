@@ -1,4 +1,4 @@
-//! Recovery on several threads, of the files of demo/.
+//! Tests recovery on several threads, of the files of demo/.
 
 use crate::common::{batch_bytes, file, files, lines, parts, with_group_marker};
 use raft_recover::{

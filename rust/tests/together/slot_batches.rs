@@ -1,4 +1,4 @@
-//! Batches that are written to slots, and that slots hand out.
+//! Tests batches that are applied to slots, and those that slots return.
 
 use crate::common::slots::{APPEND_9, many_tables, other, slot};
 use crate::common::{file, run};
@@ -29,7 +29,7 @@ fn cleaned_regions_are_handed_out_as_a_batch() {
     );
 }
 
-/// A batch of items of several regions, signed for file 9.
+/// Makes a batch with items of several regions, signed for file 9.
 fn batch(regions: impl Iterator<Item = u64>) -> LogBatch {
     let mut batch = LogBatch::new().unwrap();
     for region in regions {
@@ -46,8 +46,8 @@ fn batch(regions: impl Iterator<Item = u64>) -> LogBatch {
     batch
 }
 
-/// The items of a batch that was written to file 9.
-fn written(mut batch: LogBatch) -> Batch {
+/// Returns the items of a batch that was written to file 9.
+fn written_items(mut batch: LogBatch) -> Batch {
     batch.finish().unwrap();
     batch.sign(file(9)).unwrap();
     batch.written(APPEND_9, 0).unwrap();
@@ -62,7 +62,7 @@ fn a_batch_is_tested_against_slots_and_written_to_them() {
     for slot in &slots {
         slot.check_append(&batch(regions())).unwrap();
     }
-    let items = written(batch(regions()));
+    let items = written_items(batch(regions()));
     let numbers = items.slots();
     assert!(numbers.is_sorted() && numbers.len() > 50 && numbers.len() < SLOTS);
     for slot in &mut slots {
@@ -103,16 +103,16 @@ fn a_slot_looks_at_no_item_of_another_one() {
         batch
     };
     slot.check_append(&bad(region)).unwrap();
-    slot.apply_append(&written(bad(region))).unwrap();
+    slot.apply_append(&written_items(bad(region))).unwrap();
     assert_eq!(slot.regions().unwrap(), [7]);
     assert_eq!((slot.summary(region), slot.live(Queue::Append)), (None, 4));
     let refused = slot.check_append(&bad(7)).unwrap_err();
     assert_eq!(refused.kind, ErrorKind::Corruption);
     assert_eq!(slot.live(Queue::Append), 4);
-    let refused = slot.apply_append(&written(bad(7))).unwrap_err();
+    let refused = slot.apply_append(&written_items(bad(7))).unwrap_err();
     assert_eq!(refused.kind, ErrorKind::Corruption);
     let summary = slot.summary(7).unwrap();
-    assert_eq!((summary.entries, summary.keys), (4, 1)); // those in front of it were written
+    assert_eq!((summary.entries, summary.keys), (4, 1)); // those before it were written
 }
 
 #[test]

@@ -1,4 +1,4 @@
-//! Slots: the tables of a part of all regions.
+//! Tests slots: the tables of a part of all regions.
 
 use crate::common::slots::{APPEND_9, many_tables, other, slot};
 use crate::common::{entry, file, files, lines, parts, run};

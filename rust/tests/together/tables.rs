@@ -1,4 +1,4 @@
-//! The tables that an engine keeps.
+//! Tests tables.
 
 use crate::common::{entry, file, files, lines, parts, run};
 use raft_recover::{
@@ -309,8 +309,9 @@ fn tables_are_merged() {
     assert_eq!(older.summary(7).unwrap().entries, 7);
 }
 
-/// Tables that have these runs in file 1 of the append queue, all of them rewritten to file 2, and a key.
-fn rewritten(runs: &[(u64, std::ops::Range<u64>)]) -> Tables {
+/// Makes tables with these runs of entries, each given as its region and its indexes, which moved from file 1 of the append queue
+/// to file 2 of the rewrite queue. Region 7 also has a key in that file.
+fn rewritten_tables(runs: &[(u64, std::ops::Range<u64>)]) -> Tables {
     let mut tables = Tables::new().unwrap();
     for (region, range) in runs {
         let old = run(Queue::Append, 1, range.clone());
@@ -328,7 +329,7 @@ fn rewritten(runs: &[(u64, std::ops::Range<u64>)]) -> Tables {
 
 #[test]
 fn appended_tables_are_merged_into_rewritten_ones() {
-    let mut tables = rewritten(&[(6, 1..3), (7, 10..14), (8, 1..3)]);
+    let mut tables = rewritten_tables(&[(6, 1..3), (7, 10..14), (8, 1..3)]);
     let mut appended = Tables::new().unwrap();
     for (region, range) in [(5, 1..2), (6, 9..11), (7, 12..16)] {
         let new = run(Queue::Append, 9, range);
@@ -346,7 +347,7 @@ fn appended_tables_are_merged_into_rewritten_ones() {
          cleaned -\nlive 8 4\n"
     );
     assert_eq!(tables.value(7, b"k").unwrap(), b"new");
-    let e = tables.merge_append(rewritten(&[])).unwrap_err();
+    let e = tables.merge_append(rewritten_tables(&[])).unwrap_err();
     assert_eq!(e.kind, ErrorKind::InvalidArgument, "{e}");
 }
 

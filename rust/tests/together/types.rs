@@ -1,4 +1,4 @@
-//! What the types are: which threads may have them, and which traits of std they have.
+//! Checks types as they compile: which threads may have them, and which traits of std they have.
 
 use raft_recover::{
     Ask, Batch, BatchIntoIter, BatchIter, Batches, Block, Content, Context, Engine, Entries, Entry,
@@ -12,7 +12,7 @@ use std::hash::Hash;
 use std::iter::FusedIterator;
 use std::sync::Arc;
 
-/// Compiles where the types have the traits.
+/// Compiles only if the types have the traits.
 macro_rules! all_are {
     ($($traits:path),+ => $($type:ty),+ $(,)?) => {
         const _: () = {
@@ -22,7 +22,7 @@ macro_rules! all_are {
     };
 }
 
-/// Compiles where the types lack the trait: with it, two implementations would fit.
+/// Compiles only if the types lack the trait. With it, two implementations of `Fits` would fit.
 macro_rules! none_is {
     ($trait:path => $($type:ty),+ $(,)?) => {
         const _: () = {

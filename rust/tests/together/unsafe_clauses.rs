@@ -1,11 +1,11 @@
-//! Each call of the library names the clauses of its contract that it has to keep.
+//! Tests that each call of the library has a comment which names the clauses of its contract that a caller has to keep.
 
 use crate::common::top;
 use std::collections::BTreeMap;
 use std::fs;
 use std::path::Path;
 
-/// The sources in a folder, each with its text.
+/// Returns the names and the texts of the sources in a folder, those whose names have an ending.
 fn sources(folder: &Path, ending: &str) -> Vec<(String, String)> {
     let read = |entry: std::io::Result<fs::DirEntry>| {
         let path = entry.unwrap().path();
@@ -16,8 +16,8 @@ fn sources(folder: &Path, ending: &str) -> Vec<(String, String)> {
     fs::read_dir(folder).unwrap().filter_map(read).collect()
 }
 
-/// The names of what each exported function of the library asks of its caller.
-fn asked() -> BTreeMap<String, Vec<String>> {
+/// Returns for each exported function of the library the names of the clauses that bind its caller.
+fn required_clauses() -> BTreeMap<String, Vec<String>> {
     let mut asked = BTreeMap::new();
     for (_, text) in sources(&top().join("crates/raft_ffi/src"), ".rt") {
         for function in text.split("pub extern \"C\" fn ").skip(1) {
@@ -33,7 +33,7 @@ fn asked() -> BTreeMap<String, Vec<String>> {
     asked
 }
 
-/// The calls in a source, each with the comment above it that says why it is safe.
+/// Returns the calls of the library in a source, each with the comment above it that says why it is safe.
 fn calls(text: &str) -> Vec<(String, String)> {
     let (mut calls, mut comment, mut is_comment) = (Vec::new(), String::new(), false);
     for line in text.lines().map(str::trim) {
@@ -48,8 +48,8 @@ fn calls(text: &str) -> Vec<(String, String)> {
             continue;
         }
         is_comment = false;
-        if line.contains("fn raft_ffi_") {
-            continue; // a declaration
+        if line.starts_with("///") || line.contains("fn raft_ffi_") {
+            continue; // a declaration, or what it says
         }
         for (at, _) in line.match_indices("raft_ffi_") {
             if let Some((name, _)) = line[at..].split_once('(') {
@@ -62,7 +62,7 @@ fn calls(text: &str) -> Vec<(String, String)> {
 
 #[test]
 fn each_call_names_the_clauses_that_it_keeps() {
-    let (asked, mut called) = (asked(), BTreeMap::new());
+    let (asked, mut called) = (required_clauses(), BTreeMap::new());
     assert!(asked.len() > 80, "{}", asked.len());
     let src = top().join("rust/src");
     let mut all = sources(&src.join("sys"), ".rs");

@@ -10,19 +10,21 @@ use std::alloc::Global;
 use std::mem;
 
 impl MemTableAccessor {
-    /// Returns the regions that were cleaned, in order. A region may be listed twice.
+    /// Returns the ids of the regions that were cleaned, in the order in which they were listed. A region may
+    /// be listed twice.
     pub fn cleaned_regions(&self) -> &[u64]
         ensures { result.now ≡ self.now.cleaned }
     {
         self.cleaned.as_slice()
     }
 
-    /// Returns a batch with a `Clean` for each region that is listed as cleaned, in order, and empties the
-    /// list.
+    /// Returns an open batch with a `Clean` for each region that is listed as cleaned, in order, and empties
+    /// the list.
     ///
-    /// The batch belongs in the rewrite queue, once the append queue is synced. So does what else takes
-    /// rewritten records away, which isn't listed: compactions, truncations, deletions of keys, and each run
-    /// that replaces entries, as the truncation at its first index.
+    /// Write the batch to the rewrite queue, once the append queue is synced: a recovery would else bring
+    /// back rewritten records of these regions. Other changes that take rewritten records away belong there
+    /// too, but aren't listed here: compactions, truncations, deletions of keys, and each run that replaces
+    /// entries, as a truncation at its first index.
     ///
     /// # Errors
     ///
@@ -39,7 +41,7 @@ impl MemTableAccessor {
         Ok(logs)
     }
 
-    /// Exchanges the own list of cleaned regions with that of `appended`.
+    /// Swaps the list of cleaned regions with that of `appended`. Tables and counts of both stay.
     #[doc(hidden)]
     pub fn take_cleaned(&mut self, appended: &mut MemTableAccessor)
         ensures tables { self.new.tables ≡ self.old.tables }
@@ -49,7 +51,7 @@ impl MemTableAccessor {
         mem::swap(&mut self.cleaned, &mut appended.cleaned);
     }
 
-    /// Lists the region `id` as cleaned.
+    /// Appends the region `id` to the cleaned regions.
     ///
     /// # Errors
     ///

@@ -1,4 +1,5 @@
-//! Tables of all regions joined with those of newer neighbors, each under its region mark.
+//! Tables joined with those of a newer neighbor, which has the batches directly after these in the same
+//! queue. A region mark (`Mark`) says what these batches do to any older table of a region.
 
 ghost use Rattle.std.specs.Prelude.{◌≡◌, ◌<◌, ◌++◌, IfErr, IfSome, OnErr, OnOk};
 ghost use Rattle.raft_accessor.specs.Common.{Append, Rewrite, other, live_in, live_in_all, AreCountsOf, IsTableJoined};
@@ -9,14 +10,14 @@ use raft_base::{AllocResult, Error, LogQueue, Result};
 use raft_table::Mark;
 
 impl MemTableAccessor {
-    /// Puts a newer neighbor's table of the region `id`, or its absence, over the older one, as the newer
-    /// region mark says. Returns the index of the first older entry, and the end of the older entries that
-    /// the mark's first run meets; both are 0 if there are none.
+    /// Puts the newer table of the region `id`, or its absence, over the older one that stands here, as the
+    /// newer region mark `mark` says. Returns two indexes: that of the first older entry, and the one after
+    /// the last older entry that the mark's first run meets. Each is 0 if there is no such entry.
     ///
     /// # Errors
     ///
-    /// Those of [`MemTable::join_under`](raft_table::MemTable::join_under); `Memory`. The counts still agree
-    /// with the tables then.
+    /// Those of [`MemTable::join_under`](raft_table::MemTable::join_under); `Memory`. `newer` is dropped
+    /// then, and the counts still agree with the tables.
     #[doc(hidden)]
     pub fn join_table(
         &mut self,
@@ -36,11 +37,12 @@ impl MemTableAccessor {
         self.slots[slot_of(id)].join_table(queue, id, newer, mark, &mut self.stats)
     }
 
-    /// Makes room for at least `count` tables in the slot numbered `slot`, below 128.
+    /// Reserves memory in the slot numbered `slot`, below 128, so that it can hold `count` tables, with those
+    /// that it has.
     ///
     /// # Errors
     ///
-    /// `AllocError` if there is no memory for it. Nothing changes in either case.
+    /// `AllocError` if there is no memory. The tables are the same in either case.
     #[doc(hidden)]
     pub fn make_room(&mut self, slot: usize, count: usize) -> AllocResult<()>
         requires { slot < 128 }
@@ -49,7 +51,7 @@ impl MemTableAccessor {
         self.slots[slot].make_room(count)
     }
 
-    /// Moves the cleaned regions of `rhs` behind those that are listed here. `rhs` lists none then; its
+    /// Moves the cleaned regions of `rhs` to the end of this accessor's list. That of `rhs` is empty then; its
     /// tables stay with it.
     ///
     /// # Errors

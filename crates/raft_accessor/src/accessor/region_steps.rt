@@ -1,4 +1,5 @@
-//! Steps on one region's table, which is made where there is none; runs and files were tested before.
+//! Steps on the table of one region, which is made where there is none. The caller has tested that runs and
+//! files are of the queue.
 
 ghost use Rattle.std.specs.Prelude.{◌≡◌, ◌≢◌, [], true, Ok, Err, OnSome, IfSome, ok_or, if◌then◌else◌};
 ghost use Rattle.raft_accessor.specs.Common.{Memory, LogQueue, Rewrite, end_of, entries_of_block, other, counts_with_run, step_shown, Put, after_replay, live_of, IsRunIn, IsRunPut, IsStepOfQueue, table_in, live_in, AreCountsOf};
@@ -10,14 +11,15 @@ use raft_base::{EntryIndex, FileBlockHandle, FileId, LogQueue, Result};
 use raft_table::{Mark, Run, Step};
 
 impl MemTableAccessor {
-    /// Takes in a step that was read from `queue` on the table of the region `id`, which is made if there is
-    /// none. In the append queue a step that cleans the region also lists it as cleaned.
+    /// Applies `step`, which was read from `queue`, to the table of the region `id`, for which an empty one
+    /// is made first if it has none. A clean removes the table; in the append queue it also appends the
+    /// region to the cleaned ones.
     ///
     /// # Errors
     ///
-    /// `Corruption` if the start rule refuses a run; `InvalidArgument` for a run if the table has records of
-    /// the other queue; `Full` if more than 2^64 - 1 records would be live; `Memory`. Tables, counts and list
-    /// are unchanged then.
+    /// `Corruption` if a run in the append queue would leave a hole after the entries; `InvalidArgument` for
+    /// a run if the table has records of the other queue; `Full` if more than 2^64 - 1 records would be live
+    /// in the queue; `Memory`. Tables, counts and the list of cleaned regions are unchanged then.
     pub fn take_step(&mut self, queue: LogQueue, id: u64, step: Step) -> Result<()>
         requires { IsStepOfQueue queue (step_shown step) }
         ensures taken { IsStepTaken queue id (step_shown step) self.old.tables self.old.counts
@@ -27,9 +29,12 @@ impl MemTableAccessor {
         self.slots[slot_of(id)].take_step(queue, id, step, &mut self.stats, &mut self.cleaned)
     }
 
-    /// Puts a run that was read from `queue` into the table of the region `id`, which is made if there is
-    /// none. Returns the index after the last entry that the table had before, or 0. Returns `None`, and
-    /// changes nothing, if [`MemTableAccessor::take_step`] would refuse the run, as for want of memory.
+    /// Puts `run`, which was read from `queue`, into the table of the region `id`, for which an empty one is
+    /// made first if it has none. Returns the index after the last entry that the table had before, or 0 if
+    /// it had none.
+    ///
+    /// Returns `None`, and changes nothing, if [`MemTableAccessor::take_step`] would refuse the run, for lack
+    /// of memory too. Recovery tries this first, and gets the error from the slower call.
     #[inline(never)]
     pub fn try_replay_run(&mut self, queue: LogQueue, id: u64, run: &[EntryIndex]) -> Option<u64>
         requires run { IsRunIn queue run.now }
@@ -45,9 +50,11 @@ impl MemTableAccessor {
         Some(end)
     }
 
-    /// Does what [`MemTableAccessor::try_replay_run`] does with the entries at `place` with `spans`, whose
-    /// indexes rise from `first` on. Returns the index of the first entry that the table had before, and the
-    /// index after the last one; both are 0 without entries.
+    /// Puts the entries of a block that was read from `queue` into the table of the region `id`, as
+    /// [`MemTableAccessor::try_replay_run`] puts a run. `place` is where the block stands, `spans` has the
+    /// offset and the length of each entry in it, and their indexes rise by one from `first` on. Returns the
+    /// index of the first entry that the table had before and the index after the last one, both 0 if it had
+    /// none; or `None`, with nothing changed, if the run is refused.
     #[doc(hidden)]
     #[inline(always)]
     pub fn try_replay_block(
@@ -69,9 +76,11 @@ impl MemTableAccessor {
         self.slots[slot_of(id)].try_replay(queue, id, &run, &mut self.stats)
     }
 
-    /// Puts copies of `key` and `value`, which is in `file`, into the table of the region `id`, if it has
-    /// entries. Returns whether it did. It doesn't either if [`MemTableAccessor::take_step`] would refuse the
-    /// put, as for want of memory; the tables are unchanged then.
+    /// Puts copies of `key` and `value`, whose record stands in `file`, into the table of the region `id`, if
+    /// that has entries. Returns whether it did.
+    ///
+    /// Returns false, and changes nothing, if the table has no entries or there is none, or if
+    /// [`MemTableAccessor::take_step`] would refuse the put, for lack of memory too.
     #[doc(hidden)]
     pub fn try_put(&mut self, id: u64, key: &[u8], value: &[u8], file: FileId) -> bool
         ensures taken { (queue : LogQueue) → IsStepTaken queue id (Put key.now value.now file)
@@ -83,13 +92,13 @@ impl MemTableAccessor {
         self.slots[slot_of(id)].try_put(id, key, value, file, &mut self.stats)
     }
 
-    /// Puts an appended table of the region `id`, or its absence, over the rewritten one, as the region mark
-    /// of the append queue says.
+    /// Puts the table that the append queue gives the region `id`, or its absence, over the rewritten table
+    /// that stands here. `mark`, the region mark of the append queue, says what of the rewritten table stays.
     ///
     /// # Errors
     ///
-    /// Those of [`MemTable::overlay`](raft_table::MemTable::overlay); `Memory`. The counts still agree with
-    /// the tables then.
+    /// Those of [`MemTable::overlay`](raft_table::MemTable::overlay); `Memory`. `appended` is dropped then,
+    /// and the counts still agree with the tables.
     #[doc(hidden)]
     pub fn overlay_table(
         &mut self,

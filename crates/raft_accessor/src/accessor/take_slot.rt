@@ -10,8 +10,9 @@ use raft_table::GlobalStats;
 use std::mem;
 
 impl MemTableAccessor {
-    /// Takes the tables of the slot `number`, below 128, out of the accessor, with counts of their records,
-    /// which are subtracted from the own ones. It allocates nothing.
+    /// Takes the tables of the slot numbered `number`, below 128, out of the accessor. Returns them, with
+    /// live counts of their records alone, which are subtracted from those of the accessor. The list of
+    /// cleaned regions stays. It allocates nothing.
     #[doc(hidden)]
     pub fn take_slot(&mut self, number: usize) -> (RegionTables, GlobalStats)
         requires { number < 128 }
@@ -26,7 +27,7 @@ impl MemTableAccessor {
         (tables, counts)
     }
 
-    /// Returns the tables of the 128 slots, in order.
+    /// Returns the tables of the 128 slots, slot n at index n.
     #[doc(hidden)]
     pub fn into_slots(self) -> Vec<RegionTables>
         ensures tables { together result.items ≡ self.tables }

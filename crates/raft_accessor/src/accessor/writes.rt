@@ -11,13 +11,14 @@ use raft_base::{Error, FileSeq, LogQueue, Result};
 use raft_records::LogItem;
 
 impl MemTableAccessor {
-    /// Checks that [`apply_append_writes`](MemTableAccessor::apply_append_writes) would accept these items
-    /// once their entries have a place and their key values a file in the append queue, whatever place and
-    /// file. It looks at indexes and values, walks over the items once, and changes nothing.
+    /// Checks that [`apply_append_writes`](MemTableAccessor::apply_append_writes) would accept these items,
+    /// in order, once their entries have a place and their key values a file in the append queue, whatever
+    /// place and file. It looks at indexes and values, walks over the items once, and changes nothing.
     ///
     /// # Errors
     ///
-    /// `Corruption` if it would refuse an item, with the region, the index and the reason; `Memory`.
+    /// `Corruption` if it would refuse an item; the text names the region and the reason and, for entries,
+    /// the index at which they begin. `Memory`.
     pub fn check_append_writes(&self, items: &[LogItem]) -> Result<()>
         ensures ok { OnOk result (AreAcceptedOncePlaced self.now.tables (map item_of items.now)) }
         ensures refused { IfErr result (λ e. e ≢ Error.Memory
@@ -31,13 +32,13 @@ impl MemTableAccessor {
         Ok(())
     }
 
-    /// Writes `items`, new ones of the append queue, which must come to an end, to the tables of their
-    /// regions, in order.
+    /// Writes `items`, new ones of the append queue, to the tables of their regions, in order. They must come
+    /// to an end.
     ///
     /// # Errors
     ///
     /// Those of [`RegionTables::append_item`] for the first item that is refused. The items before it are
-    /// written, and nothing else.
+    /// written then; it and those after it are not.
     pub fn apply_append_writes<I: IntoIterator<Item = LogItem>>(&mut self, items: I) -> Result<()>
         requires { (it : I.IntoIter) → I.into_iter_gives items it
             → I.IntoIter.can_next it × IsFinite (I.IntoIter.remaining it) }
@@ -51,13 +52,13 @@ impl MemTableAccessor {
         self.write_items(Writing::Appending, items)
     }
 
-    /// Writes `items`, which were read from the append queue and must come to an end, to the tables of
-    /// their regions, in order.
+    /// Writes `items`, which were read from the append queue, to the tables of their regions, in order. They
+    /// must come to an end.
     ///
     /// # Errors
     ///
     /// Those of [`RegionTables::replay_item`] for the first item that is refused. The items before it are
-    /// written, and nothing else.
+    /// written then; it and those after it are not.
     pub fn replay_append_writes<I: IntoIterator<Item = LogItem>>(&mut self, items: I) -> Result<()>
         requires { (it : I.IntoIter) → I.into_iter_gives items it
             → I.IntoIter.can_next it × IsFinite (I.IntoIter.remaining it) }
@@ -71,13 +72,13 @@ impl MemTableAccessor {
         self.write_items(Writing::Replaying(LogQueue::Append), items)
     }
 
-    /// Writes `items`, which were read from the rewrite queue and must come to an end, to the tables of
-    /// their regions, in order.
+    /// Writes `items`, which were read from the rewrite queue, to the tables of their regions, in order. They
+    /// must come to an end.
     ///
     /// # Errors
     ///
     /// Those of [`RegionTables::replay_item`] for the first item that is refused. The items before it are
-    /// written, and nothing else.
+    /// written then; it and those after it are not.
     pub fn replay_rewrite_writes<I: IntoIterator<Item = LogItem>>(&mut self, items: I) -> Result<()>
         requires { (it : I.IntoIter) → I.into_iter_gives items it
             → I.IntoIter.can_next it × IsFinite (I.IntoIter.remaining it) }
@@ -91,15 +92,16 @@ impl MemTableAccessor {
         self.write_items(Writing::Replaying(LogQueue::Rewrite), items)
     }
 
-    /// Writes `items`, which must come to an end, to the tables of their regions, in order, as items that
-    /// were rewritten to the file numbered `new_file` of the rewrite queue. `watermark` limits which places
-    /// move: with one, those in append files numbered at or below it; without one, those that are rewritten
-    /// already.
+    /// Writes `items` to the tables of their regions, in order, as items that were rewritten to the file
+    /// numbered `new_file` of the rewrite queue. They must come to an end. `watermark` limits what moves.
+    /// With one, entries move whose file is numbered at or below it; without one, those that are rewritten
+    /// already. A key value in an append file moves only with a watermark at or above that file, a rewritten
+    /// one always.
     ///
     /// # Errors
     ///
     /// Those of [`RegionTables::rewrite_item`] for the first item that is refused. The items before it are
-    /// written, and nothing else.
+    /// written then; it and those after it are not.
     pub fn apply_rewrite_writes<I: IntoIterator<Item = LogItem>>(
         &mut self,
         items: I,
@@ -118,13 +120,13 @@ impl MemTableAccessor {
         self.write_items(Writing::Rewriting(watermark, new_file), items)
     }
 
-    /// Writes items to the tables of their regions, in order, as `how` says: the loop of the four calls
-    /// above.
+    /// Writes `items` to the tables of their regions, in order, as `how` says. They must come to an end. This
+    /// is the loop of the four calls above.
     ///
     /// # Errors
     ///
     /// Those of [`write_item`](MemTableAccessor::write_item) for the first item that is refused. The items
-    /// before it are written, and nothing else.
+    /// before it are written then; it and those after it are not.
     #[inline(always)]
     fn write_items<I: IntoIterator<Item = LogItem>>(&mut self, how: Writing, items: I) -> Result<()>
         requires { (it : I.IntoIter) → I.into_iter_gives items it
@@ -147,7 +149,7 @@ impl MemTableAccessor {
     /// # Errors
     ///
     /// Those of [`RegionTables::append_item`], [`RegionTables::replay_item`] or
-    /// [`RegionTables::rewrite_item`]. Tables, counts and list are unchanged then.
+    /// [`RegionTables::rewrite_item`]. Tables, counts and cleaned regions are unchanged then.
     #[inline(always)]
     fn write_item(&mut self, how: Writing, item: LogItem) -> Result<()>
         ensures { IsWritten (writing_shown how) (item_of item) result self.old self.new }
@@ -157,8 +159,8 @@ impl MemTableAccessor {
     }
 }
 
-/// States that new items that the tables accept are refused only for want of memory (`Memory`) or of room in
-/// the live counts (`Full`). This is a law: it computes nothing.
+/// States that items that the tables accept as new ones are refused only for lack of memory (`Memory`) or of
+/// room in the live counts (`Full`). This is a law: it computes nothing.
 pub fn accepted_items_lack_room_alone()
     ensures { (items rest : List Item) (old new : Accessor) (e : Error)
         → AreAccepted old.tables (items ++ rest) → AreItemsRefused Appending items old new e

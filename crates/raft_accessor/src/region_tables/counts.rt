@@ -1,4 +1,4 @@
-//! The counts of the tables of some regions.
+//! The live records of the tables of one slot, counted apart.
 
 ghost use Rattle.std.specs.Prelude.{◌≡◌, ◌≤◌};
 ghost use Rattle.raft_accessor.specs.Common.{LogQueue, live, live_in_all, counts_of, with_all_deleted};
@@ -8,8 +8,8 @@ use raft_base::LogQueue;
 use raft_table::GlobalStats;
 
 impl RegionTables {
-    /// Subtracts the records of all tables from the live counts `stats`, and returns counts with these
-    /// records alone.
+    /// Subtracts the records of all tables of the slot from the live counts `stats`, and returns counts of
+    /// these records alone.
     pub(crate) fn take_counts(&self, stats: &mut GlobalStats) -> GlobalStats
         requires { (q : LogQueue) → live_in_all q self.now ≤ live q stats.old }
         ensures taken { result ≡ counts_of self.now }
@@ -24,7 +24,7 @@ impl RegionTables {
         )
     }
 
-    /// Subtracts the records of all tables from the live counts `stats`.
+    /// Subtracts the records of all tables of the slot from the live counts `stats`.
     fn delete_all(&self, stats: &mut GlobalStats)
         requires { (q : LogQueue) → live_in_all q self.now ≤ live q stats.old }
         ensures { stats.new ≡ with_all_deleted self.now stats.old }
@@ -35,7 +35,7 @@ impl RegionTables {
     }
 }
 
-/// Returns counts with `append` live records in the append queue, and `rewrite` in the rewrite queue.
+/// Returns live counts with `append` records in the append queue and `rewrite` in the rewrite queue.
 fn new_counts(append: usize, rewrite: usize) -> GlobalStats
     ensures { result ≡ record { append = append; written = rewrite; deleted = 0 } }
 {

@@ -1,4 +1,4 @@
-//! Tables put under their regions, and taken away.
+//! Tables put under the ids of their regions, and taken away.
 
 ghost use Rattle.std.specs.Prelude.{◌≡◌, ◌≤◌, ◌+◌};
 ghost use Rattle.raft_accessor.specs.Common.{LogQueue, live, table_of, live_of, with_table_deleted, IsCounted, table_in, IsInserted, IsTakenOut};
@@ -9,8 +9,13 @@ use raft_base::Result;
 use raft_table::{GlobalStats, MemTable};
 
 impl RegionTables {
-    /// Puts `table` under its region's id, and returns the one that was there. Does what
-    /// [`MemTableAccessor::insert`](crate::MemTableAccessor::insert) does, with its errors.
+    /// Puts `table` under its region's id `id`, and counts its records in `stats`. Returns the table that it
+    /// replaces, whose records are no longer counted, or `None` if there was none.
+    ///
+    /// # Errors
+    ///
+    /// `Full` if a queue would have more than 2^64 - 1 live records, those of the replaced table counted too;
+    /// `Memory`. Tables and counts are unchanged then, and `table` is dropped.
     pub fn insert(
         &mut self,
         id: u64,
@@ -25,12 +30,12 @@ impl RegionTables {
         Ok(unboxed(self.put(id, table, stats)?))
     }
 
-    /// Puts `table` under its region's id, in place of the one that is there, which is returned, and counts
-    /// the change.
+    /// Puts `table`, which is in a box, under its region's id `id`, and counts its records in `stats`.
+    /// Returns the table that it replaces, whose records are no longer counted, or `None` if there was none.
     ///
     /// # Errors
     ///
-    /// `Full` if more than 2^64 - 1 records would be live in a queue, the replaced table still counted;
+    /// `Full` if a queue would have more than 2^64 - 1 live records, those of the replaced table counted too;
     /// `Memory`. Tables and counts are unchanged then, and `table` is dropped.
     pub(crate) fn put(
         &mut self,
@@ -53,8 +58,8 @@ impl RegionTables {
         }
     }
 
-    /// Removes the table of the region `id` and returns it, or `None` if it has none, and subtracts its
-    /// records from the live counts.
+    /// Removes the table of the region `id` and returns it, or `None` if there is none. Its records are
+    /// subtracted from the live counts `stats`.
     pub fn remove(&mut self, id: u64, stats: &mut GlobalStats) -> Option<MemTable>
         requires { IsCounted (table_in self.old id) stats.old }
         ensures { IsTakenOut id result self.old stats.old self.new stats.new }
@@ -62,7 +67,8 @@ impl RegionTables {
         unboxed(self.take(id, stats))
     }
 
-    /// Does what [`RegionTables::remove`] does for the region `id`, and returns the table in its box.
+    /// Removes the table of the region `id` and returns it in its box, or `None` if there is none. Its
+    /// records are subtracted from the live counts `stats`.
     pub(crate) fn take(&mut self, id: u64, stats: &mut GlobalStats) -> Option<BoxedTable>
         requires { IsCounted (table_in self.old id) stats.old }
         ensures { IsTakenOut id result self.old stats.old self.new stats.new }
@@ -73,8 +79,8 @@ impl RegionTables {
     }
 }
 
-/// Subtracts the records of `table`, which was removed from the region `id`, from the live counts, if there
-/// is one.
+/// Subtracts the records of `table`, which was removed from the region `id`, from the live counts `stats`.
+/// Does nothing if there was no table.
 fn delete_replaced(id: u64, table: &Option<BoxedTable>, stats: &mut GlobalStats)
     requires { (q : LogQueue) → live_of q (table_of id table.now) ≤ live q stats.old }
     ensures counts { stats.new ≡ with_table_deleted (table_of id table.now) stats.old }

@@ -1,4 +1,5 @@
-//! Tables of some regions joined with those of newer neighbors, each under its region mark.
+//! Tables of one slot joined with those of a newer neighbor, which has the batches directly after these in
+//! the same queue. A region mark (`Mark`) says what these batches do to any older table of a region.
 
 ghost use Rattle.std.specs.Prelude.{◌≡◌, IfSome, Some, None};
 ghost use Rattle.raft_accessor.specs.Common.{LogQueue, Append, Rewrite, other, IsRun, live_of, IsCounted, IsRecounted, start_of, table_in, live_in, IsPut, IsTableJoined};
@@ -10,7 +11,14 @@ use raft_base::{AllocResult, LogQueue, Result};
 use raft_table::{GlobalStats, Mark, MemTable};
 
 impl RegionTables {
-    /// Does what [`MemTableAccessor::join_table`](crate::MemTableAccessor::join_table) does, with its errors.
+    /// Puts the newer table of the region `id`, or its absence, over the older one that stands here, as the
+    /// newer region mark `mark` says. Returns two indexes: that of the first older entry, and the one after
+    /// the last older entry that the mark's first run meets. Each is 0 if there is no such entry.
+    ///
+    /// # Errors
+    ///
+    /// Those of [`MemTable::join_under`]; `Memory`. `newer` is dropped then, and the counts still agree with
+    /// the tables.
     pub(crate) fn join_table(
         &mut self,
         queue: LogQueue,
@@ -32,30 +40,30 @@ impl RegionTables {
         }
     }
 
-    /// Returns the number of regions of the slot that have a table.
+    /// Returns how many regions of the slot have a table.
     pub fn len(&self) -> usize
         ensures { result ≡ finite.len self.now }
     {
         self.tables.len()
     }
 
-    /// Makes room for at least `count` tables in all.
+    /// Reserves memory so that the slot can hold `count` tables, with those that it has.
     ///
     /// # Errors
     ///
-    /// `AllocError` if there is no memory for it. Nothing changes in either case.
+    /// `AllocError` if there is no memory. The tables are the same in either case.
     pub(crate) fn make_room(&mut self, count: usize) -> AllocResult<()>
         ensures { self.new ≡ self.old }
     {
         self.tables.reserve(count.saturating_sub(self.tables.len()))
     }
 
-    /// Puts a newer table of the region `id` over the own one, if it has one, as the newer region mark says.
-    /// Returns what [`RegionTables::join_table`] returns.
+    /// Puts `newer` over the older table of the region `id`, as the newer region mark `mark` says, or under
+    /// the region's id if it has no older table. Returns the two indexes of [`RegionTables::join_table`].
     ///
     /// # Errors
     ///
-    /// Those of [`RegionTables::join_table`].
+    /// Those of [`RegionTables::join_table`]. `newer` is dropped then.
     fn put_newer(
         &mut self,
         queue: LogQueue,
@@ -78,13 +86,14 @@ impl RegionTables {
         Ok((0, 0))
     }
 
-    /// Drops from the table of the region `id` what a newer region mark takes away, where the newer neighbor
-    /// has no table of the region. Returns what [`RegionTables::join_table`] returns.
+    /// Drops from the older table of the region `id` what the newer region mark `mark` takes away, where the
+    /// newer neighbor has no table of the region. If the mark cleans the region, the whole table goes.
+    /// Returns the two indexes of [`RegionTables::join_table`].
     ///
     /// # Errors
     ///
-    /// `Corruption` if the mark's steps are refused over these entries; `Memory`. The counts still agree with
-    /// the table then.
+    /// `Corruption` if, in the append queue, a run among the mark's steps would leave a hole after the older
+    /// entries; `Memory`. The counts still agree with the table then.
     fn drop_under(
         &mut self,
         queue: LogQueue,
@@ -112,12 +121,13 @@ impl RegionTables {
     }
 }
 
-/// Puts a newer table over `older`, as the newer region mark says. Returns the index of the first older
-/// entry, and the end of the older entries that the mark's first run meets; both are 0 if there are none.
+/// Puts `newer` over the table `older` of the same region, as the newer region mark `mark` says. Returns two
+/// indexes: that of the first older entry, and the one after the last older entry that the mark's first run
+/// meets. Each is 0 if there is no such entry.
 ///
 /// # Errors
 ///
-/// Those of [`MemTable::join_under`].
+/// Those of [`MemTable::join_under`]. `newer` is dropped then.
 fn put_over(
     older: &mut MemTable,
     queue: LogQueue,
@@ -138,7 +148,7 @@ fn put_over(
     Ok((start, end))
 }
 
-/// Returns the index of the first entry of `table`, or 0 without entries.
+/// Returns the index of the first entry of `table`, or 0 if it has none.
 fn start_of(table: &MemTable) -> u64
     ensures start { result ≡ start_of table.now.entries }
     ensures run { IsRun table.now.entries }

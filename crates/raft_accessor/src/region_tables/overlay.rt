@@ -1,4 +1,5 @@
-//! Tables of some regions under those of the append queue, each under its region mark.
+//! Rewritten tables of one slot put under those of the append queue, each as the region mark of the append
+//! queue says (`Mark`: what the queue's steps do to any older table of a region).
 
 ghost use Rattle.std.specs.Prelude.{◌≡◌, IfSome, Some, None};
 ghost use Rattle.raft_accessor.specs.Common.{Rewrite, live_of, IsCounted, IsRecounted, table_in, live_in, IsPutOver, IsTableOverlaid};
@@ -9,12 +10,13 @@ use raft_base::Result;
 use raft_table::{GlobalStats, Mark, MemTable};
 
 impl RegionTables {
-    /// Puts an appended table of the region `id`, or its absence, over the rewritten one, as the region mark
-    /// of the append queue says.
+    /// Puts the table that the append queue gives the region `id`, or its absence, over the rewritten table
+    /// that stands here. `mark`, the region mark of the append queue, says what of the rewritten table stays.
     ///
     /// # Errors
     ///
-    /// Those of [`MemTable::overlay`]; `Memory`. The counts still agree with the tables then.
+    /// Those of [`MemTable::overlay`]; `Memory`. `appended` is dropped then, and the counts still agree with
+    /// the tables.
     pub(crate) fn overlay_table(
         &mut self,
         id: u64,
@@ -34,11 +36,13 @@ impl RegionTables {
         }
     }
 
-    /// Puts an appended table of the region `id` over the rewritten one, which is made if there is none.
+    /// Puts `appended`, the table that the append queue gives the region `id`, over the rewritten one, as
+    /// `mark` says. If there is no rewritten one, an empty one is made first.
     ///
     /// # Errors
     ///
-    /// Those of [`MemTable::overlay`]; `Memory`. The counts still agree with the tables then.
+    /// Those of [`MemTable::overlay`]; `Memory`. `appended` is dropped then, and the counts still agree with
+    /// the tables.
     fn put_appended(
         &mut self,
         id: u64,
@@ -70,8 +74,8 @@ impl RegionTables {
         )
     }
 
-    /// Drops from the rewritten table of the region `id` what the append queue, in which the region has no
-    /// table, takes away.
+    /// Drops from the rewritten table of the region `id` what the append queue takes away by `mark`; that
+    /// queue gives the region no table. If the mark cleans the region, the whole table goes.
     ///
     /// # Errors
     ///

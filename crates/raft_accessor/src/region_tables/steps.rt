@@ -1,5 +1,5 @@
-//! Steps and rewritings on one region's table, which is made where there is none; runs and files were tested
-//! before.
+//! Steps and rewritings on the table of one region, which is made where there is none. The caller has tested
+//! that runs and files are of the queue.
 
 ghost use Rattle.std.specs.Prelude.{◌≡◌, ◌≢◌, [], List, ℕ, length, true, Ok, Err, OnOk, if◌then◌else◌};
 ghost use Rattle.raft_accessor.specs.Common.{Memory, LogQueue, Append, Rewrite, file_at, entries_after_rewrite, counts_after_rewrite, IsRewriteFault, entries_after_append, counts_with_run, IsTableRunFault, step_shown, Put, after_append};
@@ -11,11 +11,13 @@ use raft_base::{EntryIndex, FileId, FileSeq, LogQueue, Result};
 use raft_table::{GlobalStats, Step};
 
 impl RegionTables {
-    /// Puts a new run of the append queue into the table of the region `id`, which is made if there is none.
+    /// Appends `run`, a new one of the append queue, to the table of the region `id`. A region without a
+    /// table gets an empty one first.
     ///
     /// # Errors
     ///
-    /// Those of [`MemTable::append`]; `Memory`. Tables and counts are unchanged then.
+    /// Those of [`MemTable::append`]; `Memory`. Tables and counts are unchanged then, and no table has been
+    /// made.
     pub(crate) fn append_run(
         &mut self,
         id: u64,
@@ -34,12 +36,13 @@ impl RegionTables {
         self.update(id, stats, move |table, stats| table.append(run, stats))
     }
 
-    /// Takes in a step that was read from `queue` on the table of the region `id`, which is made if there is
-    /// none. A clean removes the table, and in the append queue appends the region to `cleaned`.
+    /// Applies `step`, which was read from `queue`, to the table of the region `id`. A region without a table
+    /// gets an empty one first. A clean removes the table; in the append queue it also appends the region to
+    /// `cleaned`.
     ///
     /// # Errors
     ///
-    /// Those of [`MemTable::take_step`]; `Memory`. Tables, counts and list are unchanged then.
+    /// Those of [`MemTable::take_step`]; `Memory`. Tables, counts and `cleaned` are unchanged then.
     pub(crate) fn take_step(
         &mut self,
         queue: LogQueue,
@@ -61,9 +64,11 @@ impl RegionTables {
         })
     }
 
-    /// Puts copies of `key` and `value`, which is in `file`, into the table of the region `id`, if it has
-    /// entries. Returns whether it did. It doesn't either if the table refuses the put, as for want of
-    /// memory; nothing has changed then.
+    /// Puts copies of `key` and `value`, whose record stands in `file`, into the table of the region `id`, if
+    /// that has entries. Returns whether it did.
+    ///
+    /// Returns false, and changes nothing, if the table has no entries or there is none, or if it would
+    /// refuse the put, for lack of memory too.
     pub(crate) fn try_put(
         &mut self,
         id: u64,
@@ -84,11 +89,12 @@ impl RegionTables {
         table.boxed.try_put(key, value, file, stats)
     }
 
-    /// Removes the table of the region `id`, and in the append queue appends the region to `cleaned`.
+    /// Removes the table of the region `id`, if there is one. In the append queue the region is also appended
+    /// to `cleaned`.
     ///
     /// # Errors
     ///
-    /// `Memory` alone, and only in the append queue. Tables, counts and list are unchanged then.
+    /// `Memory`, which can come only in the append queue. Tables, counts and `cleaned` are unchanged then.
     fn clean(
         &mut self,
         queue: LogQueue,
@@ -113,8 +119,9 @@ impl RegionTables {
         }
     }
 
-    /// Gives entries of the region `id` the places of a run of the rewrite queue ([`MemTable::rewrite`]). Its
-    /// table is made if there is none.
+    /// Gives entries of the region `id` the places of `run`, which was written to the rewrite queue
+    /// ([`MemTable::rewrite`]). With a `gate`, entries move whose file is numbered at or below it; without
+    /// one, those that are rewritten already. A region without a table gets an empty one first.
     ///
     /// # Errors
     ///
@@ -140,8 +147,9 @@ impl RegionTables {
         })
     }
 
-    /// Moves the value of `key` of the region `id` to the file numbered `seq` of the rewrite queue, if the
-    /// `gate` lets it ([`MemTable::rewrite_key`]). The table is made if there is none.
+    /// Moves the value of `key` of the region `id` to the file numbered `seq` of the rewrite queue
+    /// ([`MemTable::rewrite_key`]). One in an append file moves only with a `gate` at or above that file, a
+    /// rewritten one always. A region without a table gets an empty one first.
     ///
     /// # Errors
     ///

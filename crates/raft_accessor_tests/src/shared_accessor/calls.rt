@@ -1,4 +1,4 @@
-//! Each call leaves in shared tables what the accessor's call of this name leaves in those of an accessor.
+//! Tests that each call of shared tables leaves what the accessor's call of the same name leaves.
 
 use crate::calls::{
     Answer, Call, Change, call_core, compaction, done, handed, numbered, other_table, table_change,
@@ -15,7 +15,8 @@ use std::sync::Wait;
 /// A region that has no table at first.
 const FRESH: u64 = 4;
 
-/// Calls that make three regions, one of them rewritten in part and one in two files, and list two others as cleaned.
+/// Calls that make tables of three regions, one of them rewritten in part and one in two files, and list two others as
+/// cleaned.
 const MADE: &[Call] = &[
     Call::AppendWrites(&[
         Item::Entries(1, 10, 20, NEW),
@@ -39,7 +40,7 @@ const MADE: &[Call] = &[
     Call::Remove(2000, true),
 ];
 
-/// Calls after which a region that was cleaned is written again, beside one that is cleaned alone.
+/// A call that cleans regions, and writes one of them again.
 const CLEANED_AND_WRITTEN: &[Call] = &[Call::AppendWrites(&[
     Item::Entries(REGION, 10, 20, NEW),
     Item::Clean(REGION),
@@ -49,7 +50,7 @@ const CLEANED_AND_WRITTEN: &[Call] = &[Call::AppendWrites(&[
     Item::Clean(4),
 ])];
 
-/// A call that makes a table with one rewritten entry alone.
+/// A call that makes a table with a single, rewritten entry.
 const REWRITTEN_ALONE: &[Call] = &[Call::Replay(
     LogQueue::Rewrite,
     &[Item::Entries(REGION, 10, 11, REWRITTEN)],
@@ -114,7 +115,7 @@ const WITHOUT_VALUE: &[Item] = &[
     Item::Put(3, b"k", true, Some(REWRITTEN)),
 ];
 
-/// Calls that make tables, a call of these, and its fault where it is refused.
+/// Calls that make tables, a call that is then made, and its fault, if it is refused.
 type Row = (&'static [Call], Call, Option<Fault>);
 
 static CALLS: [Row; 36] = [
@@ -216,6 +217,7 @@ static CALLS: [Row; 36] = [
     (MADE, Call::TakeCleaned, None),
 ];
 
+/// Returns the rows of calls.
 fn calls() -> &'static [Row] {
     &CALLS
 }
@@ -257,8 +259,8 @@ fn is_list_kept<R: Wait>(rt: &R, alloc: Global) -> Result<bool> {
     Ok(taken(rt, alloc, &shared)?.as_slice() == [3, 73, 3, 3].as_slice())
 }
 
-/// Tests whether a region that was cleaned and written again has its table and is listed, also where it was shared and
-/// comes back.
+/// Tests whether regions that were cleaned are listed, and one that was written again has its table, also once the
+/// tables were shared and are an accessor's again.
 fn is_written_again(alloc: Global) -> Result<bool> {
     let shared = SharedAccessor::from_core(alloc, tables_of(alloc, CLEANED_AND_WRITTEN)?)?;
     let mut core = shared.into_core()?;
@@ -267,7 +269,8 @@ fn is_written_again(alloc: Global) -> Result<bool> {
     Ok(seen.has(1, 3, (4, 0)) && seen == see_core(alloc, &mut expected)?)
 }
 
-/// Tests whether a call returns and leaves the same in both, and is refused for its fault or not at all.
+/// Tests whether the call of a row returns and leaves the same in shared tables and in an accessor, and is refused for
+/// the row's fault, or not at all.
 fn is_alike<R: Wait>(rt: &R, alloc: Global, row: &Row) -> Result<bool> {
     let (made, call, fault) = *row;
     let shared = SharedAccessor::from_core(alloc, tables_of(alloc, made)?)?;
@@ -281,7 +284,7 @@ fn is_alike<R: Wait>(rt: &R, alloc: Global, row: &Row) -> Result<bool> {
     )
 }
 
-/// Tests whether all calls leave the same in both.
+/// Tests whether the calls of all rows leave the same in shared tables and in an accessor.
 fn are_alike<R: Wait>(rt: &R, alloc: Global) -> Result<bool> {
     for row in calls() {
         if !is_alike(rt, alloc, row)? {

@@ -1,4 +1,4 @@
-//! Tables and cleaned regions in each of the 128 slots: no call and no walk leaves a slot out.
+//! Tests tables and cleaned regions in each of the 128 slots: no call and no walk leaves a slot out.
 
 use crate::items::{Item, NEW, items, run};
 use crate::seen::{Seen, counts, see_core, see_shared, shape};
@@ -12,7 +12,7 @@ use std::sync::Wait;
 /// cleaned.
 const REGIONS: u64 = 2_200;
 
-/// Tests whether each of the 128 slots has a region of a third.
+/// Tests whether each of the 128 slots has a region of the third numbered `third`.
 fn is_everywhere(third: u64) -> bool {
     let mut filled = [false; 128];
     for region in 0..REGIONS {
@@ -23,13 +23,13 @@ fn is_everywhere(third: u64) -> bool {
     filled.iter().all(|slot| *slot)
 }
 
-/// Returns an entry, whose index is another one for each of a thousand regions.
+/// Returns a change that appends an entry to the table of a region. Its index differs for a thousand regions.
 fn entry(alloc: Global, region: u64) -> Result<TableChange> {
     let index = region % 1000;
     Ok(TableChange::Append(run(alloc, index, index + 1, NEW)?))
 }
 
-/// Fills the table of a region of an accessor: an entry is appended, and a key of its own is rewritten.
+/// Fills the table of a region in an accessor: appends an entry, and rewrites a key of its own.
 fn fill_core(alloc: Global, core: &mut MemTableAccessor, region: u64) -> Result<()> {
     let key = [Item::PutOwnKey(region, NEW)];
     core.change(region, entry(alloc, region)?)?;
@@ -37,7 +37,7 @@ fn fill_core(alloc: Global, core: &mut MemTableAccessor, region: u64) -> Result<
     core.apply_rewrite_writes(items(alloc, &key)?, Some(1), 50)
 }
 
-/// Fills a shared table in the same way.
+/// Fills the shared table of a region: appends an entry, and rewrites a key of its own.
 fn fill_shared<R: Wait>(rt: &R, alloc: Global, shared: &SharedAccessor, region: u64) -> Result<()> {
     let key = [Item::PutOwnKey(region, NEW)];
     shared.change(rt, region, entry(alloc, region)?)?;
@@ -60,7 +60,7 @@ fn core_of(alloc: Global) -> Result<MemTableAccessor> {
     Ok(core)
 }
 
-/// Returns what shared tables show that are filled by their own calls.
+/// Fills shared tables by their own calls, and returns what they have.
 fn see_filled<R: Wait>(rt: &R, alloc: Global) -> Result<Seen> {
     let shared = SharedAccessor::new(alloc);
     for region in 0..REGIONS {
@@ -73,13 +73,13 @@ fn see_filled<R: Wait>(rt: &R, alloc: Global) -> Result<Seen> {
     see_shared(rt, alloc, &shared)
 }
 
-/// Returns what shared tables show that are those of an accessor.
+/// Makes shared tables of an accessor with all regions, and returns what they have.
 fn see_from_core<R: Wait>(rt: &R, alloc: Global) -> Result<Seen> {
     let shared = SharedAccessor::from_core(alloc, core_of(alloc)?)?;
     see_shared(rt, alloc, &shared)
 }
 
-/// Tests whether both show what the accessor shows: 734 tables with an entry and a key, 733 without records, and 733
+/// Tests whether both have what the accessor has: 734 tables with an entry and a key, 733 without records, and 733
 /// cleaned regions.
 fn are_all_seen<R: Wait>(rt: &R, alloc: Global) -> Result<bool> {
     let expected = see_core(alloc, &mut core_of(alloc)?)?;
@@ -96,7 +96,7 @@ fn no_slot_is_left_out(rt: HostRuntime) {
     assert!(rt; matches!(again!(are_all_seen(&rt, rt.alloc())), Ok(true)));
 }
 
-/// Tests whether tables that were shared come back as they were.
+/// Tests whether the tables of an accessor are as they were once they were shared and are an accessor's again.
 fn come_back(alloc: Global) -> Result<bool> {
     let shared = SharedAccessor::from_core(alloc, core_of(alloc)?)?;
     let mut core = shared.into_core()?;
@@ -109,7 +109,8 @@ fn shared_tables_come_back(rt: HostRuntime) {
     assert!(rt; matches!(again!(come_back(rt.alloc())), Ok(true)));
 }
 
-/// Tests whether a slot has the table of a region, as it was, if it is one of its regions, and none otherwise.
+/// Tests whether a slot has the table of a region as it was before, if the region belongs to the slot, and none
+/// otherwise.
 fn is_own(slot: &Slot, region: u64, before: &MemTableAccessor) -> bool {
     let found = slot.table(region).map(shape);
     if slot.number() == slot_of(region) {
@@ -119,13 +120,13 @@ fn is_own(slot: &Slot, region: u64, before: &MemTableAccessor) -> bool {
     }
 }
 
-/// Tests whether a slot has its own tables, as they were, and no others.
+/// Tests whether a slot has the tables of its own regions as they were before, and no others.
 fn are_own(slot: &Slot, before: &MemTableAccessor) -> bool {
     (0..REGIONS).all(|region| is_own(slot, region, before))
 }
 
-/// How many of the regions 0, 3, .. 2,199 each slot has, by the formula of `hash_u64`. Each of them has an entry, which is
-/// appended, and a key, which is rewritten.
+/// How many of the regions 0, 3, .. 2,199 belong to each slot, by the formula of `hash_u64`. Each of them has an
+/// appended entry and a rewritten key.
 static FILLED: [usize; 128] = [
     9, 6, 8, 4, 6, 4, 2, 3, 6, 12, 11, 6, 4, 3, 6, 4, 6, 5, 3, 3, 5, 6, 3, 6, 2, 6, 8, 4, 8, 3, 1,
     8, 7, 2, 11, 4, 6, 6, 6, 5, 4, 5, 4, 7, 9, 6, 3, 4, 5, 6, 6, 9, 6, 5, 6, 8, 6, 10, 3, 8, 5, 10,
@@ -134,12 +135,13 @@ static FILLED: [usize; 128] = [
     4, 7, 12, 2,
 ];
 
+/// Returns how many filled regions each slot has.
 fn filled() -> &'static [usize; 128] {
     &FILLED
 }
 
-/// Tests whether a slot counts the records of so many filled regions, and an accessor those that are left of 734 once
-/// so many of them were taken.
+/// Tests whether a slot counts the records of `own` filled regions, and the accessor those of 734 such regions without
+/// the first `taken` ones.
 fn are_counted(slot: &Slot, own: usize, core: &MemTableAccessor, taken: usize) -> bool {
     let left = 734usize.saturating_sub(taken);
     counts(slot.stats()) == (own, own, 0) && counts(core.stats()) == (left, 734, taken)
@@ -167,7 +169,8 @@ fn each_slot_takes_its_tables(rt: HostRuntime) {
     assert!(rt; matches!(again!(take(rt.alloc())), Ok(true)));
 }
 
-/// Tests whether there are tables exactly while a region has one. The region is listed as cleaned.
+/// Tests whether shared tables aren't empty exactly as long as a region has a table. It is made, removed, and listed as
+/// cleaned.
 fn is_table_met<R: Wait>(rt: &R, shared: &SharedAccessor, region: u64) -> Result<bool> {
     let before = shared.is_empty(rt);
     shared.get_or_insert(rt, region)?;
@@ -176,8 +179,8 @@ fn is_table_met<R: Wait>(rt: &R, shared: &SharedAccessor, region: u64) -> Result
     Ok(before && !between && shared.is_empty(rt))
 }
 
-/// Tests whether the table of each region alone is met: of the first one in a slot without cleaned regions, and of the
-/// others in a slot with some.
+/// Tests for each region whether shared tables with its table alone aren't empty: the first table is in a slot without
+/// cleaned regions, the others in one with some.
 fn is_each_met<R: Wait>(rt: &R, alloc: Global) -> Result<bool> {
     let shared = SharedAccessor::new(alloc);
     for region in 0..REGIONS {

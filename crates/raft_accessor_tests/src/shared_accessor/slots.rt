@@ -1,4 +1,4 @@
-//! Truncations of the tables of one slot.
+//! Tests truncations of the tables of one slot.
 
 ghost use Rattle.std.specs.Prelude.{◌≡◌};
 
@@ -9,14 +9,14 @@ use raft_recover::Slot;
 use raft_trials::again;
 use std::alloc::Global;
 
-/// Returns a truncation of region 1.
+/// Returns an item that truncates region 1.
 fn truncation(index: u64) -> LogItem
     ensures { result.raft_group_id ≡ 1 }
 {
     LogItem::new_command(1, Command::Truncate { index })
 }
 
-/// Returns how many records are live in both queues.
+/// Returns how many records of a slot are live in each queue.
 fn live(slot: &Slot) -> (usize, usize) {
     (
         slot.stats().live_entries(LogQueue::Append),
@@ -29,8 +29,8 @@ fn last(slot: &Slot) -> Option<u64> {
     slot.table(1).and_then(|table| table.last_index())
 }
 
-/// Tests truncations of the entries from 10 on and below 20, of which the first five are rewritten: the rest goes in
-/// two steps, and a rewriting truncates nothing.
+/// Tests truncations of the entries 10 to 19, the first five of which are rewritten: the others are removed in two
+/// steps, and rewritten items truncate nothing.
 fn truncate(alloc: Global) -> Result<bool> {
     let mut slot = Slot::new(alloc, slot_of(1));
     let appended = run(alloc, 10, 20, FileId::new(LogQueue::Append, 1))?;

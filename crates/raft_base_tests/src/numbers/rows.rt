@@ -3,7 +3,7 @@
 
 use std::io::ErrorKind;
 
-/// Makes a row of each line: what stands after the arrow is written for what stands before it.
+/// Makes a row of each line: the numbers before the arrow are written as the bytes after it.
 macro_rules! rows {
     ($($($number:expr),+ => $($bytes:literal)+;)+) => {
         [$(($($number),+, $($bytes),+)),+]
@@ -194,8 +194,8 @@ static SPELLINGS: [SpellingRow; 43] = rows! {
     u64::MAX, i64::MIN => b"\xff\xff\xff\xff\xff\xff\xff\xff\xff\x01";
 };
 
-/// Bytes, what `decode_var_u64` and `decode_var_i64` read in front of them, and how many bytes are
-/// left then. Some spellings are longer than need be.
+/// Bytes, what `decode_var_u64` and `decode_var_i64` read at their start, and how many bytes are left then. Some
+/// encodings are longer than they need to be.
 pub(super) type FrontRow = (&'static [u8], u64, i64, usize);
 
 static FRONTS: [FrontRow; 6] = [
@@ -212,7 +212,7 @@ static FRONTS: [FrontRow; 6] = [
     (b"\x85\x01\x2a", 133, -67, 1),
 ];
 
-/// Bytes in front of which there is no number, and the kind of the refusal.
+/// Bytes at whose start there is no number, and the kind of the error.
 pub(super) type FaultRow = (&'static [u8], ErrorKind);
 
 static FAULTS: [FaultRow; 9] = [
@@ -245,37 +245,37 @@ static FAULTS: [FaultRow; 9] = [
     ),
 ];
 
-/// Returns the rows of numbers of eight bytes.
+/// Returns the rows of unsigned numbers of eight bytes.
 pub(super) fn long_rows() -> &'static [LongRow] {
     &U64_ROWS
 }
 
-/// Returns the rows of numbers of eight bytes that have a sign.
+/// Returns the rows of signed numbers of eight bytes.
 pub(super) fn signed_rows() -> &'static [SignedRow] {
     &I64_ROWS
 }
 
-/// Returns the rows of numbers of four bytes and of two.
+/// Returns the rows of unsigned numbers of four and of two bytes.
 pub(super) fn short_rows() -> &'static [ShortRow] {
     &SHORT_ROWS
 }
 
-/// Returns the rows of numbers of four bytes that have a sign.
+/// Returns the rows of signed numbers of four bytes.
 pub(super) fn short_signed_rows() -> &'static [(i32, u32)] {
     &I32_ROWS
 }
 
-/// Returns the rows of numbers whose bytes are of another count for each.
+/// Returns the rows of numbers that take as many bytes as they need.
 pub(super) fn spellings() -> &'static [SpellingRow] {
     &SPELLINGS
 }
 
-/// Returns the rows of bytes that begin with a number.
+/// Returns the rows of bytes that begin with such a number.
 pub(super) fn fronts() -> &'static [FrontRow] {
     &FRONTS
 }
 
-/// Returns the rows of bytes that don't.
+/// Returns the rows of bytes that begin with no number.
 pub(super) fn faults() -> &'static [FaultRow] {
     &FAULTS
 }

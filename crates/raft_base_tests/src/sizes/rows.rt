@@ -2,7 +2,7 @@
 
 use raft_base::SizeError;
 
-/// A size and how it is printed.
+/// A size in bytes, and the text that it prints as.
 pub(super) type PrintedRow = (u64, &'static str);
 
 static PRINTED: [PrintedRow; 17] = [
@@ -26,7 +26,7 @@ static PRINTED: [PrintedRow; 17] = [
     (1 << 49, "512TiB"),
 ];
 
-/// A text and the size that it stands for.
+/// A text, and the size in bytes that it stands for.
 pub(super) type ReadRow = (&'static str, u64);
 
 static READ: [ReadRow; 58] = [
@@ -92,7 +92,7 @@ static READ: [ReadRow; 58] = [
     ("0.99999999999999999K", 1023),
 ];
 
-/// A text that stands for no size, and what is wrong in it.
+/// A text that stands for no size, and the error.
 pub(super) type RefusedRow = (&'static str, SizeError);
 
 static REFUSED: [RefusedRow; 30] = [
@@ -129,6 +129,7 @@ static REFUSED: [RefusedRow; 30] = [
     ("100000000000000000000", SizeError::Digits),
 ];
 
+/// Returns the rows of sizes that are printed, of texts that are read, and of texts that are refused.
 pub(super) fn rows() -> (
     &'static [PrintedRow],
     &'static [ReadRow],

@@ -1,4 +1,5 @@
-//! The tables and region marks of all regions joined with those of a newer neighbor.
+//! The tables and region marks of all regions joined with those of a newer neighbor, which has the batches
+//! directly after these in the same queue.
 
 ghost use Rattle.std.specs.Prelude.{◌≡◌, ◌+◌, ◌≤◌, ◌<◌, ◌++◌, IfErr, IfSome, OnOk, Some};
 ghost use Rattle.raft_contexts.specs.Common.{LogQueue, Append, Rewrite, StandForSteps, AreJoined, region_in, with_region, joined_region, IsFaultUnder, IsRunOver, other, table_of, live_of, table_in, live_in, live_in_all, AreCountsOf};
@@ -10,13 +11,14 @@ use raft_accessor::{BoxedTable, MemTableAccessor, RegionTables};
 use raft_base::{AllocResult, LogQueue, Result};
 
 impl MarkedTables {
-    /// Joins the tables, region marks and cleaned regions of the newer neighbor `newer`, the tables of the
-    /// batches that follow in `queue`, to these.
+    /// Joins the tables, region marks and cleaned regions of `newer`, what was read of the batches that
+    /// follow directly in `queue`, to these.
     ///
     /// # Errors
     ///
     /// `Corruption` if entries leave a hole in the append queue; `Full` if both together have more than 2^64
-    /// - 1 records; `Memory`. Some of the regions may have been joined then.
+    /// - 1 records; `Memory`. Some of the regions may have been joined then, and the rest of `newer` is
+    /// dropped.
     pub(crate) fn join(&mut self, queue: LogQueue, newer: MarkedTables) -> Result<()>
         requires older { live_in_all (other queue) self.old.accessor.tables ≡ 0 }
         requires newer { live_in_all (other queue) newer.accessor.tables ≡ 0 }
@@ -40,8 +42,9 @@ impl MarkedTables {
         self.join_rest(queue, accessor)
     }
 
-    /// Joins the regions whose newer region mark is among `marks`, and takes their tables out of `tables`.
-    /// The others are left to [`join_rest`](MarkedTables::join_rest).
+    /// Joins each region whose newer region mark is kept in `marks`: its mark, and its newer table, which is
+    /// taken out of `tables`. The tables of the other regions stay there, for
+    /// [`join_rest`](MarkedTables::join_rest).
     ///
     /// # Errors
     ///
@@ -65,12 +68,12 @@ impl MarkedTables {
         Ok(())
     }
 
-    /// Makes room for the tables and the region marks of `count` regions in the slot numbered `slot`, below
-    /// 128.
+    /// Reserves memory for the tables and the region marks of `count` regions in the slot numbered `slot`,
+    /// below 128.
     ///
     /// # Errors
     ///
-    /// `AllocError` if there is no memory for it. No table and no mark changes in either case.
+    /// `AllocError` if there is no memory. Tables and marks are the same in either case.
     fn make_room(&mut self, slot: usize, count: usize) -> AllocResult<()>
         requires { slot < 128 }
         ensures { self.new ≡ self.old }
@@ -79,8 +82,8 @@ impl MarkedTables {
         self.accessor.make_room(slot, count)
     }
 
-    /// Joins the regions of one slot whose newer region mark is among `marks`, and takes their tables out of
-    /// `tables`.
+    /// Joins each region of one slot whose newer region mark is kept in `marks`: its mark, and its newer
+    /// table, which is taken out of `tables`.
     ///
     /// # Errors
     ///
@@ -102,12 +105,12 @@ impl MarkedTables {
         Ok(())
     }
 
-    /// Joins the newer region mark `mark` of the region `id`, and its newer table, if there is one: first the
-    /// table, under that mark, over the own one, and then the marks.
+    /// Joins what is newer of the region `id`: first its table `newer`, or its absence, over the older table,
+    /// as the newer region mark `mark` says, and then `mark` to the older mark.
     ///
     /// # Errors
     ///
-    /// Those of [`join`](MarkedTables::join). The table may then have been joined, and the mark not.
+    /// Those of [`join`](MarkedTables::join). The table may have been joined then, and the mark not.
     fn join_region(
         &mut self,
         queue: LogQueue,
@@ -145,7 +148,8 @@ impl MarkedTables {
         Ok(self.marks.join(id, queue, ends.1, mark)?)
     }
 
-    /// Joins `tables`, the newer ones that have no kept region mark, each under the one that it implies.
+    /// Joins `tables`, the newer ones of the regions whose newer region mark isn't kept, each with the mark
+    /// that it implies.
     ///
     /// # Errors
     ///
@@ -174,7 +178,8 @@ impl MarkedTables {
         Ok(())
     }
 
-    /// Joins `tables`, the newer ones of one slot, each under the region mark that it implies.
+    /// Joins `tables`, newer ones of one slot whose region marks aren't kept, each with the mark that it
+    /// implies.
     ///
     /// # Errors
     ///
@@ -199,11 +204,12 @@ impl MarkedTables {
         Ok(())
     }
 
-    /// Joins the newer table `newer` of the region `id` under the region mark that it implies.
+    /// Joins `newer`, the newer table of the region `id`, whose newer region mark isn't kept: the table, and
+    /// the mark that it implies.
     ///
     /// # Errors
     ///
-    /// Those of [`join`](MarkedTables::join). The table may then have been joined, and the mark not.
+    /// Those of [`join`](MarkedTables::join). The table may have been joined then, and the mark not.
     fn join_implied(&mut self, queue: LogQueue, id: u64, newer: BoxedTable) -> Result<()>
         requires region { newer.region_id ≡ id }
         requires own { live_of (other queue) newer ≡ 0 }

@@ -1,4 +1,4 @@
-//! The tables of all regions under those of the append queue.
+//! Rewritten tables put under those of the append queue, as the region marks of the append queue say.
 
 ghost use Rattle.std.specs.Prelude.{◌≡◌, ◌+◌, ◌≤◌, IfErr, OnOk};
 ghost use Rattle.raft_contexts.specs.Common.{LogQueue, Append, Rewrite, StandForSteps, AreOverlaid, all_records, live_in_all, implied_marks, regions_in, AreRunsOverlaid, AreTooMany, AreMarksOverlaid};
@@ -9,13 +9,13 @@ use raft_accessor::{MemTableAccessor, RegionTables};
 use raft_base::Result;
 
 impl MarkedTables {
-    /// Puts `appended`, the tables of the append queue, over these rewritten ones, as their region marks say.
-    /// The cleaned regions become those of the append queue.
+    /// Puts `appended`, the tables of the append queue, over these rewritten ones, as the region marks of
+    /// `appended` say. The cleaned regions become those of the append queue.
     ///
     /// # Errors
     ///
     /// `Full` if both together have more than 2^64 - 1 records; `Memory`. Some of the regions may have been
-    /// overlaid then.
+    /// overlaid then, and the rest of `appended` is dropped.
     pub(crate) fn overlay(&mut self, appended: MarkedTables) -> Result<()>
         requires own { live_in_all Rewrite appended.accessor.tables ≡ 0 }
         ensures ok { StandForSteps Rewrite (regions_in self.old)
@@ -35,8 +35,8 @@ impl MarkedTables {
         self.overlay_rest(accessor)
     }
 
-    /// Puts the regions of the append queue whose region mark is among `marks` over the rewritten ones, and
-    /// takes their tables out of `appended`. The others are left to
+    /// Puts each region of the append queue whose region mark is kept in `marks` over the rewritten one, and
+    /// takes its table, if it has one, out of `appended`. The tables of the other regions stay there, for
     /// [`overlay_rest`](MarkedTables::overlay_rest).
     ///
     /// # Errors
@@ -53,8 +53,8 @@ impl MarkedTables {
         Ok(())
     }
 
-    /// Puts the regions of one slot whose region mark is among `marks` over the rewritten ones, and takes
-    /// their tables out of `appended`.
+    /// Puts each region of one slot of the append queue whose region mark is kept in `marks` over the
+    /// rewritten one, and takes its table, if it has one, out of `appended`.
     ///
     /// # Errors
     ///
@@ -72,8 +72,8 @@ impl MarkedTables {
         Ok(())
     }
 
-    /// Puts `appended`, the tables of the append queue that have no kept region mark, over the rewritten
-    /// ones, each under the mark that it implies.
+    /// Puts `appended`, the tables of the append queue whose region marks aren't kept, over the rewritten
+    /// ones, each by the mark that it implies.
     ///
     /// # Errors
     ///
@@ -96,8 +96,8 @@ impl MarkedTables {
         Ok(())
     }
 
-    /// Puts `appended`, the tables of one slot of the append queue, over the rewritten ones, each under the
-    /// region mark that it implies.
+    /// Puts `appended`, tables of one slot of the append queue whose region marks aren't kept, over the
+    /// rewritten ones, each by the mark that it implies.
     ///
     /// # Errors
     ///

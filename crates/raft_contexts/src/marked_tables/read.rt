@@ -1,4 +1,5 @@
-//! Batches as they were read, taken into the tables and region marks.
+//! Batches applied to the tables and region marks from the bytes that they were read from, mostly without a
+//! copy of their items.
 
 ghost use Rattle.std.specs.Prelude.{◌≡◌, ◌≤◌, ℕ, List, [], ◌∷◌, Ok, OnOk, IfOk, MatchBool};
 ghost use Rattle.raft_contexts.specs.Common.{LogQueue, IsDecodedIn, content_shown, item_shown, AreInFile, StandForSteps, steps_of_items, other, live_in_all, regions_in, AreStepsOfQueue, AreStepsTaken};
@@ -9,12 +10,13 @@ use raft_records::{ReadBatch, ReadContent, ReadItem, is_reserved};
 use std::alloc::Global;
 
 impl MarkedTables {
-    /// Takes in the items of a batch of the file `file` as it was read, in order. Runs, and puts in a region
-    /// that has entries, go into their tables without an item of their own.
+    /// Applies the items of `batch`, which was read in the file `file`, in order, each to the table and the
+    /// region mark of its region. Runs, and puts in a region that has entries, go into their tables without a
+    /// `LogItem` of their own.
     ///
     /// # Errors
     ///
-    /// Those of [`take_items`](MarkedTables::take_items). Some of the items may have been taken in then.
+    /// Those of [`take_items`](MarkedTables::take_items). Some of the items may have been applied then.
     pub(crate) fn take_read(
         &mut self,
         alloc: Global,
@@ -39,12 +41,13 @@ impl MarkedTables {
         Ok(())
     }
 
-    /// Takes in one item as it was read. If it is a run, its entries have `spans` at `place`.
+    /// Applies one item of a batch that was read from `queue`. If it is a run, its entries stand at `place`,
+    /// and `spans` has the offset and the length of each in it.
     ///
     /// # Errors
     ///
-    /// Those of [`take_items`](MarkedTables::take_items). The step may then be in the table or the region
-    /// mark alone.
+    /// Those of [`take_items`](MarkedTables::take_items). The step may be in the table or the region mark
+    /// alone then.
     fn take_read_item(
         &mut self,
         alloc: Global,
@@ -70,14 +73,15 @@ impl MarkedTables {
         self.take_item(queue, item)
     }
 
-    /// Takes in `item` if it is a run of entries, which has `spans` at `place`, and returns whether it did.
-    /// Returns `false`, and changes nothing, for any other item, for a run without entries, and for one that
-    /// the table refuses, as for want of memory. A run that begins among the entries of its region, or right
-    /// after them, leaves the region mark as it is, which isn't even looked up.
+    /// Applies `item` if it is a run of entries, and returns whether it did. The entries stand at `place`,
+    /// and `spans` has the offset and the length of each in it. Returns false, and changes nothing, for any
+    /// other item, for a run without entries, and for one that the table refuses, for lack of memory too. A
+    /// run that begins among the entries of its region, or right after them, leaves the region mark as it is,
+    /// which isn't even looked up.
     ///
     /// # Errors
     ///
-    /// `AllocError` if there is no memory for the region mark. The run is then in its table, and not in the
+    /// `AllocError` if there is no memory for the region mark. The run is in its table then, and not in the
     /// mark.
     fn try_spans(
         &mut self,
@@ -115,8 +119,9 @@ impl MarkedTables {
         Ok(true)
     }
 
-    /// Takes in `item` if it puts a value in a region that has entries, and returns whether it did. Returns
-    /// `false`, and changes nothing, for any other item, and if the table refuses it, as for want of memory.
+    /// Applies `item` if it puts a value in a region that has entries, and returns whether it did. The batch
+    /// stands at `place`. Returns false, and changes nothing, for any other item, for a group marker, and if
+    /// the table refuses the put, for lack of memory too.
     fn try_put(&mut self, place: FileBlockHandle, item: &ReadItem<'_>) -> bool
         ensures { (queue : LogQueue) (spans : List (ℕ × ℕ)) → MatchBool result
             (AreStepsTaken queue (steps_of_items (item_shown place item.now spans ∷ []))

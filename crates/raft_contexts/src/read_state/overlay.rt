@@ -1,4 +1,4 @@
-//! What was read of the append queue, taken in over what was read of the rewrite queue.
+//! What was read of the append queue, put over what was read of the rewrite queue.
 
 ghost use Rattle.std.specs.Prelude.{◌≡◌, OnOk, IfErr};
 ghost use Rattle.raft_contexts.specs.Common.{AreOverlaid, AreOfBothQueues, overlaid_with, IsMergeAppendFault, context_in, shown_with, IsOfHistory, reading_on};
@@ -10,14 +10,13 @@ use crate::waiting_groups::WaitingGroups;
 use raft_base::{Error, LogQueue, Result};
 
 impl ReadState {
-    /// Takes in `append`, what was read of the append queue, over this, what was read of the rewrite queue.
-    /// Groups that aren't whole are dropped.
+    /// Puts `append`, what was read of the append queue, over this, what was read of the rewrite queue.
+    /// Region marks, and groups that aren't whole, are dropped.
     ///
     /// # Errors
     ///
-    /// `InvalidArgument` if this isn't of the rewrite queue, or `append` isn't of the append queue; `Full` if
-    /// both together have more than 2^64 - 1 records; `Memory`. Some of the regions may have been overlaid
-    /// then.
+    /// `InvalidArgument` if this is of the append queue, or `append` is of the rewrite queue; `Full` if both
+    /// together have more than 2^64 - 1 records; `Memory`. Some of the regions may have been overlaid then.
     pub(crate) fn overlay(&mut self, append: ReadState) -> Result<()>
         requires rewritten { IsOfHistory (context_in self.old) }
         requires appended { IsOfHistory (context_in append) }
@@ -34,12 +33,12 @@ impl ReadState {
         self.put_append(append)
     }
 
-    /// Checks that this was read of the rewrite queue, and `append` of the append queue. What read nothing is
-    /// of either.
+    /// Checks that this was read of the rewrite queue, and `append` of the append queue. What has read
+    /// nothing is of either.
     ///
     /// # Errors
     ///
-    /// `InvalidArgument` if they weren't, or `Memory` if there is none for its text.
+    /// `InvalidArgument` if they weren't; `Memory` if there is none for its text.
     fn check_append(&self, append: &ReadState) -> Result<()>
         ensures queues { OnOk result (AreOfBothQueues (context_in self.now)
             (context_in append.now)) }
@@ -55,11 +54,12 @@ impl ReadState {
     }
 
     /// Puts the tables of `append`, what was read of the append queue, over these, and drops all region marks
-    /// and all groups that wait.
+    /// and all groups that aren't whole.
     ///
     /// # Errors
     ///
-    /// `Full` and `Memory`, as those of [`ReadState::overlay`].
+    /// `Full` if both together have more than 2^64 - 1 records; `Memory`. Some of the regions may have been
+    /// overlaid then.
     fn put_append(&mut self, append: ReadState) -> Result<()>
         requires rewritten { IsOfHistory (context_in self.old) }
         requires appended { IsOfHistory (context_in append) }

@@ -1,4 +1,4 @@
-//! The region marks of one slot.
+//! The region marks of the regions of one slot.
 
 ghost use Rattle.std.specs.Prelude.{◌≡◌, ◌≢◌, ◌<◌, ◌^◌, ℕ, nat_eq, OnOk, OnErr, Some, is_some, option_map};
 ghost use Rattle.raft_contexts.specs.Common.{IsDistinct, keys_of, total, Mark, fresh, mark_of, joined_at, step_shown, absent_in, count_absent, mark_in, run_at, MayChangeMark, IsMarkUpdated};
@@ -14,11 +14,11 @@ use std::collections::HashMap;
 use std::collections::hash_map::IntoIter;
 use std::marker::Model;
 
-/// The most region marks that a slot keeps: so those of all slots can be counted in a `usize`, and their
+/// The most region marks that a slot keeps. So those of all slots can be counted in a `usize`, and their
 /// deleted keys in a `u128`.
 const MOST_MARKS: usize = (1 << 57) - 1;
 
-/// The region marks of the regions of a slot, each under its region's id.
+/// The region marks that are kept for the regions of a slot, each under its region's id.
 #[derive(Drop)]
 pub(crate) struct SlotMarks {
     marks: HashMap<u64, SmallMark>,
@@ -53,7 +53,7 @@ impl SlotMarks {
         }
     }
 
-    /// Returns the number of regions whose region mark is kept.
+    /// Returns how many region marks are kept.
     pub(crate) fn len(&self) -> usize
         ensures value { result ≡ finite.len self.now }
         ensures few { result < 2 ^ 57 }
@@ -68,18 +68,20 @@ impl SlotMarks {
         self.marks.contains_key(&id)
     }
 
-    /// Returns the region mark that is kept for the region `id`, or `None` if there is none.
+    /// Returns the region mark that is kept for the region `id`, or `None` if none is.
     pub(crate) fn get(&self, id: u64) -> Option<&SmallMark>
         ensures { option_map (λ m. m.now) result ≡ finite.get self.now id }
     {
         self.marks.get(&id)
     }
 
-    /// Sets the region mark of the region `id` to that of a run that starts at index `start`.
+    /// Keeps the region mark of one run, which starts at index `start`, for the region `id`, in place of the
+    /// one that is kept.
     ///
     /// # Errors
     ///
-    /// `AllocError` if there is no memory for it. The region marks are unchanged then.
+    /// `AllocError` if there is no memory, or too many marks are kept (`MOST_MARKS`). The region marks are
+    /// unchanged then.
     pub(crate) fn put_run(&mut self, id: u64, start: u64) -> AllocResult<()>
         ensures ok { OnOk result (self.new ≡ finite.insert self.old id (run_at start)) }
         ensures err { OnErr result (self.new ≡ self.old) }
@@ -87,7 +89,7 @@ impl SlotMarks {
         self.put(id, SmallMark::of_run(self.alloc, start))
     }
 
-    /// Returns the number of deleted keys that all region marks have together.
+    /// Returns how many deleted keys all kept region marks have together.
     pub(crate) fn deleted_keys(&self) -> u128
         ensures value { result ≡ total (λ (m : Mark). finset.len m.deleted) self.now }
         ensures few { result < 2 ^ 121 }
@@ -99,7 +101,7 @@ impl SlotMarks {
         count
     }
 
-    /// Returns the number of regions whose region mark is kept here and that have no table in `tables`.
+    /// Returns how many of the regions whose mark is kept here have no table in `tables`.
     pub(crate) fn count_absent(&self, tables: &MemTableAccessor) -> u64
         ensures value { result ≡ count_absent tables.now.tables (keys_of (finite.entries self.now)) }
         ensures few { result < 2 ^ 57 }
@@ -111,12 +113,14 @@ impl SlotMarks {
         count
     }
 
-    /// Joins the region mark of a run that starts at index `start` to that of the region `id`. `end` is the
-    /// end of the region's own entries before the run, 0 if there are none.
+    /// Adds a run that starts at index `start` to the region mark of the region `id`, or to that of no step
+    /// if none is kept, and keeps the result. `end` is the index after the last entry that the context gave
+    /// the region before the run, or 0 if it gave none.
     ///
     /// # Errors
     ///
-    /// `AllocError` if there is no memory for it. The region marks are unchanged then.
+    /// `AllocError` if there is no memory, or too many marks are kept (`MOST_MARKS`). The region marks are
+    /// unchanged then.
     pub(crate) fn add_run(
         &mut self,
         id: u64,
@@ -135,12 +139,14 @@ impl SlotMarks {
         self.put(id, SmallMark::of_run(self.alloc, start))
     }
 
-    /// Joins the region mark of a step to that of the region `id`. If the step is a run, `end` is the end of
-    /// the region's own entries before it, 0 if there are none. The key of a deletion is copied.
+    /// Adds `step` to the region mark of the region `id`, or to that of no step if none is kept, and keeps
+    /// the result. If the step is a run, `end` is the index after the last entry that the context gave the
+    /// region before it, or 0 if it gave none. The key of a deletion is copied.
     ///
     /// # Errors
     ///
-    /// `AllocError` if there is no memory for it. The region marks are unchanged then.
+    /// `AllocError` if there is no memory, or too many marks are kept (`MOST_MARKS`). The region marks are
+    /// unchanged then.
     pub(crate) fn add_step(
         &mut self,
         id: u64,
@@ -156,13 +162,14 @@ impl SlotMarks {
         self.update(id, move |mark: &mut Mark| mark.add_step(queue, end, step))
     }
 
-    /// Joins `newer`, the region mark of newer steps, to that of the region `id`. `end_at_reach` is the end
-    /// of the region's own entries that the first newer run meets.
+    /// Joins `newer`, the region mark of the steps that follow, to that of the region `id`, or to that of no
+    /// step if none is kept, and keeps the result. `end_at_reach` is the index after the last entry of the
+    /// region in the older context that the first newer run meets.
     ///
     /// # Errors
     ///
-    /// `AllocError` if there is no memory for it. The mark of the region may lack deleted keys then, and must
-    /// not be used.
+    /// `AllocError` if there is no memory, or too many marks are kept (`MOST_MARKS`). The mark of the region
+    /// may lack deleted keys then, and must not be used.
     pub(crate) fn join(
         &mut self,
         id: u64,
@@ -181,11 +188,11 @@ impl SlotMarks {
         })
     }
 
-    /// Makes room for at least `count` region marks in all.
+    /// Reserves memory so that the slot can hold `count` region marks, with those that it has.
     ///
     /// # Errors
     ///
-    /// `AllocError` if there is no memory for it. No region mark changes in either case.
+    /// `AllocError` if there is no memory. The region marks are the same in either case.
     pub(crate) fn make_room(&mut self, count: usize) -> AllocResult<()>
         ensures { self.new ≡ self.old }
     {
@@ -200,13 +207,13 @@ impl SlotMarks {
         self.marks.into_iter()
     }
 
-    /// Applies `change` to the region mark of the region `id`, or to that of no step if none is kept, and
-    /// keeps the result. A mark that is there is looked up once.
+    /// Calls `change` with the region mark of the region `id`, or with that of no step if none is kept, and
+    /// keeps the result. A mark that is kept is looked up once.
     ///
     /// # Errors
     ///
-    /// That of `change`, or `AllocError` if there is no memory to keep the result. Other regions' marks are
-    /// unchanged then.
+    /// That of `change`; `AllocError` if there is no memory to keep the result, or too many marks are kept
+    /// (`MOST_MARKS`). The marks of other regions are unchanged then.
     #[inline(always)]
     fn update<F: FnOnce(&mut Mark) -> AllocResult<()>>(
         &mut self,
@@ -225,12 +232,12 @@ impl SlotMarks {
         self.put(id, mark)
     }
 
-    /// Sets the region mark of the region `id` to `mark`.
+    /// Keeps `mark` as the region mark of the region `id`, in place of the one that is kept.
     ///
     /// # Errors
     ///
-    /// `AllocError` if there is no memory for it, or `MOST_MARKS` are kept already. The region marks are
-    /// unchanged then.
+    /// `AllocError` if there is no memory, or `MOST_MARKS` are kept already. The region marks are unchanged
+    /// then.
     fn put(&mut self, id: u64, mark: SmallMark) -> AllocResult<()>
         ensures ok { OnOk result (self.new ≡ finite.insert self.old id mark) }
         ensures err { OnErr result (self.new ≡ self.old) }

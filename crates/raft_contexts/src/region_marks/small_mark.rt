@@ -1,4 +1,4 @@
-//! A region mark as a slot keeps it.
+//! A region mark in the small form in which a slot keeps it.
 
 ghost use Rattle.std.specs.Prelude.{◌≡◌, ◌++◌, IfErr, IfOk, IfSome, OnOk, OnErr, MatchBool, Ok, Some};
 ghost use Rattle.raft_contexts.specs.Common.{LogQueue, fresh, joined_at, MayChangeMark, ChangesMark, IsOneUpdated};
@@ -11,7 +11,8 @@ use raft_table::{Mark, MemTable};
 use std::alloc::Global;
 use std::marker::Model;
 
-/// A region mark in 16 bytes, so that a map of many grows at little cost.
+/// A region mark in 16 bytes: the start of a run, where that is all that it says, or a pointer to the whole
+/// mark. So a map of many grows at little cost.
 #[derive(Drop)]
 pub(crate) struct SmallMark {
     form: Form,
@@ -20,12 +21,12 @@ pub(crate) struct SmallMark {
 
 const _: () = prove!(std::mem::size_of::<SmallMark>() == 16);
 
-/// What is kept of a region mark.
+/// The two forms in which a region mark is kept.
 #[derive(Drop)]
 enum Form {
-    /// The start of the run, where the region mark is that of a run alone.
+    /// The start of a run: the region mark is that of this run alone.
     Run(u64),
-    /// The region mark, in a place of its own.
+    /// Any region mark, in a box of its own.
     Whole(Box<Mark>),
 }
 
@@ -43,7 +44,7 @@ impl Model for SmallMark {
 }
 
 impl SmallMark {
-    /// Returns the region mark of a run that starts at index `start`. It allocates nothing.
+    /// Returns the region mark of one run, which starts at index `start`. It allocates nothing.
     pub(crate) fn of_run(alloc: Global, start: u64) -> SmallMark
         ensures { result ≡ record fresh { reach = Some start; cut = Some start } }
     {
@@ -53,12 +54,12 @@ impl SmallMark {
         }
     }
 
-    /// Returns `mark` as a slot keeps it: if it is seen to be that of one run alone, as the start of that
-    /// run, which saves memory and means the same; else in a box.
+    /// Returns `mark` in the form in which a slot keeps it: as the start of its run if it is seen to be that
+    /// of one run alone, else in a box.
     ///
     /// # Errors
     ///
-    /// `AllocError` if there is no memory for the box.
+    /// `AllocError` if there is no memory for the box. `mark` is dropped then.
     fn of(alloc: Global, mark: Mark) -> AllocResult<SmallMark>
         ensures { IfOk result (λ kept. kept ≡ mark) }
     {
@@ -69,7 +70,7 @@ impl SmallMark {
         Ok(SmallMark { form, alloc })
     }
 
-    /// Returns the region mark with its deleted keys.
+    /// Returns the whole region mark.
     pub(crate) fn into_mark(self) -> Mark
         ensures { result ≡ self }
     {
@@ -79,9 +80,9 @@ impl SmallMark {
         }
     }
 
-    /// Adds what this region mark takes away from the region's rewritten table `table` to `taken`, as
-    /// [`tell_mark`] does. `first` is the index of the region's first entry in the append queue, if there is
-    /// one.
+    /// Adds what this region mark takes away from `table`, the region's rewritten table, to `taken`, as
+    /// [`tell_mark`] does. `first` is the index of the region's first entry in the append queue, or `None` if
+    /// it has none.
     ///
     /// # Errors
     ///
@@ -113,7 +114,7 @@ impl SmallMark {
         }
     }
 
-    /// Returns the number of keys that the mark says were deleted.
+    /// Returns how many deleted keys the mark has.
     pub(crate) fn deleted_keys(&self) -> usize
         ensures { result ≡ finset.len self.now.deleted }
     {
@@ -123,12 +124,12 @@ impl SmallMark {
         }
     }
 
-    /// Joins the region mark of a newer run that starts at index `start`. `end` is the end of the own entries
-    /// before it, 0 if there are none.
+    /// Adds a newer run, which starts at index `start`, to the region mark. `end` is the index after the last
+    /// entry that the context gave the region before the run, or 0 if it gave none.
     ///
     /// # Errors
     ///
-    /// `AllocError` if there is no memory for it. The region mark is unchanged then.
+    /// `AllocError` if there is no memory. The region mark is unchanged then.
     pub(crate) fn add_run(&mut self, queue: LogQueue, end: u64, start: u64) -> AllocResult<()>
         ensures ok { OnOk result (self.new ≡ joined_at queue end self.old
             (record fresh { reach = Some start; cut = Some start })) }
@@ -143,12 +144,12 @@ impl SmallMark {
         })
     }
 
-    /// Applies `change` to the region mark.
+    /// Calls `change` with the region mark, and keeps the result.
     ///
     /// # Errors
     ///
     /// That of `change`, or `AllocError` if there is no memory to keep the result. A mark that was kept as
-    /// that of one run is unchanged then; another one is as `change` left it.
+    /// the start of a run is unchanged then; one in a box is as `change` left it.
     #[inline(always)]
     pub(crate) fn update<F: FnOnce(&mut Mark) -> AllocResult<()>>(
         &mut self,
@@ -169,11 +170,11 @@ impl SmallMark {
         }
     }
 
-    /// Applies `change` to `mark`, and returns the result as a slot keeps it.
+    /// Calls `change` with `mark`, and returns the result in the form in which a slot keeps it.
     ///
     /// # Errors
     ///
-    /// That of `change`, or `AllocError` if there is no memory to keep the result.
+    /// That of `change`, or `AllocError` if there is no memory to keep the result. `mark` is dropped then.
     #[inline(always)]
     pub(crate) fn changed<F: FnOnce(&mut Mark) -> AllocResult<()>>(
         alloc: Global,
@@ -189,8 +190,9 @@ impl SmallMark {
         SmallMark::of(alloc, mark)
     }
 
-    /// Tests whether it is plain that a newer run from index `start` on leaves the region mark as it is,
-    /// where own entries end at `end`. `false` says nothing of it. It spares most runs a larger mark.
+    /// Tests, at little cost, whether a newer run, which starts at index `start`, leaves the region mark as
+    /// it is, where the entries that the context gave the region end before index `end`. `false` doesn't say
+    /// that it changes it. So most runs need no larger mark.
     fn covers(&self, end: u64, start: u64) -> bool
         ensures { MatchBool result ((queue : LogQueue) → joined_at queue end self.now
             (record fresh { reach = Some start; cut = Some start }) ≡ self.now) (Unit {0}) }

@@ -1,4 +1,4 @@
-//! Rewritten records that move to a new file of the rewrite queue, and files that no table needs.
+//! Moving rewritten records to a new file of the rewrite queue, and deleting files that no table needs.
 
 ghost use Rattle.std.specs.Prelude.{◌≡◌, [], ◌∷◌, ◌++◌, IfErr, IfOk, OnOk, true};
 ghost use Rattle.raft_base.specs.declared.pipe_log.LogQueue.TheVariants.{Rewrite};
@@ -18,22 +18,27 @@ use raft_base::{Error, LogQueue, Result};
 use raft_files::EngineFiles;
 
 impl<F: EngineFiles> Engine<F> {
-    /// Moves what the tables have in rewrite files to a new one of them. First the append queue is synced, and what the rewrite
-    /// queue isn't told yet is put there; then that queue is synced, and a new file is begun in it. Then for each region the
-    /// rewritten entries are read, and put with the rewritten keys in the new file: in one batch, or, if they are of several
-    /// blocks and have more than 4 KiB together, in an atomic group of several. What the tables have stays the same, in other
-    /// places, so that the older rewrite files may be deleted ([`Engine::purge_rewrite_files`]). What moved isn't synced yet.
+    /// Moves what the tables have in rewrite files to a new one of them, so that the older rewrite files may be deleted
+    /// ([`Engine::purge_rewrite_files`]). What the tables have stays the same, in other places. What moved isn't synced yet.
+    ///
+    /// First the append queue is synced, and what batches took away and isn't in the rewrite queue yet is written there. Then
+    /// that queue is synced, and a new file is begun in it. Then, region by region, the rewritten entries are read, and
+    /// written with the rewritten keys to the new file: in one batch, or, if they are of several blocks and have more than 4
+    /// KiB together, in an atomic group of several.
     ///
     /// # Errors
     ///
-    /// `Failed` where the engine isn't intact; `Full` where what is untold has 2^56 bytes or more, or the last rewrite file more
-    /// than 2^63; `Memory`. The engine is then as it was. `Full` where that file has the greatest number, or `Memory`: what is
-    /// untold is told then, and no file begun. `Full` where a batch has 2^31 bytes of entries or 2^56 bytes in all, or would
-    /// begin past 2^63 in the new file; `Corruption` where the bytes of an entry aren't found at its place; `InvalidArgument`
-    /// where a key is that of the group markers; those of `EngineFiles::read`; `Memory`. The records of some regions moved then,
-    /// and the engine is intact. The other ones of `EngineFiles`; and, once all batches of a region were put, `Memory`, `Full`
-    /// where the live records of the rewrite queue and those that the next item names are 2^64 or more together, or a `Corruption`
-    /// where the tables don't take it: it isn't intact any more. A group of which not all batches were put changes nothing.
+    /// - `Failed` if the engine isn't intact; `Full` if what has to be written first has 2^56 bytes or more, or the last
+    ///   rewrite file more than 2^63; `Memory`. The engine is unchanged then.
+    /// - `Full` if that file has the greatest number, or `Memory`. What was taken away is written then, and no file begun.
+    /// - `Full` if a batch has 2^31 bytes of entries or 2^56 bytes in all, or would begin past 2^63 in the new file;
+    ///   `Corruption` if the bytes of an entry aren't found at its place; `InvalidArgument` if a key is that of the group
+    ///   markers; those of `EngineFiles::read`; `Memory`. The records of some regions moved then, and the engine is intact.
+    /// - Any other of `EngineFiles`. The engine isn't intact any more. A group of which not all batches were put changes
+    ///   nothing.
+    /// - Once all batches of a region were put: `Memory`; `Full` if the live records of the rewrite queue and those that the
+    ///   next item names are 2^64 or more together; `Corruption` if the tables don't take an item. The engine isn't intact any
+    ///   more.
     pub fn rewrite_again(&mut self) -> Result<()>
         ensures ok { OnOk result (AreMovedAgain self.old self.new) }
         ensures accepted { OnOk result (self.old.intact ≡ true) }
@@ -48,12 +53,12 @@ impl<F: EngineFiles> Engine<F> {
         self.move_regions_again(regions.as_slice())
     }
 
-    /// Begins a new file of the rewrite queue, in which the next batch is put. All in the older ones lasts then.
+    /// Syncs the rewrite queue, and begins a new file in it, to which the next batch goes.
     ///
     /// # Errors
     ///
-    /// `Full` where the last file has the greatest number, `Memory`: the engine is then as it was. Those of `EngineFiles::sync`
-    /// and `EngineFiles::rotate`: it isn't intact any more.
+    /// `Full` if the last file has the greatest number, `Memory`: the engine is unchanged then. Those of `EngineFiles::sync`
+    /// and `EngineFiles::rotate`: the engine isn't intact any more.
     fn rotate_rewrite(&mut self) -> Result<()>
         requires { self.old.intact ≡ true }
         ensures ok { OnOk result (IsRewriteRotated self.old self.new) }
@@ -67,15 +72,15 @@ impl<F: EngineFiles> Engine<F> {
         Ok(())
     }
 
-    /// Deletes the rewrite files that no table needs, the oldest first, but never the last one, and returns how many. All that
-    /// was written last is synced before, what the rewrite queue isn't told yet is put there, and it is synced too, so that what
-    /// moved lasts before its old place goes. If there is no such file nothing is asked.
+    /// Deletes the rewrite files that no table needs, the oldest first, but never the last one. Returns how many were deleted.
+    /// Before that it syncs the append queue, writes to the rewrite queue what batches took away and isn't there yet, and
+    /// syncs that queue too, so that what moved lasts before its old place goes. If there is no such file nothing is asked.
     ///
     /// # Errors
     ///
-    /// `Failed` where the engine isn't intact; `Full` where there is such a file, and what is untold has 2^56 bytes or more, or
-    /// the last rewrite file more than 2^63; `Memory`. The engine is then as it was. Those of `EngineFiles`, where there is such
-    /// a file: it isn't intact any more.
+    /// `Failed` if the engine isn't intact; `Full` if there is such a file, and what has to be written has 2^56 bytes or more,
+    /// or the last rewrite file more than 2^63; `Memory`. The engine is unchanged then. Those of `EngineFiles`, if there is
+    /// such a file: the engine isn't intact any more.
     pub fn purge_rewrite_files(&mut self) -> Result<usize>
         ensures ok { IfOk result (λ count. AreRewritesPurged count self.old self.new) }
         ensures accepted { OnOk result (self.old.intact ≡ true) }
@@ -84,8 +89,9 @@ impl<F: EngineFiles> Engine<F> {
         self.purge(LogQueue::Rewrite)
     }
 
-    /// Deletes the files of a queue that no table needs, the oldest first, but never the last one, and returns how many: once the
-    /// rewrite queue is told what it isn't told yet, and synced. If there is no such file nothing is asked.
+    /// Deletes the files of `queue` that no table needs, the oldest first, but never the last one. Returns how many were
+    /// deleted. Before that it writes to the rewrite queue what batches took away and isn't there yet, and syncs both queues.
+    /// If there is no such file nothing is asked.
     ///
     /// # Errors
     ///
@@ -107,11 +113,11 @@ impl<F: EngineFiles> Engine<F> {
         Ok(count)
     }
 
-    /// Counts the files of a queue that no table needs, the oldest first, but never the last one.
+    /// Returns how many files of `queue`, from the oldest one on, no table needs. The last file is never counted.
     ///
     /// # Errors
     ///
-    /// `Memory`.
+    /// `Memory` alone.
     fn count_expired(&self, queue: LogQueue) -> Result<usize>
         requires { self.now.intact ≡ true }
         ensures ok { IfOk result (AreExpired queue self.now) }
@@ -126,7 +132,7 @@ impl<F: EngineFiles> Engine<F> {
     ///
     /// # Errors
     ///
-    /// Those of `EngineFiles`: the engine isn't intact any more.
+    /// Those of `EngineFiles`: the engine isn't intact any more, and some of the files may be deleted.
     fn delete_files(&mut self, queue: LogQueue, count: usize) -> Result<()>
         requires ready { IsReady self.old }
         requires expired { AreExpired queue self.old count }

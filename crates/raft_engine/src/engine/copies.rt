@@ -1,4 +1,4 @@
-//! An engine over copies of files in memory.
+//! Opening an engine over copies of files in memory.
 
 ghost use Rattle.std.specs.Prelude.{List, IfErr, IfOk, OnOk};
 ghost use Rattle.raft_base.specs.declared.pipe_log.LogQueue.TheVariants.{Append, Rewrite};
@@ -16,11 +16,12 @@ use std::alloc::Global;
 use std::thread::Threads;
 
 impl Engine<MemoryFiles> {
-    /// Opens copies of files in memory, as [`Engine::open`] does: as if the machine had stopped, and lost nothing.
+    /// Opens copies of files in memory, as [`Engine::open`] opens files: as if the machine had crashed, and lost nothing.
+    /// `files` stay as they are.
     ///
     /// # Errors
     ///
-    /// Those of [`Engine::open`].
+    /// Those of [`Engine::open`], but that the copies are dropped.
     pub fn open_copies<R: Threads + Sync>(
         rt: &R,
         alloc: Global,

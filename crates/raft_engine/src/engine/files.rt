@@ -1,4 +1,4 @@
-//! The files of an engine that is open.
+//! Access to the files of an engine.
 
 ghost use Rattle.std.specs.Prelude.{◌≡◌};
 ghost use Rattle.std.specs.Fn.{FnOnceReturnsAtMut};
@@ -7,7 +7,7 @@ use super::Engine;
 use raft_files::EngineFiles;
 
 impl<F: EngineFiles> Engine<F> {
-    /// Makes a change to the files that asks nothing of them, and returns what it returns.
+    /// Calls `change` with the files, and returns what it returns. It may change them, but ask nothing of them.
     pub fn with_files<T, C: FnOnce(&mut F) -> T>(&mut self, change: C) -> T
         requires callable { C.IsAlwaysCallable change }
         requires silent { (before after : F) (r : T) → FnOnceReturnsAtMut C.FnOnce change before r after

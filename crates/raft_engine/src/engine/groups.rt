@@ -1,4 +1,4 @@
-//! Rewritten records of regions that move to a new file of the rewrite queue, in one batch of a region or in an atomic group.
+//! Moving the rewritten records of regions to a new file of the rewrite queue, in one batch of a region or in an atomic group.
 
 ghost use Rattle.std.specs.Prelude.{◌≡◌, ◌⊎◌, ◌↔◌, IfErr, IfOk, IsTrue, None, OnOk};
 ghost use Rattle.std.specs.FinMap as finite;
@@ -23,11 +23,11 @@ use raft_files::EngineFiles;
 use raft_records::LogBatch;
 
 impl<F: EngineFiles> Engine<F> {
-    /// Moves what the tables of these regions have in rewrite files to the last one of them, one region after another.
+    /// Moves what the tables of `regions` have in rewrite files to the last one of them, one region after another.
     ///
     /// # Errors
     ///
-    /// Those of `move_region_again`. The regions before the refused one moved then.
+    /// Those of [`Engine::move_region_again`]. The regions before the refused one moved then.
     pub(crate) fn move_regions_again(&mut self, regions: &[u64]) -> Result<()>
         requires { IsReady self.old }
         ensures ok { OnOk result (AreRegionsMovedAgain regions.now self.old self.new) }
@@ -39,12 +39,12 @@ impl<F: EngineFiles> Engine<F> {
         Ok(())
     }
 
-    /// Moves what a region's table has in rewrite files to the last one of them: in one batch if its entries are one part, else
-    /// in an atomic group.
+    /// Moves what the table of `region` has in rewrite files to the last one of them: in one batch if its entries are one part
+    /// (see [`part_len`]), else in an atomic group. A region without a table is left as it is.
     ///
     /// # Errors
     ///
-    /// `Memory`: the engine is then as it was. Those of `rewrite_region` and `move_group`.
+    /// `Memory`: the engine is unchanged then. Those of [`Engine::rewrite_region`] and [`Engine::move_group`].
     fn move_region_again(&mut self, region: u64) -> Result<()>
         requires { IsReady self.old }
         ensures ok { OnOk result (IsRegionMovedAgain region self.old self.new) }
@@ -56,11 +56,12 @@ impl<F: EngineFiles> Engine<F> {
         self.move_group(region)
     }
 
-    /// Tests whether the entries that a region's table has in rewrite files are one part.
+    /// Tests whether the entries that the table of `region` has in rewrite files are one part: all go into one batch. It is so
+    /// without entries, and without a table.
     ///
     /// # Errors
     ///
-    /// `Memory`.
+    /// `Memory` alone.
     fn is_one_part(&self, region: u64) -> Result<bool>
         ensures ok { IfOk result (λ one. IsTrue one ↔ IsOnePartOf region self.now) }
         ensures memory { IfErr result (λ e. e ≡ Error.Memory) }
@@ -72,16 +73,18 @@ impl<F: EngineFiles> Engine<F> {
         Ok(part_len(entries.as_slice()) == entries.len())
     }
 
-    /// Moves what a region's table has in rewrite files to the last one of them in an atomic group of that file's number: its
-    /// entries are read, and then its batches are put behind the file's bytes, one after another. A region without a table is left as
-    /// it is.
+    /// Moves what the table of `region` has in rewrite files to the last one of them in an atomic group, whose number is that
+    /// of the file. The entries are read, and then the batches of the group are put after the file's bytes, one after another.
+    /// A region without a table is left as it is.
     ///
     /// # Errors
     ///
-    /// `Full` where a batch would begin past 2^63 in the file, or has 2^56 bytes or more, and those of `moving_group`: the
-    /// engine is then as it was, but for reads. Those of `EngineFiles::append`: the engine isn't intact any more, the first ones of
-    /// the batches were put, and the tables are as they were. Those of `rewrite_items` once all were put: it isn't intact either,
-    /// and the tables have the first ones of their items.
+    /// - `Full` if a batch would begin past 2^63 in the file, or has 2^56 bytes or more, and those of [`moving_group`]. The
+    ///   engine is unchanged then, but for reads.
+    /// - Those of `EngineFiles::append`. The engine isn't intact any more, the first ones of the batches were put, and the
+    ///   tables are unchanged.
+    /// - Those of [`rewrite_items`], once all batches were put. The engine isn't intact either, and the tables have the first
+    ///   ones of their items.
     fn move_group(&mut self, region: u64) -> Result<()>
         requires { IsReady self.old }
         ensures ok { OnOk result (((finite.get self.old.accessor.tables region ≡ None) × (self.new ≡ self.old))
@@ -107,8 +110,8 @@ impl<F: EngineFiles> Engine<F> {
     }
 }
 
-/// Writes the items of batches that move records within the rewrite queue to a file of it to the tables, one batch after
-/// another.
+/// Writes the items of batches that move records within the rewrite queue to the tables, one batch after another. The records
+/// move to file `seq` of that queue.
 ///
 /// # Errors
 ///

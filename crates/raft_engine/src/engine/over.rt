@@ -1,4 +1,4 @@
-//! An engine that is opened over tables which others recovered.
+//! Opening an engine over tables that others recovered.
 
 ghost use Rattle.std.specs.Prelude.{◌≡◌, map, IfErr, IfOk, OnOk};
 ghost use Rattle.raft_files.specs.HeldFiles.{file_shown};
@@ -20,17 +20,18 @@ use raft_files::EngineFiles;
 use std::alloc::Global;
 
 impl<F: EngineFiles> Engine<F> {
-    /// Opens files that a stop of the machine left, as [`Engine::open`] does, but starts no threads and reads no batches: the
-    /// caller has read them. `appended` is the context that has read those of `append`, in order, up to where the last file can't
-    /// be read any further, and `rewritten` is that of `rewrite`; on which threads they were read doesn't matter.
+    /// Opens files that a crash left, as [`Engine::open`] does, but starts no threads and reads no batches: the caller has
+    /// read them. `appended` is the context that has read those of `append`, in order, up to where the last file can't be read
+    /// any further, and `rewritten` is that of `rewrite`; on which threads they were read doesn't matter.
     ///
     /// # Errors
     ///
-    /// The files are handed back with each error. Nothing was asked of them if they are refused as [`Engine::open`] refuses
-    /// files, though never for a batch that can't be read or for the number of workers; nor for `Memory`.
+    /// The files are handed back with each error. Nothing was asked of them after `Memory`, or if they are refused for a
+    /// reason that [`Engine::open`] names. A batch that can't be read or can't follow, and the number of workers, are never
+    /// the reason here.
     ///
-    /// If a call of `EngineFiles` fails, what was asked before stays done, and whatever is left of the files has the records that
-    /// were found. They may be listed and opened again.
+    /// If a call of `EngineFiles` fails, what was asked before stays done, and whatever is left of the files has the records
+    /// that were found. They may be listed and opened again.
     pub fn open_over(
         alloc: Global,
         version: Version,
@@ -65,13 +66,14 @@ impl<F: EngineFiles> Engine<F> {
         }
     }
 
-    /// Opens the files that a stop of the machine left, as [`Engine::open_over`] does, in a mode, and tells what was cut off from
-    /// them, as [`Engine::open_telling`] does. The contexts have read the batches up to where reading stops, in each mode.
+    /// Opens files that a crash left in the given `mode`, with contexts that have read their batches, as [`Engine::open_over`]
+    /// does. The contexts have read up to where reading stops, in each mode. Returns with the engine what was cut off, and
+    /// which batches of the last append file have damaged entries, as [`Engine::open_telling`] does.
     ///
     /// # Errors
     ///
-    /// Those of [`Engine::open_over`], but for a queue's last file which can't be read to its end, as with
-    /// [`Engine::open_telling`].
+    /// Those of [`Engine::open_over`]. But a queue's last file that can't be read to its end is always refused in the mode
+    /// `AbsoluteConsistency`, and never for that in the mode `TolerateTailCorruption`.
     pub fn open_over_telling(
         alloc: Global,
         mode: RecoveryMode,

@@ -1,4 +1,4 @@
-//! Entries and key values that are read.
+//! Reading entries and key values.
 
 ghost use Rattle.std.specs.Prelude.{◌≡◌, map, option_map, IfErr, IfOk, IsOk, OnErr, List, ℕ};
 ghost use Rattle.std.specs.Fn.{CalledAtTwo};
@@ -19,14 +19,15 @@ use raft_engine_prefixes::contents::told_contents_are_those_that_were_added;
 use raft_files::EngineFiles;
 
 impl<F: EngineFiles> Engine<F> {
-    /// Reads an entry of a region: the block at its place, whose checksum is tested. Where the region has no such entry that is
-    /// `None`, and nothing is read. An engine that isn't intact may be read too: its entries are those that were applied.
+    /// Reads the bytes of the entry of a region with the index `index`: reads its block, and tests the block's checksum.
+    /// Returns `None`, without a read, if the region has no such entry. An engine that isn't intact may be read too: its
+    /// entries are those that were applied.
     ///
     /// # Errors
     ///
-    /// Those of `EngineFiles::read`; `Corruption` where what stands at the entry's place is no sound block with its bytes: its
-    /// text begins with the region, the index, and the file and the offset of the block, as in `region 7, index 12, append file
-    /// 3, offset 4096: ..`; `Memory`. Only reads were asked then, and the engine is as intact as it was.
+    /// Those of `EngineFiles::read`; `Corruption` if what stands at the entry's place is no sound block with its bytes: its
+    /// text begins with the region, the index, and the file and the offset of the block, as in `region 7, index 12, append
+    /// file 3, offset 4096: ..`; `Memory`. Only reads were asked then, and the engine is as intact as it was.
     pub fn get_entry(&mut self, region: u64, index: u64) -> Result<Option<Vec<u8>>>
         ensures only { IsOnlyRead self.old self.new }
         ensures ok { IfOk result (λ found. IsEntryGot (entry_at index (table_in self.old region).entries)
@@ -49,18 +50,19 @@ impl<F: EngineFiles> Engine<F> {
         Ok(Some(bytes))
     }
 
-    /// Reads the entries of a region from `begin` on and below `end`, pushes their bytes behind those in `entries`, in order,
-    /// and returns how many there are. With a maximal size it stops before the first entry with which the total of lengths
-    /// passes that size and exceeds the entry's own length. A block that holds several of them is read once. Where the region
-    /// has no table nothing is read. An engine that isn't intact may be read too: its entries are those that were applied.
+    /// Reads the entries of a region from `begin` on and below `end`, appends the bytes of each to `entries`, in order, and
+    /// returns how many there are. With a maximal size it stops before the first entry with which the total of lengths passes
+    /// that size and exceeds the entry's own length. A block that holds several neighbors is read once. If the region has no
+    /// table, nothing is read and 0 is returned. An engine that isn't intact may be read too: its entries are those that were
+    /// applied.
     ///
     /// # Errors
     ///
-    /// Where the range isn't empty: `EntryNotFound` where the table has no entries, `EntryCompacted` where the range begins
-    /// below the first one, `EntryNotFound` where `end` is above their end: nothing is read then. Those of
-    /// `EngineFiles::read`; `Corruption` where what stands at the place of an entry is no sound block with its bytes, which is
-    /// named as by [`Engine::get_entry`]; `Memory`. Only reads were asked then, the engine is as intact as it was, and `entries`
-    /// has what it had.
+    /// If the range isn't empty: `EntryNotFound` if the table has no entries, `EntryCompacted` if the range begins below the
+    /// first one, `EntryNotFound` if `end` is above their end. Nothing is read then. Those of `EngineFiles::read`;
+    /// `Corruption` if what stands at the place of an entry is no sound block with its bytes, with a text as that of
+    /// [`Engine::get_entry`]; `Memory`. Only reads were asked then. After each error the engine is as intact as it was, and
+    /// `entries` is unchanged.
     pub fn fetch_entries_to(
         &mut self,
         region: u64,
@@ -92,9 +94,9 @@ impl<F: EngineFiles> Engine<F> {
         Ok(indexes.len())
     }
 
-    /// Calls `visit` at the keys of a region from `start` on and below `end` with their values, in the order of the keys or,
-    /// where `reverse`, from the last one back, until it returns false. A bound that is `None` leaves its side open; where
-    /// `start` is above `end` nothing is visited. It is always `Ok`.
+    /// Calls `visit` with each key of a region from `start` on and below `end`, and its value, until it returns `false`. It
+    /// goes in the order of the keys or, with `reverse`, from the last one back. A bound that is `None` leaves its side open.
+    /// If `start` is above `end`, or the region has no table, nothing is visited. It returns `Ok` always.
     pub fn scan<V: FnMut(&[u8], &[u8]) -> bool>(
         &self,
         region: u64,
@@ -115,7 +117,7 @@ impl<F: EngineFiles> Engine<F> {
         }
     }
 
-    /// Returns where an entry of a region stands.
+    /// Returns the entry of a region with the index `index`, with its place; `None` if there is none.
     fn entry_index(&self, region: u64, index: u64) -> Option<EntryIndex>
         ensures { result ≡ entry_at index (table_in self.now region).entries }
     {

@@ -1,4 +1,4 @@
-//! Records that move to the rewrite queue.
+//! Moving records to the rewrite queue.
 
 ghost use Rattle.std.specs.Prelude.{◌≡◌, ◌≢◌, ◌++◌, IfErr, None, OnOk, true};
 ghost use Rattle.raft_records.specs.LogBatch.{empty_batch};
@@ -21,21 +21,24 @@ use raft_files::EngineFiles;
 use raft_records::LogBatch;
 
 impl<F: EngineFiles> Engine<F> {
-    /// Moves what the tables have in append files up to the gate to the rewrite queue. First all that was written last is
-    /// synced, and what the rewrite queue isn't told yet is put there; then for each region the entries are read, and put
-    /// behind the last rewrite file part by part, each in one batch: the entries of as many blocks as have 4 KiB together at most,
-    /// or of one block; the last of them with the keys. What the tables have stays the same, in other files, so that the append
-    /// files may be deleted ([`Engine::purge_expired_files`]).
+    /// Moves what the tables have in append files numbered at or below `gate` to the rewrite queue, so that these files may be
+    /// deleted ([`Engine::purge_expired_files`]). What the tables have stays the same, in other files.
+    ///
+    /// First the append queue is synced, and what batches took away and isn't in the rewrite queue yet is written there. Then,
+    /// region by region, the entries are read, and written to the last rewrite file part by part, each part in a batch of its
+    /// own: the entries of as many blocks as have 4 KiB together at most, or of one block. The last batch of a region has its
+    /// keys too.
     ///
     /// # Errors
     ///
-    /// `Failed` where the engine isn't intact; `Full` where what is untold has 2^56 bytes or more, or the last rewrite file
-    /// more than 2^63; `Memory`. The engine is then as it was. `Full` where a batch has 2^31 bytes of entries or 2^56
-    /// bytes in all, or the last rewrite file more than 2^63; `Corruption` where the bytes of an entry aren't found at its
-    /// place; `InvalidArgument` where a key is that of the group markers; those of `EngineFiles::read`; `Memory`. The records
-    /// of some regions moved then, perhaps also the first entries of one more, and the engine is intact. The other ones of
-    /// `EngineFiles`; and, once a batch was put, `Memory`, or `Full` where the live records of the rewrite queue and those that its
-    /// next item names are 2^64 or more together: it isn't intact any more.
+    /// - `Failed` if the engine isn't intact; `Full` if what has to be written first has 2^56 bytes or more, or the last
+    ///   rewrite file more than 2^63; `Memory`. The engine is unchanged then.
+    /// - `Full` if a batch has 2^31 bytes of entries or 2^56 bytes in all, or the last rewrite file more than 2^63;
+    ///   `Corruption` if the bytes of an entry aren't found at its place; `InvalidArgument` if a key is that of the group
+    ///   markers; those of `EngineFiles::read`; `Memory`. The records of some regions moved then, perhaps also the first
+    ///   entries of one more, and the engine is intact.
+    /// - Any other of `EngineFiles`; and, once a batch was put, `Memory`, or `Full` if the live records of the rewrite queue
+    ///   and those that its next item names are 2^64 or more together. The engine isn't intact any more.
     pub fn rewrite(&mut self, gate: FileSeq) -> Result<()>
         ensures ok { OnOk result (IsRewritten gate self.old self.new) }
         ensures accepted { OnOk result (self.old.intact ≡ true) }
@@ -49,11 +52,12 @@ impl<F: EngineFiles> Engine<F> {
         self.rewrite_regions(regions.as_slice(), Some(gate))
     }
 
-    /// Moves what of the tables of these regions moves past a gate, one region after another.
+    /// Moves what the tables of `regions` have in append files numbered at or below `gate`, or without a gate in rewrite
+    /// files, one region after another.
     ///
     /// # Errors
     ///
-    /// Those of `rewrite_region`.
+    /// Those of [`Engine::rewrite_region`]. The regions before the refused one moved then.
     pub(crate) fn rewrite_regions(&mut self, regions: &[u64], gate: Option<FileSeq>) -> Result<()>
         requires { IsReady self.old }
         ensures ok { OnOk result (AreRegionsRewritten gate regions.now self.old self.new) }
@@ -65,12 +69,13 @@ impl<F: EngineFiles> Engine<F> {
         Ok(())
     }
 
-    /// Syncs the append queue, and puts what is untold behind the last rewrite file, if there is any.
+    /// Syncs the append queue, and writes to the last rewrite file what batches took away and isn't in that queue yet, if
+    /// there is any. The rewrite queue isn't synced.
     ///
     /// # Errors
     ///
-    /// `Failed` where the engine isn't intact; `Full` where what is untold has 2^56 bytes or more, or the last rewrite file more
-    /// than 2^63; `Memory`. The engine is then as it was. Those of `EngineFiles`: the engine isn't intact any more.
+    /// `Failed` if the engine isn't intact; `Full` if what has to be written has 2^56 bytes or more, or the last rewrite file
+    /// more than 2^63; `Memory`. The engine is unchanged then. Those of `EngineFiles`: the engine isn't intact any more.
     pub(crate) fn tell(&mut self) -> Result<()>
         ensures ok { OnOk result (IsTold self.old self.new) }
         ensures accepted { OnOk result (self.old.intact ≡ true) }
@@ -104,12 +109,14 @@ impl<F: EngineFiles> Engine<F> {
         Ok(())
     }
 
-    /// Moves what a region's table has in append files up to a gate, or without a gate what it has in rewrite files, to the last
-    /// rewrite file: past a gate in batches of a part of the entries each, the last one with the keys, and without a gate in one batch.
+    /// Moves what the table of `region` has in append files numbered at or below `gate`, or without a gate in rewrite files,
+    /// to the last rewrite file. With a gate it goes in batches of a part of the entries each (see
+    /// [`part_len`](crate::parts::part_len)), the last one with the keys; without a gate in one batch. A region without a
+    /// table is left as it is.
     ///
     /// # Errors
     ///
-    /// `Memory`: the engine is then as it was. Those of `move_batch`, where the batches before the refused one moved.
+    /// `Memory`: the engine is unchanged then. Those of [`Engine::move_batch`]: the batches before the refused one moved then.
     pub(crate) fn rewrite_region(&mut self, region: u64, gate: Option<FileSeq>) -> Result<()>
         requires { IsReady self.old }
         ensures ok { OnOk result (IsRegionRewritten gate region self.old self.new) }
@@ -130,14 +137,16 @@ impl<F: EngineFiles> Engine<F> {
         }
     }
 
-    /// Moves the next ones of what a region's table has to move to the last rewrite file: the bytes of a part of the entries are
-    /// read, and put behind that file's bytes in one batch, with the keys where no entries are left behind them.
+    /// Moves the next records of `region` to the last rewrite file in one batch: the entries `part`, whose bytes are read, and
+    /// the keys if no entries are `left` after them. `gate` is that of [`Engine::rewrite_region`]. Nothing is put if there is
+    /// nothing to move.
     ///
     /// # Errors
     ///
-    /// `Full` where the last rewrite file has more than 2^63 bytes, or the batch 2^56 or more, and those of `moving_batch`: the
-    /// engine is then as it was, but for reads. Those of `EngineFiles::append`, and those of `rewrite_items` once the batch was put:
-    /// the engine isn't intact any more, and the tables are as they were or, once it was put, have the first ones of its items.
+    /// `Full` if the last rewrite file has more than 2^63 bytes, or the batch 2^56 or more, and those of [`moving_batch`]: the
+    /// engine is unchanged then, but for reads. Those of `EngineFiles::append`, and those of [`rewrite_items`] once the batch
+    /// was put: the engine isn't intact any more, and the tables are unchanged or, once it was put, have the first ones of its
+    /// items.
     fn move_batch(
         &mut self,
         region: u64,
@@ -181,12 +190,13 @@ impl<F: EngineFiles> Engine<F> {
     }
 }
 
-/// Writes the items of a batch that moves records past a gate, or without one, to a file of the rewrite queue to the tables,
-/// which empties it.
+/// Writes the items of a batch that moves records to file `seq` of the rewrite queue to the tables, in order, which empties
+/// the batch. Only those records move that may: with a gate those in append files numbered at or below it, without one those
+/// that are rewritten already.
 ///
 /// # Errors
 ///
-/// Those of `apply_rewrite_writes`. The first ones of the items are written then.
+/// Those of `apply_rewrite_writes`. The first ones of the items are written then, and the batch is empty too.
 pub(super) fn rewrite_items(
     accessor: &mut MemTableAccessor,
     batch: &mut LogBatch,

@@ -1,4 +1,4 @@
-//! What was written is what is recovered.
+//! The law that what was written is what is recovered, and files in memory as segments for that.
 
 ghost use Rattle.std.specs.Prelude.{◌≡◌, length, IfErr, IfOk};
 ghost use Rattle.raft_files.specs.Disk.{files_of};
@@ -14,12 +14,12 @@ use raft_recover::{Segment, file_segments};
 
 impl<F: EngineFiles> Engine<F> {
     /// States that what was written is what is recovered, as long as the append files have all that the engine has: it is
-    /// intact, no append file was deleted, and rewrite files that were found held no batch, as where it was made new, or opened
-    /// over append files alone. `recover` gives of its append files, cut into segments anyhow, its tables, but for the places
-    /// of records that moved to the rewrite queue, and its cleaned regions; its very tables, places too, and its live counts, if
-    /// none moved. So does `recover_both`, and an engine that is opened, where the rewrite files hold no batch. Of what a stop
-    /// leaves they give exactly what one reading gives of a prefix of the batches, with the synced ones at least. This is a law:
-    /// it computes nothing.
+    /// intact, no append file was deleted, and rewrite files that were found held no batch, as where it was made new, or
+    /// opened over append files alone. From its append files, cut into segments anyhow, `recover` gives its cleaned regions
+    /// and its tables, but for the places of records that moved to the rewrite queue. If none moved, it gives the very tables,
+    /// places too, and the live counts. So do `recover_both`, and an engine that is opened, if the rewrite files hold no
+    /// batch. From what a crash leaves they give exactly what one reading gives of a prefix of the batches, with the synced
+    /// ones at least. This is a law: it computes nothing.
     pub fn what_was_written_is_recovered(&self)
         ensures { HasAllAppended self.now → IsRoundTrip self.now }
     {
@@ -29,12 +29,11 @@ impl<F: EngineFiles> Engine<F> {
 }
 
 impl Engine<MemoryFiles> {
-    /// Returns the files of a queue as segments, each of one part, which has all bytes of its file. These are copied, since a
-    /// part owns its bytes, and the files keep their own.
+    /// Returns the files of `queue` as segments. Each is of one part, which has a copy of all bytes of its file.
     ///
     /// # Errors
     ///
-    /// `Memory`.
+    /// `Memory` alone.
     pub fn segments(&self, queue: LogQueue) -> Result<Vec<Segment>>
         ensures whole { IfOk result (λ segments. AreWholeFiles queue self.now.version (files_of queue self.now.asks)
             segments.items) }

@@ -1,10 +1,10 @@
-//! Failures of power: what has to be synced before what; and files that are deleted while records are on their way.
+//! Histories of power failures: what has to be synced before what; and files that are deleted while records are on their way.
 
 use crate::batches::Part::{Clean, Compact, Delete, Entries, Put};
 use crate::cases::{APPENDED, Case, REWRITTEN};
 use crate::engine::Step::{Append, Fail, Purge, Rewrite, Sync, SyncFile, Tell, TellCleaned};
 
-/// Returns their histories.
+/// Returns the histories of power failures.
 pub fn cases() -> &'static [Case] {
     &CASES
 }

@@ -1,11 +1,11 @@
-//! Atomic groups.
+//! Histories of atomic groups.
 
 use crate::batches::Part::{Begin, Clean, Compact, End, Entries, Put};
 use crate::cases::{APPENDED, Case, REWRITTEN};
 use crate::engine::Step;
 use crate::engine::Step::{Append, ApplyGroup, Purge, Read, Rewrite, Tell, TellCleaned};
 
-/// Returns their histories.
+/// Returns the histories of atomic groups.
 pub fn cases() -> &'static [Case] {
     &CASES
 }
@@ -219,7 +219,7 @@ static CASES: [Case; 15] = [
     },
 ];
 
-/// Returns histories whose last step reads an entry of a deleted file.
+/// Returns histories whose last step reads an entry of a file that was deleted too early.
 pub fn missed() -> &'static [&'static [Step]] {
     &MISSED
 }

@@ -1,10 +1,10 @@
-//! Removals that the rewrite queue is told, and such that it isn't.
+//! Histories of removals: those that the rewrite queue is told, and those that it isn't.
 
 use crate::batches::Part::{Clean, Compact, Delete, Entries, Put, Truncate};
 use crate::cases::{APPENDED, Case};
 use crate::engine::Step::{Append, Purge, Restart, Rewrite, Tell, TellCleaned};
 
-/// Returns their histories.
+/// Returns the histories of removals.
 pub fn cases() -> &'static [Case] {
     &CASES
 }

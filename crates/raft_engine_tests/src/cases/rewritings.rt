@@ -1,11 +1,11 @@
-//! Rewritings: what may not happen between reading records and moving them.
+//! Histories of rewritings: what may not happen between reading records and moving them.
 
 use crate::batches::Part::{Begin, Clean, Compact, Delete, End, Entries, Put, Truncate};
 use crate::cases::{APPENDED, Case, REWRITTEN};
 use crate::engine::Step;
 use crate::engine::Step::{Append, ApplyGroup, Purge, Rewrite, Tell, TellCleaned};
 
-/// Returns their histories.
+/// Returns the histories of rewritings.
 pub fn cases() -> &'static [Case] {
     &CASES
 }

@@ -1,4 +1,4 @@
-//! Folders as a crash leaves them.
+//! Opens folders as a crash leaves them, and compares what a store then has with what it must have.
 
 use crate::folder_pipe::FolderPipe;
 use crate::logs::Logs;
@@ -8,29 +8,32 @@ use raft_memtable::{MemTableAccessor, MemTableRecoverContextFactory};
 use raft_recover::{OpenGate, replay_segments};
 use raft_samples::text_of;
 
-/// The folder that holds what a crash leaves.
+/// The name of the folder that holds what a crash leaves.
 pub(crate) const CRASHED: &str = "raft_group_crashes_crashed";
 
-/// The least bytes of a file before a new one is begun.
+/// How many bytes a file must have before a new one is begun.
 pub(crate) const FILE_SIZE: u64 = 200;
 
-/// Counts crashes after which a store doesn't hold what it has to.
+/// Crashes that were tried, and how many times a store then had something else than it must have.
 #[derive(Drop)]
 pub(crate) struct Crashes<'a, R: Host + Print> {
+    /// The machine.
     pub(crate) rt: &'a R,
-    /// Whether each byte of a batch may be the last that is written.
+    /// Whether a crash is tried at each byte of a batch.
     pub(crate) each_byte: bool,
+    /// How many times a folder was opened.
     pub(crate) tried: u64,
+    /// How many differences there were.
     pub(crate) different: u64,
 }
 
 impl<'a, R: Host + Print> Crashes<'a, R> {
     /// Opens the folder that a crash has left, recovers the tables with `workers` threads, and compares what
-    /// the store then has with `expected`. A refusal is printed, and counts as different.
+    /// the store then has with `expected`. A difference or a refusal is counted and printed, and is no error.
     ///
     /// # Errors
     ///
-    /// `Io` for the output; `Memory`.
+    /// `Io` for the output.
     pub(crate) fn reopen(&mut self, workers: usize, expected: &str) -> Result<()> {
         self.tried = self.tried.saturating_add(1);
         match self.recover_text(workers) {
@@ -55,12 +58,12 @@ impl<'a, R: Host + Print> Crashes<'a, R> {
         Ok(())
     }
 
-    /// Opens a store in the folder that a crash has left, and returns what it has, as text. With more than
-    /// one of `workers` the tables are recovered once more, by that many threads.
+    /// Opens a store in the folder that a crash has left, and returns what it has, as text. If `workers` is
+    /// more than one, the tables are recovered once more, by so many threads.
     ///
     /// # Errors
     ///
-    /// Those of [`Store::open`], of the recovery, and of reading the entries.
+    /// Those of [`Store::open`]; those of the recovery; those of reading the entries; `Memory`.
     fn recover_text(&self, workers: usize) -> Result<String> {
         let alloc = self.rt.alloc();
         let mut store = Store::open(self.rt, CRASHED, FILE_SIZE, 1)?;
@@ -71,8 +74,8 @@ impl<'a, R: Host + Print> Crashes<'a, R> {
     }
 }
 
-/// Recovers the tables of both queues by `workers` threads. Each thread takes the next whole file, however
-/// small it is, so that even short files are read by several.
+/// Recovers the tables of both queues of `pipe` by `workers` threads. Each thread takes the next whole file,
+/// however short it is, so that even short files are read by several threads.
 ///
 /// # Errors
 ///

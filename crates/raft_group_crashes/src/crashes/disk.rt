@@ -9,16 +9,19 @@ use raft_samples::Dice;
 use std::alloc::Global;
 use std::{fs, mem};
 
-/// The files of both queues: the older ones in the folder of the crashes, the last ones here. A failure of power leaves
-/// what was synced, and of what was written since a prefix, of each queue by itself.
+/// The files of both queues: the older ones stand in the folder of crashes, the last one of each queue is
+/// kept here. A crash leaves what was synced, and of what was written since then a prefix, of each queue by
+/// itself.
 #[derive(Drop)]
 pub(crate) struct DiskNotes {
     alloc: Global,
-    /// The least file of the append queue, and of the rewrite queue.
+    /// The number of the first file of the append queue, and of the rewrite queue.
     least: (FileSeq, FileSeq),
+    /// The last append file.
     append: Tail,
+    /// The last rewrite file.
     rewrite: Tail,
-    /// What the store held at the last sync of the append queue, and after each batch since.
+    /// The text of what the store had at the last sync of the append queue, and after each batch since then.
     prefix_texts: Vec<String>,
 }
 
@@ -47,8 +50,9 @@ impl DiskNotes {
         }
     }
 
-    /// Takes in one change of the store's files, and tries the crashes on the way. `new` is what the store
-    /// has after it, as text.
+    /// Applies `change`, which the store made to its files, to the disk, and tries crashes on the way. `new`
+    /// is the text of what the store has after all its changes. A difference is counted and printed, and is
+    /// no error.
     ///
     /// # Errors
     ///
@@ -68,9 +72,9 @@ impl DiskNotes {
         }
     }
 
-    /// Adds `bytes`, those of a batch, to the last file of a queue, which is `id`, and tries crashes in them
-    /// and behind them. If that is an append file, `new` is what the store has with the batch. A batch of
-    /// another file counts as a difference.
+    /// Appends `bytes`, those of a batch, to the last file of a queue, which is `id`, and tries crashes in
+    /// them and after them. If it is an append file, `new` is the text of what the store has with the batch.
+    /// A batch of another file counts as a difference.
     ///
     /// # Errors
     ///
@@ -98,8 +102,8 @@ impl DiskNotes {
         self.try_drawn_crash(crashes, dice)
     }
 
-    /// Tries a crash for each number of bytes, from `old` on, of the last file of `queue`, short of all of
-    /// them. Everything of the other queue is left.
+    /// Tries a crash that leaves `len` bytes of the last file of `queue`, for each `len` from `old` on that
+    /// is less than all. Everything of the other queue is left.
     ///
     /// # Errors
     ///
@@ -119,8 +123,8 @@ impl DiskNotes {
         Ok(())
     }
 
-    /// Tries one crash that leaves a drawn part of what isn't synced in each queue. One worker recovers the
-    /// tables or, once in eight times, four.
+    /// Tries one crash that leaves a drawn part of what isn't synced in each queue. In one of eight cases
+    /// four workers recover the tables, else one does.
     ///
     /// # Errors
     ///
@@ -135,8 +139,8 @@ impl DiskNotes {
         self.try_crash(crashes, workers, append, rewrite)
     }
 
-    /// Leaves the first `append` and the first `rewrite` bytes of the last file of each queue in the folder
-    /// of crashes, and opens it ([`Crashes::reopen`]).
+    /// Writes the first `append` bytes of the last append file and the first `rewrite` bytes of the last
+    /// rewrite file to the folder of crashes, and opens it by `workers` workers ([`Crashes::reopen`]).
     ///
     /// # Errors
     ///
@@ -163,7 +167,7 @@ impl DiskNotes {
         Ok(fs::write(rt, path.as_str(), tail.prefix(len))?)
     }
 
-    /// Returns what the store must have, as text, if the first `append` bytes of the last append file are
+    /// Returns the text of what the store must have if the first `append` bytes of the last append file are
     /// left.
     fn text_of_prefix(&self, append: usize) -> &str {
         let lost = self.append.count_batches_lost(append).saturating_add(1);
@@ -176,7 +180,7 @@ impl DiskNotes {
         }
     }
 
-    /// Notes that everything in the last file of `queue` survives a crash from now on.
+    /// Notes that all bytes in the last file of `queue` survive a crash from now on.
     ///
     /// # Errors
     ///
@@ -190,8 +194,8 @@ impl DiskNotes {
         Ok(())
     }
 
-    /// Begins the file `id`, the next one of its queue. Everything in the files before it survives a crash
-    /// from now on, and the one before it is written to the folder of crashes.
+    /// Begins the file `id`, the next one of its queue. All bytes in the files before it survive a crash from
+    /// now on, and the file right before it is written to the folder of crashes.
     ///
     /// # Errors
     ///
@@ -204,7 +208,7 @@ impl DiskNotes {
     }
 
     /// Deletes the files below `id` of its queue from the folder of crashes, the oldest first, and tries a
-    /// crash behind each of them.
+    /// crash after each.
     ///
     /// # Errors
     ///
@@ -234,8 +238,9 @@ impl DiskNotes {
         Ok(())
     }
 
-    /// Draws what a failure of power leaves of the last file of each queue, and drops the rest. Returns both
-    /// files, each with the number of bytes that are left of it, and what the store must then have, as text.
+    /// Draws what a crash leaves of the last file of each queue, and drops the rest from these notes. Returns
+    /// the last append file and the last rewrite file, each with how many bytes are left of it, and the text
+    /// of what the store must then have.
     ///
     /// # Errors
     ///

@@ -1,4 +1,4 @@
-//! Random histories of a store.
+//! Random histories of a store: steps that are taken one after another, with crashes tried after each.
 
 ghost use Rattle.std.specs.Prelude.{◌≡◌, OnOk};
 ghost use Rattle.raft_records.specs.LogBatch.{is_open};
@@ -13,11 +13,11 @@ use raft_samples::{Change, Contents, Dice, records_for, text_of};
 use std::collections::BTreeMap;
 use std::fs;
 
-/// The folder of a history.
+/// The name of the folder of a history.
 pub(crate) const FOLDER: &str = "raft_group_crashes_history";
 
-/// Steps in a row that lose or bring back entries where the rewrite queue isn't told of runs that replace some: all records
-/// move, entries are replaced and compacted to their end, and all append files go.
+/// Steps in a row that lose or bring back entries if the rewrite queue isn't told of runs that replace some:
+/// all records move, entries are replaced and compacted to their end, and all append files are deleted.
 static REPLACED: [u64; 4] = [24, 25, 26, 20];
 
 /// Returns the steps that [`REPLACED`] lists, which are taken one after another.
@@ -25,14 +25,19 @@ fn replacing_steps() -> &'static [u64] {
     &REPLACED
 }
 
-/// A store, and beside it what it has to hold, and what the disk holds.
+/// A store, beside it the records that it must have, and what the disk holds of its files.
 #[derive(Drop)]
 pub(crate) struct History<'a, R: Host> {
     rt: &'a R,
+    /// How many bytes a file must have before a new one is begun.
     file_size: u64,
+    /// The store.
     store: Store<'a, R>,
+    /// The records that it must have.
     kept: Contents,
+    /// What the disk holds.
     disk: DiskNotes,
+    /// What draws the steps, the changes and the crashes.
     dice: Dice,
     /// How many steps of [`REPLACED`] were taken.
     taken: usize,
@@ -45,7 +50,7 @@ impl<'a, R: Host + Print> History<'a, R> {
     ///
     /// # Errors
     ///
-    /// `Io` for a file; `Memory`.
+    /// `Io` for a file; `Memory`; those of opening the store.
     pub(crate) fn begin(rt: &'a R, seed: u64) -> Result<History<'a, R>> {
         let first = seed % 2;
         let file_size = if seed / 2 % 2 == 0 { FILE_SIZE } else { 40 };
@@ -62,12 +67,12 @@ impl<'a, R: Host + Print> History<'a, R> {
         })
     }
 
-    /// Takes one step, compares what the store then has with what it must have, and tries the crashes on the
-    /// way.
+    /// Takes one step, compares what the store then has with what it must have, and tries crashes after each
+    /// change of the files. A difference is counted and printed, and is no error.
     ///
     /// # Errors
     ///
-    /// `Io` for a file or the output; `Memory`; whatever a call of the store returns.
+    /// `Io` for a file or the output; `Memory`; those of the store's call.
     pub(crate) fn step(&mut self, crashes: &mut Crashes<'a, R>) -> Result<()> {
         match self.next_step() {
             0..=9 => self.write()?,
@@ -87,8 +92,8 @@ impl<'a, R: Host + Print> History<'a, R> {
         self.follow(crashes)
     }
 
-    /// Returns the number of the next step: the next one of [`REPLACED`], once these are begun, or else one
-    /// that is drawn.
+    /// Returns the number of the next step: the next one of [`REPLACED`] as long as these aren't all taken,
+    /// else one that is drawn, which may be the first of them.
     fn next_step(&mut self) -> u64 {
         if let Some(step) = replacing_steps().get(self.taken) {
             self.taken = self.taken.saturating_add(1);
@@ -101,7 +106,7 @@ impl<'a, R: Host + Print> History<'a, R> {
         step
     }
 
-    /// Moves records of the append queue to the rewrite queue: in half of these steps all of them, else those
+    /// Moves records of the append queue to the rewrite queue: in half of the cases all of them, else those
     /// of the files before the last one.
     ///
     /// # Errors
@@ -126,7 +131,7 @@ impl<'a, R: Host + Print> History<'a, R> {
         Ok(())
     }
 
-    /// Deletes the files that no table needs; in half of these steps a new append file is begun first.
+    /// Deletes the oldest files that no table needs. In half of the cases a new append file is begun first.
     ///
     /// # Errors
     ///
@@ -139,12 +144,12 @@ impl<'a, R: Host + Print> History<'a, R> {
         Ok(())
     }
 
-    /// Begins a new append file, and deletes all files that no table needs. In half of these steps the store
-    /// is first opened again, and moves all records of the append queue.
+    /// Begins a new append file, and deletes the oldest files that no table needs. In half of the cases the
+    /// store is opened again first, and moves all records of the append queue.
     ///
     /// # Errors
     ///
-    /// Those of opening the store, of moving its records and of [`Store::purge`].
+    /// Those of opening the store; those of moving its records; those of [`Store::purge`].
     fn purge_all(&mut self) -> Result<()> {
         if self.dice.hits(2) {
             self.store = open_store(self.rt, self.file_size)?;
@@ -155,9 +160,9 @@ impl<'a, R: Host + Print> History<'a, R> {
         Ok(())
     }
 
-    /// Compares the records of the store with those that it must have; a difference is counted in `crashes` and printed, and is
-    /// no error. Then applies the changes that the store made to its files since the last call to the model of the disk, oldest
-    /// first; the model tries crashes on the way.
+    /// Compares the records of the store with those that it must have. A difference is counted in `crashes`
+    /// and printed, and is no error. Then applies the changes that the store made to its files since the last
+    /// call to the model of the disk, oldest first. The model tries crashes on the way.
     ///
     /// # Errors
     ///
@@ -176,8 +181,8 @@ impl<'a, R: Host + Print> History<'a, R> {
         Ok(())
     }
 
-    /// Cuts the last file of each queue where a drawn failure of power ends it, opens the store again, and
-    /// compares what it has with what must be left. The history goes on from there.
+    /// Cuts the last file of each queue where a drawn crash ends it, opens the store again, and compares what
+    /// it has with what must be left. The history goes on from there.
     ///
     /// # Errors
     ///
@@ -192,7 +197,7 @@ impl<'a, R: Host + Print> History<'a, R> {
         crashes.compare(text_of(alloc, &self.kept)?.as_str(), prefix.as_str())
     }
 
-    /// Writes a batch of one to three changes, which is synced once in four times.
+    /// Writes a batch of one to three drawn changes. In one of four cases it is synced.
     ///
     /// # Errors
     ///
@@ -206,7 +211,7 @@ impl<'a, R: Host + Print> History<'a, R> {
         self.store.write(batch, sync)
     }
 
-    /// Writes a batch that replaces entries of both regions, and compacts each to its end.
+    /// Writes a batch that replaces entries of both regions, and compacts each region to its end.
     ///
     /// # Errors
     ///
@@ -231,7 +236,7 @@ impl<'a, R: Host + Print> History<'a, R> {
     ///
     /// # Errors
     ///
-    /// `Memory`, and what the batch returns.
+    /// `Memory`; those of the batch's call. The change may have been made in one of the two then.
     fn add_change(&mut self, batch: &mut LogBatch) -> Result<()>
         requires { batch.old.stage ≡ is_open }
         ensures { OnOk result (batch.new.stage ≡ is_open) }
@@ -243,8 +248,8 @@ impl<'a, R: Host + Print> History<'a, R> {
     }
 }
 
-/// Opens the store of a history, which from then on notes what it does to its files. A file gets `file_size`
-/// bytes before the next one is begun.
+/// Opens the store of a history, which from then on notes what it does to its files. A file gets at least
+/// `file_size` bytes before the next one is begun.
 ///
 /// # Errors
 ///
@@ -255,11 +260,11 @@ fn open_store<R: Host>(rt: &R, file_size: u64) -> Result<Store<'_, R>> {
     Ok(store)
 }
 
-/// Makes `folder` with an empty file of each queue, numbered `seq`, in place of a folder that is there.
+/// Makes `folder` with an empty file of each queue, numbered `seq`. A folder that is there is removed first.
 ///
 /// # Errors
 ///
-/// `Io`, or `Memory`.
+/// `Io` for the folder or a file; `Memory`.
 fn make_folder<R: Host>(rt: &R, folder: &str, seq: FileSeq) -> Result<()> {
     remove_folder(rt, folder)?;
     fs::create_dir_all(rt, folder)?;

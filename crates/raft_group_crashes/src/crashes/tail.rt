@@ -1,4 +1,4 @@
-//! The last file of a queue, and what a failure of power leaves of it.
+//! The last file of a queue, and what a crash leaves of it.
 
 use raft_base::{FileId, Result};
 use raft_samples::Dice;
@@ -7,7 +7,9 @@ use std::alloc::Global;
 /// The last file of a queue. Those before it were synced when it was begun.
 #[derive(Drop)]
 pub(crate) struct Tail {
+    /// Which file it is.
     pub(crate) id: FileId,
+    /// Its bytes, also those that aren't synced.
     bytes: Vec<u8>,
     /// Where each batch ends.
     ends: Vec<usize>,
@@ -26,7 +28,7 @@ impl Tail {
         }
     }
 
-    /// Returns the number of bytes in the file.
+    /// Returns how many bytes the file has.
     pub(crate) fn len(&self) -> usize {
         self.bytes.len()
     }
@@ -46,13 +48,13 @@ impl Tail {
         self.synced = self.bytes.len();
     }
 
-    /// Returns the first `len` bytes, or none if there are fewer.
+    /// Returns the first `len` bytes, or no bytes if there are fewer.
     pub(crate) fn prefix(&self, len: usize) -> &[u8] {
         self.bytes.get(..len).unwrap_or(b"")
     }
 
-    /// Draws how many bytes a failure of power leaves: all, those that were synced, or these and some of the
-    /// others, up to any byte or up to the end of a batch.
+    /// Draws how many bytes a crash leaves: all, those that were synced, or these and some of the others, up
+    /// to any byte or up to the end of a batch.
     pub(crate) fn draw(&self, dice: &mut Dice) -> usize {
         let unsynced = self.bytes.len().saturating_sub(self.synced) as u64;
         let drawn = dice.below(unsynced.saturating_add(1)) as usize;
@@ -87,8 +89,8 @@ impl Tail {
         lost
     }
 
-    /// Cuts the file behind the last batch that is whole in its first `len` bytes, as a restart does after
-    /// a crash that left these. What is left counts as synced.
+    /// Cuts the file after the last batch that is whole in its first `len` bytes, as a restart does after a
+    /// crash that left these bytes. What is left counts as synced.
     pub(crate) fn cut_to_whole_batches(&mut self, len: usize) {
         let whole = self.whole_prefix_len(len);
         self.bytes.truncate(whole);

@@ -1,4 +1,4 @@
-//! Moves records to the rewrite queue, and deletes files that nobody needs.
+//! Moves records to the rewrite queue, and deletes files that no table needs.
 
 ghost use Rattle.std.specs.Prelude.{◌≡◌, IfOk, OnOk};
 ghost use Rattle.raft_records.specs.LogBatch.{is_open};
@@ -11,13 +11,15 @@ use raft_records::{AtomicGroupBuilder, LogBatch, LogItem, LogItemContent};
 use raft_samples::Proposals;
 use std::alloc::Global;
 
-/// How many entries a batch has at most that moves them. An engine goes by their bytes.
+/// The most entries of a batch that moves some. An engine counts their bytes instead.
 const BATCH_ENTRIES: usize = 3;
 
-/// Records of a region that are to be moved.
+/// The records of a region that are to be moved.
 #[derive(Drop)]
 struct MovedRecords {
+    /// The entries, with their present places.
     entries: Vec<EntryIndex>,
+    /// The keys with their values.
     pairs: Vec<(Vec<u8>, Vec<u8>)>,
 }
 
@@ -48,8 +50,8 @@ impl MovedRecords {
 }
 
 impl<R: Host> Store<'_, R> {
-    /// Moves the records of all append files but the last one, which is written to, to the rewrite queue.
-    /// Returns of how many regions it moved some.
+    /// Moves the records of all append files but the last one, to which batches are written, to the rewrite
+    /// queue. Returns how many regions had such records.
     ///
     /// # Errors
     ///
@@ -62,7 +64,8 @@ impl<R: Host> Store<'_, R> {
         self.rewrite(Some(last - 1))
     }
 
-    /// Moves the records of all rewrite files to a new one. Returns of how many regions it moved some.
+    /// Begins a new rewrite file, and moves the records of all rewrite files to it, or to further ones once
+    /// it is long enough. Returns how many regions had such records.
     ///
     /// # Errors
     ///
@@ -72,8 +75,9 @@ impl<R: Host> Store<'_, R> {
         self.rewrite(None)
     }
 
-    /// Deletes the files of both queues that no table needs, and returns how many they were in each. The
-    /// rewrite queue is synced first, so that what was moved out of them survives a crash.
+    /// Deletes the oldest files of both queues that no table needs. Returns how many it deleted in the append
+    /// queue and in the rewrite queue. The rewrite queue is told first what the append queue took away, and
+    /// synced, so that what was moved out of the files survives a crash.
     ///
     /// # Errors
     ///
@@ -86,7 +90,7 @@ impl<R: Host> Store<'_, R> {
         Ok((appended, rewritten))
     }
 
-    /// Deletes the files of `queue` below the least one that a table needs, and returns how many they were.
+    /// Deletes the files of `queue` below the least one that a table needs. Returns how many it deleted.
     ///
     /// # Errors
     ///
@@ -106,13 +110,13 @@ impl<R: Host> Store<'_, R> {
         Ok(deleted)
     }
 
-    /// Writes to the rewrite queue what takes records away there: the cleaned regions, then the commands and
-    /// deletions that it wasn't told yet. The append queue is synced before, so that nothing is told of
-    /// batches that a failure of power takes.
+    /// Writes to the rewrite queue what takes records away there: a clean of each cleaned region, then the
+    /// commands and deletions that it wasn't told yet. The append queue is synced first, so that nothing is
+    /// told of batches that a crash may lose.
     ///
     /// # Errors
     ///
-    /// `Io` for a file; those of writing a batch; `Memory`.
+    /// `Io` for a file; those of writing a batch; `Memory`. The store must be opened again then.
     pub(crate) fn rewrite_tombstones(&mut self) -> Result<()> {
         self.sync(LogQueue::Append)?;
         let cleaned = self.tables.take_cleaned_region_logs()?;
@@ -127,7 +131,7 @@ impl<R: Host> Store<'_, R> {
     }
 
     /// Moves records of all regions to the rewrite queue: with a `gate`, those in append files numbered at or
-    /// below it; without one, those that are rewritten already. Returns of how many regions it moved some.
+    /// below it; without one, those that are rewritten already. Returns how many regions had such records.
     ///
     /// # Errors
     ///
@@ -146,8 +150,8 @@ impl<R: Host> Store<'_, R> {
         Ok(moved)
     }
 
-    /// Moves those records of `region` that `gate` lets pass, as [`Store::rewrite`] says. Returns whether
-    /// there were any.
+    /// Moves records of `region` to the rewrite queue: with a `gate`, those in append files numbered at or
+    /// below it; without one, those that are rewritten already. Returns whether there were any.
     ///
     /// # Errors
     ///
@@ -167,12 +171,12 @@ impl<R: Host> Store<'_, R> {
         Ok(true)
     }
 
-    /// Writes `records` of `region`, which are in append files, to the rewrite queue, in batches that each
-    /// take effect by themselves: the append files stay until all are written.
+    /// Writes `records` of `region`, which are in append files up to `gate`, to the rewrite queue, in batches
+    /// that each take effect by themselves. That is enough, as the append files stay until all are written.
     ///
     /// # Errors
     ///
-    /// Those of writing a batch and of the tables.
+    /// Those of writing a batch and of the tables. Some of the records may have been moved then.
     fn write_batches(
         &mut self,
         region: u64,
@@ -189,8 +193,9 @@ impl<R: Host> Store<'_, R> {
         Ok(())
     }
 
-    /// Writes all rewritten records of `region` again, as an atomic group of two batches: all of them move,
-    /// or none. The table remembers the files of one group only, so no record may be left in an older one.
+    /// Writes all rewritten records of `region` to the rewrite queue again, as an atomic group of two
+    /// batches: all of them move, or none. The table remembers the files of one group only, so no record may
+    /// be left in an older one.
     ///
     /// # Errors
     ///
@@ -210,7 +215,7 @@ impl<R: Host> Store<'_, R> {
             .apply_rewrite_atomic_group(region, first.min(last), last)
     }
 
-    /// Returns an open batch with `entries` of `region`, whose bytes are read from the files.
+    /// Returns an open batch with `entries` of `region`. Their bytes are read from the files.
     ///
     /// # Errors
     ///
@@ -223,8 +228,8 @@ impl<R: Host> Store<'_, R> {
         Ok(batch)
     }
 
-    /// Writes `batch` to the rewrite queue, and then to the tables, with `gate`. Returns the number of the
-    /// file that it is in, or 0 for an empty batch, which isn't written.
+    /// Writes `batch` to the rewrite queue, and then to the tables, as rewritten records with this `gate`.
+    /// Returns the number of the file that it is in, or 0 for an empty batch, which isn't written.
     ///
     /// # Errors
     ///
@@ -241,7 +246,7 @@ impl<R: Host> Store<'_, R> {
     }
 }
 
-/// Adds a put of each of `pairs` in `region` to an open batch.
+/// Adds a put of each of `pairs` in `region` to `batch`, which must be open.
 ///
 /// # Errors
 ///
@@ -257,7 +262,7 @@ fn put_all_pairs(batch: &mut LogBatch, region: u64, pairs: Vec<(Vec<u8>, Vec<u8>
     Ok(())
 }
 
-/// Adds the commands and deletions among `items` to an open batch. Entries are left out.
+/// Adds the commands and deletions among `items` to `batch`, which must be open. Entries are left out.
 ///
 /// # Errors
 ///

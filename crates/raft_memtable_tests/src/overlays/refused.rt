@@ -1,4 +1,4 @@
-//! Batches and contexts that don't fit a context: each call is refused, and so are all later ones.
+//! Tests batches and contexts that don't fit a context: each call is refused, and so are all later ones.
 
 use super::Word::{Clean, Put, Run, Truncate};
 use super::{NONE, Shape, Word, overlaid, part, read, replay, shape_of};
@@ -7,7 +7,7 @@ use raft_memtable::{Error, FileId, Kept, LogQueue, MemTableRecoverContext, Resul
 use raft_trials::again;
 use std::alloc::Global;
 
-/// Why a call is refused, in which words.
+/// The error with which a call is refused, and its text.
 #[derive(Clone, Copy)]
 enum Refusal {
     Corruption(&'static str),
@@ -15,7 +15,7 @@ enum Refusal {
     Failed,
 }
 
-/// Tests whether a call is refused so; want of memory is handed on.
+/// Tests whether a call is refused with this error. `Memory` is passed on.
 fn is_refused(answer: Result<()>, refusal: Refusal) -> Result<bool> {
     match (answer, refusal) {
         (Err(Error::Memory), _) => Err(Error::Memory),
@@ -28,9 +28,9 @@ fn is_refused(answer: Result<()>, refusal: Refusal) -> Result<bool> {
     }
 }
 
-/// The queue of a context whose last file is the second, then the queue of a batch, the number of its file, and of the
-/// file that it is replayed as: an older file, the other queue, and twice another file than the batch's own. And why it
-/// is refused.
+/// The queue of a context whose last file is the second; the queue of a batch, the number of its file, and that of the
+/// file as whose it is replayed: an older file, the other queue, and twice another file than the batch's own; and the
+/// reason why it is refused.
 const BATCHES: [(LogQueue, LogQueue, u64, u64, &str); 4] = [
     (
         LogQueue::Rewrite,
@@ -62,7 +62,8 @@ const BATCHES: [(LogQueue, LogQueue, u64, u64, &str); 4] = [
     ),
 ];
 
-/// Tests whether a batch, as it was read, is refused as `Corruption` for this reason, and the context has failed then.
+/// Tests whether a batch of the file `own`, replayed as one of the file `given`, is refused as `Corruption` for this
+/// reason, and the context has failed then.
 fn is_batch_refused(
     alloc: Global,
     first: LogQueue,
@@ -79,18 +80,17 @@ fn is_batch_refused(
     Ok(refused && again && failed)
 }
 
-/// What a context read of its queue.
+/// What a context has read of its queue.
 type Side = (LogQueue, &'static [Word]);
 
-/// Why contexts are refused that aren't of the queue that they have to be of.
+/// The error for a context that isn't of the right queue.
 const QUEUE: Refusal = Refusal::InvalidArgument("a context of the other queue");
 
-/// Why a newer neighbor is refused whose first file is older than the last one.
+/// The error for a newer neighbor whose first file is older than the last file of the context.
 const FILE: Refusal = Refusal::Corruption("the newer context begins in a file below the last one");
 
-/// Two contexts that are not merged for the rewrite queue, since one of them or both are of another, or since the newer
-/// one begins in an older file, or of which the second is not put over the first; whether they are merged, and why they
-/// are refused.
+/// Two contexts; whether the second is merged into the first, for the rewrite queue, or put over it; and the error. One
+/// of them, or both, are of the wrong queue, or the newer one begins in an older file.
 const OTHERS: [(Side, Side, bool, Refusal); 9] = [
     (
         (LogQueue::Append, &[Put]),
@@ -150,7 +150,8 @@ const OTHERS: [(Side, Side, bool, Refusal); 9] = [
     ),
 ];
 
-/// Tests whether a context doesn't take in another one so, for this reason, and has failed then.
+/// Tests whether a merge of two contexts, or the second put over the first, is refused with this error, and the first
+/// has failed then.
 fn is_other_refused(
     alloc: Global,
     older: Side,
@@ -168,7 +169,7 @@ fn is_other_refused(
     Ok(is_refused(answer, refusal)? && has_failed(alloc, context)?)
 }
 
-/// Tests whether a context refuses a batch, a newer neighbor and an append context as `Failed`.
+/// Tests whether a context refuses a batch, a newer neighbor and a context of the append queue as `Failed`.
 fn refuses_all(alloc: Global, context: &mut MemTableRecoverContext) -> Result<bool> {
     let answer = replay(alloc, context, LogQueue::Append, 1, &[Put]);
     let replayed = is_refused(answer, Refusal::Failed)?;
@@ -178,16 +179,16 @@ fn refuses_all(alloc: Global, context: &mut MemTableRecoverContext) -> Result<bo
     Ok(replayed && merged && is_refused(answer, Refusal::Failed)?)
 }
 
-/// Tests whether a context has failed: it refuses all, and neither tells what it holds nor hands out its tables.
+/// Tests whether a context has failed: all calls on it are refused, those for what it holds and for its tables too.
 fn has_failed(alloc: Global, mut context: MemTableRecoverContext) -> Result<bool> {
     let refuses = refuses_all(alloc, &mut context)?;
     let kept = matches!(context.kept(), Err(Error::Failed));
     Ok(refuses && kept && matches!(context.finish(), Err(Error::Failed)))
 }
 
-/// What two neighbors read of the append queue, of which a run of the newer one leaves a hole after the entries of the
-/// older one, and why they are not merged. Of the last newer one is known alone that its last run starts above its
-/// truncation.
+/// What two neighbors have read of the append queue, and the reason why they aren't merged: a run of the newer one
+/// leaves a hole behind the entries of the older one. Of the last newer one it is only known that its last run starts
+/// above its truncation.
 const HOLES: [(&[Word], &[Word], &str); 3] = [
     (
         &[Run(10, 20)],
@@ -206,7 +207,7 @@ const HOLES: [(&[Word], &[Word], &str); 3] = [
     ),
 ];
 
-/// Tests whether a context doesn't take in such a neighbor, for this reason, and has failed then.
+/// Tests whether the merge of such a neighbor is refused for this reason, and the context has failed then.
 fn is_hole_refused(
     alloc: Global,
     older: &[Word],
@@ -219,7 +220,8 @@ fn is_hole_refused(
     Ok(is_refused(answer, Refusal::Corruption(reason))? && has_failed(alloc, context)?)
 }
 
-/// Tests that what has taken in an append context takes in nothing more, and is taken in by none.
+/// Tests that a context over which one of the append queue was put takes no further context, and can't be put over
+/// another.
 fn overlaid_twice(alloc: Global) -> Result<bool> {
     let mut context = overlaid(alloc, &[Run(10, 20)], &[Put])?;
     let answer = context.merge_append_context(MemTableRecoverContext::new(alloc)?);
@@ -232,7 +234,7 @@ fn overlaid_twice(alloc: Global) -> Result<bool> {
     Ok(kept && again && replayed && merged)
 }
 
-/// What region 1 has where the append queue puts a key beside ten rewritten entries.
+/// What region 1 has once the append queue puts a key, and there are ten rewritten entries.
 const TAKEN: Shape = Shape {
     table: true,
     first: Some(10),
@@ -243,7 +245,8 @@ const TAKEN: Shape = Shape {
     ..NONE
 };
 
-/// Tests that what has taken in an append context still hands out its tables after a replay and a merge that it refused.
+/// Tests that a context over which one of the append queue was put still returns its tables, after a replay and a merge
+/// that it refused.
 fn overlaid_finishes(alloc: Global) -> Result<bool> {
     let mut context = overlaid(alloc, &[Run(10, 20)], &[Put])?;
     let answer = replay(alloc, &mut context, LogQueue::Rewrite, 1, &[Clean]);
@@ -254,7 +257,8 @@ fn overlaid_finishes(alloc: Global) -> Result<bool> {
     Ok(replayed && merged && shape_of(&tables) == TAKEN)
 }
 
-/// Tests that a context doesn't take in a newer one that has taken in an append context, and has failed then.
+/// Tests that a newer context over which one of the append queue was put can't be merged into another, which has failed
+/// then.
 fn overlaid_behind(alloc: Global) -> Result<bool> {
     let mut older = read(alloc, LogQueue::Rewrite, &[Put])?;
     let answer = older.merge(overlaid(alloc, &[Run(10, 20)], &[Put])?, LogQueue::Rewrite);
@@ -263,8 +267,7 @@ fn overlaid_behind(alloc: Global) -> Result<bool> {
     Ok(merged && failed)
 }
 
-/// Tests whether a context holds ten entries, those of the region beside and a key, and no item of the group that
-/// waited.
+/// Tests whether a context holds ten entries, those of region 2, and a key, and no item of the group that waited.
 fn has_kept(context: &MemTableRecoverContext) -> Result<bool> {
     let stays = Kept {
         entries: 13,

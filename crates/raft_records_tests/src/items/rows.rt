@@ -3,7 +3,7 @@
 
 use raft_records::{AtomicGroupStatus, OpType};
 
-/// What an item says of its region.
+/// What an item does to its region.
 #[derive(Clone, Copy)]
 pub(super) enum Content {
     Clean,
@@ -13,11 +13,11 @@ pub(super) enum Content {
     Put(&'static [u8], Option<&'static [u8]>),
     /// A key, and a value that isn't written.
     Delete(&'static [u8], Option<&'static [u8]>),
-    /// Entries, each with its index, and where it begins and how long it is in the entry bytes.
+    /// Entries, each with its index, and its offset and its length in the entry bytes.
     Entries(&'static [(u64, u32, u32)]),
 }
 
-/// A content, and its bytes; none where it isn't written.
+/// A content, and its bytes; none where it can't be written.
 pub(super) type ContentRow = (Content, &'static [u8]);
 
 /// The greatest index that an entry can have.
@@ -92,41 +92,43 @@ const LONG_PUT: &[u8] = b"\x01\x01k\x82\x01\
     \xff\xff\xff\xff\xff\xff\xff\xff\xff\xff\xff\xff\xff\xff\xff\xff\xff\xff\xff\xff\xff\xff\xff\xff\xff\xff\
     \xff\xff\xff\xff\xff\xff\xff\xff\xff\xff\xff\xff\xff\xff\xff\xff\xff\xff\xff\xff\xff\xff\xff\xff\xff\xff";
 
+/// Returns the rows of contents.
 pub(super) fn contents() -> &'static [ContentRow] {
     &CONTENTS
 }
 
-/// As what bytes are read.
+/// The form in which bytes are read.
 #[derive(Clone, Copy)]
 pub(super) enum Form {
-    /// As an item, before which no entry bytes are.
+    /// An item, before whose entries there are no entry bytes.
     Item,
-    /// As a content by itself, before which there is one entry byte.
+    /// A content without region and type, before whose entries there is one entry byte.
     Command,
     KeyValue,
     Entries,
 }
 
-/// What is read at the start of bytes.
+/// What comes of reading bytes from their start on.
 #[derive(Clone, Copy)]
 pub(super) enum Read {
-    /// What is written so again, after which so many entry bytes and so many bytes are.
+    /// An item, which is written as the same bytes: how many entry bytes come before those of the next item, and how
+    /// many bytes are left.
     Item(u32, usize),
-    /// A type that none is known of, in the words of the refusal.
+    /// An error that names an unknown type, with its text.
     Unrecognized(&'static str),
     Corruption,
-    /// A number that ends too early, or no type of a command or of a change of a key.
+    /// An error: a number ends too early, or there is no byte for the type of a command or of a change of a key.
     Codec,
-    /// A number that doesn't end.
+    /// An error: a number doesn't end.
     Endless,
-    /// No type of an item.
+    /// An error: there is no byte for the type of an item.
     Io,
 }
 
-/// As what bytes are read, the bytes, and what is read.
+/// The form in which bytes are read, the bytes, and what comes of it.
 pub(super) type ReadRow = (Form, &'static [u8], Read);
 
-/// A count and the lengths in some rows are of 2^63, and no bytes after them.
+/// In some rows a count or a length is 2^63, with no bytes behind it.
 static READINGS: [ReadRow; 83] = [
     (Form::Item, b"", Read::Codec),
     (Form::Item, b"\x01", Read::Io),
@@ -325,12 +327,13 @@ static READINGS: [ReadRow; 83] = [
     ),
 ];
 
+/// Returns the rows of bytes that are read or refused.
 pub(super) fn readings() -> &'static [ReadRow] {
     &READINGS
 }
 
-/// As what bytes are read, the bytes, and what each shorter front of them lacks, from the empty one on: `n` a number,
-/// `i` the type of an item, `t` that of a command or of a change of a key, `k` bytes of a key or a value.
+/// The form in which bytes are read, the bytes, and what each shorter prefix of them lacks, from the empty one on: `n`
+/// a number, `i` the type of an item, `t` the type of a command or of a change of a key, `k` bytes of a key or a value.
 pub(super) type FrontsRow = (Form, &'static [u8], &'static [u8]);
 
 static FRONTS: [FrontsRow; 14] = [
@@ -362,12 +365,13 @@ static FRONTS: [FrontsRow; 14] = [
     (Form::Entries, b"\x03\xac\x02\x01\x02\x03", b"nnnnnn"),
 ];
 
+/// Returns the rows of bytes whose shorter prefixes are refused.
 pub(super) fn fronts() -> &'static [FrontsRow] {
     &FRONTS
 }
 
-/// How an item of region 7 changes the group markers' key, its value, and as which group marker it is read, if it is
-/// one, or why it is refused.
+/// How an item of region 7 changes the group markers' key, the value, and the group marker that it is parsed as, if it
+/// is one, or the reason why it is refused.
 pub(super) type MarkerRow = (
     OpType,
     Option<&'static [u8]>,
@@ -412,6 +416,7 @@ static MARKERS: [MarkerRow; 11] = [
     ),
 ];
 
+/// Returns the rows of group markers.
 pub(super) fn markers() -> &'static [MarkerRow] {
     &MARKERS
 }

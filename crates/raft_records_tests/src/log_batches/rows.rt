@@ -1,16 +1,15 @@
-//! Batches as raft-engine 0.4.2 makes and reads them.
+//! Rows of batches, as raft-engine 0.4.2 makes and reads them.
 
-/// What is made of a batch, and read of it.
+/// The bytes that a batch has, and what is read from them.
 #[derive(Clone, Copy)]
 pub(super) struct Row {
     /// The approximate size of the open batch.
     pub(super) size: usize,
-    /// Its bytes up to the checksum.
+    /// Its bytes before the last checksum.
     pub(super) front: &'static [u8],
-    /// Its checksum in version 1, and in version 2 in the files 12, 13 and 2^64 - 1; nothing where
-    /// it has no bytes.
+    /// Its last checksum in version 1, and in version 2 in the files 12, 13 and 2^64 - 1; empty where it has no bytes.
     pub(super) seals: [&'static [u8]; 4],
-    /// Where its item batch begins.
+    /// The offset of its item batch.
     pub(super) offset: usize,
     /// Its entry bytes.
     pub(super) entry_bytes: &'static [u8],
@@ -18,11 +17,12 @@ pub(super) struct Row {
     pub(super) item_batch_size: usize,
 }
 
+/// Returns the rows of log batches.
 pub(super) fn rows() -> &'static [Row] {
     &ROWS
 }
 
-/// In the order of their batches.
+/// All rows, in the order of their numbers.
 static ROWS: [Row; 11] = [
     EMPTY,
     CLEAN,

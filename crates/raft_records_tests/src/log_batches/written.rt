@@ -1,4 +1,4 @@
-//! Batches that are signed for files and written, and the places of their items.
+//! Tests batches that are signed for files and written, and the places of their items.
 
 use super::{context, read_back, with_one_of_each};
 use raft_records::{
@@ -8,7 +8,8 @@ use raft_records::{
 use raft_trials::again;
 use std::alloc::Global;
 
-/// Tests whether the items of a log batch are read from its bytes in a file, after these entry bytes.
+/// Tests whether the items of a log batch with these entry bytes are read from its bytes, as a batch of append file
+/// `seq`.
 fn is_read(alloc: Global, bytes: &[u8], seq: u64, entry_bytes: &[u8]) -> Result<bool> {
     let Some((_offset, entries, items)) = read_back(alloc, bytes, &context(seq, Version::V2))?
     else {
@@ -21,7 +22,8 @@ fn is_read(alloc: Global, bytes: &[u8], seq: u64, entry_bytes: &[u8]) -> Result<
     }
 }
 
-/// Tests whether a batch that is signed for three files in turn is read each time in that file alone.
+/// Tests whether a batch that is signed for three files, one after the other, is read each time as one of that file
+/// alone.
 fn is_read_where_signed(alloc: Global) -> Result<bool> {
     let mut batch = with_one_of_each(alloc)?;
     batch.finish_populate()?;
@@ -43,7 +45,8 @@ fn one_batch_signed_for_three_files(rt: HostRuntime) {
     assert!(rt; matches!(again!(is_read_where_signed(rt.alloc())), Ok(true)));
 }
 
-/// Tests whether this item's entries have the place, and its key value is in the place's file.
+/// Tests whether an item has its place: each of its three entries, which are in the block at `handle`, or its key
+/// value, which is in the file of that block. A command has none.
 fn is_placed(item: &LogItem, handle: FileBlockHandle) -> bool {
     match &item.content {
         LogItemContent::EntryIndexes(entries) => {
@@ -65,18 +68,18 @@ fn is_placed(item: &LogItem, handle: FileBlockHandle) -> bool {
     }
 }
 
-/// What is left of a batch that was written in the file 12 at 64, once its items are handed out.
+/// What holds of a batch that was written to file 12 at offset 64, once its items were taken out.
 #[derive(Drop)]
 struct Drained {
-    /// How many of the items have their places there.
+    /// How many of the items have their places in that file.
     placed: usize,
     /// Whether the batch is open and empty.
     is_empty: bool,
-    /// How many bytes it has with a command.
+    /// How many bytes it has once a command is added.
     len_with_command: usize,
 }
 
-/// Writes a batch, and hands its items out.
+/// Writes a batch to file 12, and takes its items out.
 fn written_and_drained(alloc: Global) -> Result<Drained> {
     let mut batch = with_one_of_each(alloc)?;
     let len = batch.finish_populate()?;

@@ -1,4 +1,4 @@
-//! A machine that writes down what was replayed and merged.
+//! A machine that writes down what was replayed and merged, and tests of what it writes.
 
 use crate::machines::{from_right, pairs, segments};
 use crate::waits::WaitGate;
@@ -11,8 +11,8 @@ use std::sync::atomic::Ordering;
 use std::thread::Threads;
 use std::time::Clock;
 
-/// A dot for a new machine, a stroke for each batch, and brackets round what was merged. A batch in a file
-/// below the one before it is refused.
+/// A machine that is a text: a dot for a new machine, a stroke for each batch, and brackets around what was merged. It
+/// refuses a batch in a file below that of the batch before.
 #[derive(Drop)]
 pub(crate) struct Brackets {
     text: String,
@@ -65,7 +65,7 @@ impl Factory<Brackets> for Dots {
     }
 }
 
-/// Returns what is written down where two workers draw five segments.
+/// Returns the text of five segments that two workers draw as `draws` says, and a plan merges.
 fn scheduled(alloc: Global, draws: &[usize], plan: &Plan) -> Result<String> {
     let five = segments(alloc, 5)?;
     let queue = LogQueue::Append;
@@ -73,7 +73,7 @@ fn scheduled(alloc: Global, draws: &[usize], plan: &Plan) -> Result<String> {
     Ok(machine.text)
 }
 
-/// Returns what is written down where so many new machines are merged.
+/// Returns the text of `count` new machines that a plan merges.
 fn merged<R: Threads + Sync>(rt: &R, alloc: Global, count: usize, plan: &Plan) -> Result<String> {
     let mut machines = Vec::new(alloc);
     for _ in 0..count {
@@ -82,7 +82,7 @@ fn merged<R: Threads + Sync>(rt: &R, alloc: Global, count: usize, plan: &Plan) -
     Ok(merge_pieces(rt, machines, plan, LogQueue::Append)?.text)
 }
 
-/// Tests whether pieces are made as the draws say, and merged as both plans say.
+/// Tests whether pieces are made as draws say, and merged as each of two plans says.
 fn go_by_plan<R: Threads + Sync>(rt: &R, alloc: Global) -> Result<bool> {
     Ok(
         is_merged(rt, alloc, &pairs(alloc)?, "((././/)(././))", "((..)(..))")?
@@ -96,7 +96,8 @@ fn go_by_plan<R: Threads + Sync>(rt: &R, alloc: Global) -> Result<bool> {
     )
 }
 
-/// Tests whether this is written down of five segments that are drawn in turns, and that of four new machines.
+/// Tests whether a plan gives the text `drawn` for five segments that two workers draw, and `new` for four new
+/// machines.
 fn is_merged<R: Threads + Sync>(
     rt: &R,
     alloc: Global,
@@ -110,7 +111,8 @@ fn is_merged<R: Threads + Sync>(
     )
 }
 
-/// Tests whether worker 0 draws past the end of the draws, and no plan of four pieces merges another number of them.
+/// Tests whether worker 0 draws the segments behind the end of the draws, and a plan of four pieces doesn't merge
+/// another number of them.
 fn end_by_rule<R: Threads + Sync>(rt: &R, alloc: Global) -> Result<bool> {
     if scheduled(alloc, &[1], &from_right(alloc, 2)?)?.as_str() != "(././///)" {
         return Ok(false);
@@ -132,16 +134,16 @@ fn pieces_are_merged_as_the_plan_says(rt: HostRuntime) {
     assert!(rt; matches!(again!(end_by_rule(&rt, rt.alloc())), Ok(true)));
 }
 
-/// How many workers replay how many segments, how many of these from the first on wait until all are passed,
-/// and what is written down: a piece is the segments that one worker drew with none between them drawn by
-/// another, and pieces are merged by halves.
+/// How many workers replay how many segments, how many of these, from the first on, wait until all are passed, and the
+/// text. A piece is a row of segments that one worker drew; pieces are merged in halves.
 const WORKED: [(usize, u64, usize, &str); 3] = [
     (1, 5, 0, "./////"),
     (2, 5, 1, "(././///)"),
     (4, 4, 4, "((././)(././))"),
 ];
 
-/// Tests whether this is written down, and as many segments have waited.
+/// Tests whether workers who replay segments, of which `waiting` wait, give this text, and as many segments have
+/// waited.
 fn is_worked<R: Threads + Clock + Send + Sync + Copy + Drop>(
     rt: &R,
     alloc: Global,

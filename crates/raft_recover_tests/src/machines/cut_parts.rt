@@ -1,4 +1,4 @@
-//! Parts that are cut between batches.
+//! Tests parts that are cut between batches.
 
 use super::CLEAN;
 use raft_base::{FileId, LogQueue, Result, Version};
@@ -7,8 +7,8 @@ use raft_recover::cut_part;
 use raft_trials::again;
 use std::alloc::Global;
 
-/// How many batches of 24 bytes stand in a part, how many bytes that are no header after them, into how many
-/// parts it is to be cut, and how long those are that it is cut into.
+/// How many batches of 24 bytes a part has, how many bytes that are no header behind them, into how many parts it is to
+/// be cut, and the lengths of the parts that it is cut into.
 static CUTS: [(usize, usize, usize, &[usize]); 9] = [
     (0, 0, 4, &[0]),
     (4, 0, 0, &[96]),
@@ -21,6 +21,7 @@ static CUTS: [(usize, usize, usize, &[usize]); 9] = [
     (0, 96, 4, &[96]),
 ];
 
+/// Returns the rows of cuts.
 fn cuts() -> &'static [(usize, usize, usize, &'static [usize])] {
     &CUTS
 }
@@ -33,7 +34,7 @@ const FILE: FileId = FileId {
 
 const FIRST: u64 = 100;
 
-/// Returns so many batches, each of a region of its own, and so many bytes that are no header after them.
+/// Returns the bytes of `batches` batches, each of a region of its own, and `behind` bytes that are no header.
 fn bytes_of(alloc: Global, batches: usize, behind: usize) -> Result<Vec<u8>> {
     let mut bytes = Vec::new(alloc);
     for number in 0..batches {
@@ -47,7 +48,8 @@ fn bytes_of(alloc: Global, batches: usize, behind: usize) -> Result<Vec<u8>> {
     Ok(bytes)
 }
 
-/// Tests whether parts of a version, one behind the other from the first offset on, are so long and have all these bytes.
+/// Tests whether parts are of a version, have these lengths, follow one another from the first offset on, and have all
+/// these bytes.
 fn are_parts(parts: &[FilePart], version: Version, lengths: &[usize], bytes: &[u8]) -> bool {
     let mut at = 0usize;
     for (part, length) in parts.iter().zip(lengths) {
@@ -64,7 +66,7 @@ fn are_parts(parts: &[FilePart], version: Version, lengths: &[usize], bytes: &[u
     parts.len() == lengths.len() && at == bytes.len()
 }
 
-/// Tests whether a part of a version is cut so.
+/// Tests whether a part of a version is cut as a row says.
 fn is_cut(
     alloc: Global,
     version: Version,

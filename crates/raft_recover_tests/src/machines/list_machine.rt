@@ -14,14 +14,14 @@ pub(crate) struct Kept {
     pub(crate) file: FileId,
 }
 
-/// All batches, in order.
+/// A machine that keeps all batches, in order.
 #[derive(Drop)]
 pub(crate) struct List {
     pub(crate) kept: Vec<Kept>,
 }
 
 impl List {
-    /// Tests whether both have the same batches of the same files.
+    /// Tests whether two lists have the same batches in the same files.
     pub(crate) fn is_as(&self, other: &List) -> bool {
         let same = |(one, two): (&Kept, &Kept)| -> bool {
             one.batch == two.batch && one.file == two.file
@@ -53,7 +53,7 @@ impl ReplayMachine for List {
     }
 }
 
-/// Makes lists.
+/// Makes empty lists.
 pub(crate) struct Lists;
 
 impl Factory<List> for Lists {

@@ -1,4 +1,4 @@
-//! Many pieces: plans as long as lists, and a piece for each of a hundred workers.
+//! Tests many pieces: plans that are as deep as they have pieces, and a piece for each of a hundred workers.
 
 use super::list_machine::{List, Lists};
 use super::{has_all, join, segment, segments};
@@ -12,16 +12,16 @@ use std::sync::atomic::{AtomicU64, Ordering};
 use std::thread::{Builder, Threads};
 use std::time::Clock;
 
-/// So many pieces that a call for each of them would pass the stack below.
+/// How many pieces there are: nested calls for all of them would need more than the stack below.
 const PIECES: u64 = 100_000;
 
-/// Of so many pieces one has a batch.
+/// One in so many segments has a batch.
 const SPARSE: u64 = 10_000;
 
-/// The stack that they are merged on, 1 MB.
+/// The size of the stack on which they are merged: 1 MiB.
 const STACK: usize = 1 << 20;
 
-/// Returns a plan as long as a list, down the left side or the right.
+/// Returns a plan that nests its merges as deep as it has pieces, on the left side or on the right.
 fn list(alloc: Global, down_left: bool) -> Result<Plan> {
     let mut plan = Plan::One;
     for _ in 1..PIECES {
@@ -34,7 +34,7 @@ fn list(alloc: Global, down_left: bool) -> Result<Plan> {
     Ok(plan)
 }
 
-/// Returns segments of which few have a batch, in files with numbers from 0 on.
+/// Returns segments, few of which have a batch, in files numbered from 0 on.
 fn sparse(alloc: Global) -> Result<Vec<Segment>> {
     let mut segments = Vec::new(alloc);
     for n in 0..PIECES {
@@ -47,7 +47,7 @@ fn sparse(alloc: Global) -> Result<Vec<Segment>> {
     Ok(segments)
 }
 
-/// Returns a machine for each segment.
+/// Returns a machine for each segment, which has replayed it.
 fn machines(alloc: Global, segments: &[Segment]) -> Result<Vec<List>> {
     let mut machines = Vec::new(alloc);
     for segment in segments {
@@ -58,7 +58,7 @@ fn machines(alloc: Global, segments: &[Segment]) -> Result<Vec<List>> {
     Ok(machines)
 }
 
-/// Returns the draws of two workers who draw in turn.
+/// Returns the draws of two workers that draw in turns.
 fn draws(alloc: Global) -> Result<Vec<usize>> {
     let mut draws = Vec::new(alloc);
     for n in 0..PIECES {
@@ -67,7 +67,7 @@ fn draws(alloc: Global) -> Result<Vec<usize>> {
     Ok(draws)
 }
 
-/// Tests whether a machine for each segment is merged by the plan with all batches in order.
+/// Tests whether a plan merges the machines of all segments, with all batches in order.
 fn is_merged<R: Threads + Sync>(
     rt: &R,
     alloc: Global,
@@ -78,7 +78,7 @@ fn is_merged<R: Threads + Sync>(
     Ok(has_all(&list, PIECES / SPARSE))
 }
 
-/// Tests whether the segments, drawn in turn, are read with all batches in order.
+/// Tests whether the segments are read in a schedule of two workers that draw in turns, with all batches in order.
 fn is_scheduled(alloc: Global, segments: &[Segment], plan: &Plan) -> Result<bool> {
     let draws = draws(alloc)?;
     let queue = LogQueue::Append;
@@ -86,7 +86,7 @@ fn is_scheduled(alloc: Global, segments: &[Segment], plan: &Plan) -> Result<bool
     Ok(has_all(&list, PIECES / SPARSE))
 }
 
-/// Tests whether both are so by a plan as long as a list, which is counted, and let go of at the end.
+/// Tests both with a deep plan, whose pieces are counted, and which is dropped at the end.
 fn goes_down<R: Threads + Sync>(rt: &R, alloc: Global, down_left: bool) -> Result<bool> {
     let segments = sparse(alloc)?;
     let plan = list(alloc, down_left)?;
@@ -97,7 +97,7 @@ fn goes_down<R: Threads + Sync>(rt: &R, alloc: Global, down_left: bool) -> Resul
     )
 }
 
-/// Tests the same on a stack of 1 MB.
+/// Tests both with a deep plan on a thread with a stack of 1 MiB.
 fn goes_down_on_little<R: Threads + Send + Sync + Copy + Drop + 'static>(
     rt: R,
     alloc: Global,
@@ -117,7 +117,7 @@ fn plans_as_long_as_lists_take_little_stack(rt: HostRuntime) {
     }
 }
 
-/// Holds each worker up until so many segments were passed, and counts those that saw it.
+/// A gate that holds each worker back until so many segments were passed, and counts the workers that saw it.
 #[derive(Drop)]
 struct FullGate<R: Drop> {
     rt: R,
@@ -135,8 +135,8 @@ impl<R: Clock + Send + Sync + Drop> Gate for FullGate<R> {
     }
 }
 
-/// Tests whether a hundred workers, each of whom waits until all have drawn, make a hundred pieces with all batches in
-/// order.
+/// Tests whether a hundred workers, each of which waits until all have drawn, make a hundred pieces, with all batches
+/// in order.
 fn hundred<R: Threads + Clock + Send + Sync + Copy + Drop>(rt: &R, alloc: Global) -> Result<bool> {
     let hundred = segments(alloc, 100)?;
     let gate = FullGate {

@@ -1,4 +1,4 @@
-//! Refusals of a history, of an argument and of a factory, handed on as they are.
+//! Tests that errors of a machine, of an argument and of a factory are passed on as they are.
 
 use super::brackets::{Brackets, Dots};
 use super::{join, segment};
@@ -11,7 +11,7 @@ use std::sync::atomic::{AtomicU64, Ordering};
 use std::thread::Threads;
 use std::time::Clock;
 
-/// Makes so many machines, and refuses the next one.
+/// A factory that makes some machines, and refuses the next one.
 #[derive(Drop)]
 struct Few {
     given: u64,
@@ -33,7 +33,7 @@ impl Factory<Brackets> for Few {
     }
 }
 
-/// What is refused.
+/// Which error is expected.
 #[derive(Clone, Copy, PartialEq, Eq, Debug)]
 enum What {
     Machine,
@@ -41,14 +41,14 @@ enum What {
     Queue,
 }
 
-/// The second segment is of the rewrite queue.
+/// Files of segments, the second of which is of the rewrite queue.
 const MIXED: &[(LogQueue, u64)] = &[
     (LogQueue::Append, 0),
     (LogQueue::Rewrite, 1),
     (LogQueue::Append, 2),
 ];
 
-/// The last file is below the one before it.
+/// Files of segments, the last of which is below the one before it.
 const FALLING: &[(LogQueue, u64)] = &[
     (LogQueue::Append, 1),
     (LogQueue::Append, 2),
@@ -57,8 +57,8 @@ const FALLING: &[(LogQueue, u64)] = &[
 
 const TWO: &[(LogQueue, u64)] = &[(LogQueue::Append, 0), (LogQueue::Append, 1)];
 
-/// Whether a worker replays the segments, or a schedule of two pieces, the first of one segment; the segments'
-/// files, how many machines are given, and what is refused.
+/// Whether one worker replays the segments, or a schedule of two pieces, the first of one segment; the files of the
+/// segments; how many machines the factory makes; and the error.
 const REFUSALS: [(bool, &[(LogQueue, u64)], u64, What); 8] = [
     (false, TWO, 0, What::Machine),
     (false, TWO, 1, What::Machine),
@@ -70,7 +70,7 @@ const REFUSALS: [(bool, &[(LogQueue, u64)], u64, What); 8] = [
     (true, MIXED, 0, What::Queue),
 ];
 
-/// Lets one worker replay the segments, or two by a schedule.
+/// Has one worker replay the segments, or two in a schedule.
 fn replayed<R: Threads + Clock + Send + Sync + Drop>(
     rt: &R,
     alloc: Global,
@@ -87,7 +87,7 @@ fn replayed<R: Threads + Clock + Send + Sync + Drop>(
     replay_scheduled(alloc, few, segments, queue, 2, &[0, 1, 1], &two)
 }
 
-/// Returns what is refused, if it is, and whether no segment was passed and no machine asked for.
+/// Returns the error, if there is one, and whether no segment was passed and no machine was made.
 fn told<R: Threads + Clock + Send + Sync + Copy + Drop>(
     rt: &R,
     alloc: Global,
@@ -114,7 +114,7 @@ fn told<R: Threads + Clock + Send + Sync + Copy + Drop>(
     Ok((refused, untouched))
 }
 
-/// Tests that a part of another queue is refused before anything is done.
+/// Tests that each error is passed on as it is, and a part of another queue is refused before anything is done.
 #[test]
 fn refusals_are_handed_on(rt: HostRuntime) {
     for &(by_worker, files, given, what) in &REFUSALS {

@@ -1,6 +1,6 @@
-//! Batches of one or two items, as the digits of their bytes: `RUN_10_20` has the entries of indexes 10 to 19,
-//! `TRUNCATE_15` a truncation to 15, `PUT_K` a put of the key k, and so on. They are of region 1, but for those that
-//! end in `OF_5` and those of group 9, which are of region 5.
+//! Batches of one or two items, as their bytes in base 16: `RUN_10_20` has the entries 10 to 19, `TRUNCATE_15`
+//! truncates to 15, `PUT_K` puts the key k, and so on. They are of region 1; those whose names end in `OF_5`, and those
+//! of group 9, are of region 5.
 
 pub(super) const RUN_0_1: &str = "0000000000001f000000000000000015788316dc8c01010101000172668789";
 

@@ -1,4 +1,4 @@
-//! Recoveries of both queues in one call.
+//! Tests recoveries of both queues in one call.
 
 use raft_base::{
     CompressionType, EntryIndex, Error, FileId, LogFileContext, LogQueue, Result, Version,
@@ -11,24 +11,24 @@ use raft_trials::again;
 use std::alloc::Global;
 use std::thread::Threads;
 
-/// What is written to a queue.
+/// A record that is written to a queue.
 #[derive(Clone, Copy)]
 pub(super) enum Record {
-    /// Entries of region 1 from an index to below another, a batch each.
+    /// Entries of region 1 from an index on and below another, in a batch each.
     Run(u64, u64),
     /// A value of a key of region 1.
     Put,
-    /// The same key is deleted.
+    /// A deletion of that key.
     Delete,
-    /// Region 1 is compacted at an index.
+    /// A compaction of region 1 up to an index.
     Compact(u64),
-    /// A region is cleaned.
+    /// A clean of a region.
     Clean(u64),
 }
 
 use Record::{Clean, Compact, Delete, Put, Run};
 
-/// What is written to both queues, and the lines of what both give together.
+/// What is written to both queues, and the lines that both give together.
 struct Row {
     rewritten: &'static [Record],
     appended: &'static [Record],
@@ -72,7 +72,7 @@ static ROWS: [Row; 6] = [
     },
 ];
 
-/// Returns a batch of one entry of region 1 with so many bytes.
+/// Returns a batch with an entry of region 1 of `len` bytes.
 fn entry(alloc: Global, index: u64, len: usize) -> Result<LogBatch> {
     let entry = EntryIndex {
         index,
@@ -92,7 +92,7 @@ fn entry(alloc: Global, index: u64, len: usize) -> Result<LogBatch> {
     Ok(batch)
 }
 
-/// Returns a batch of a record of region 1 that isn't a run, or of a cleaned region.
+/// Returns the batch of a record that isn't a run.
 fn change(alloc: Global, record: Record) -> Result<LogBatch> {
     let mut batch = LogBatch::default(alloc);
     match record {
@@ -109,7 +109,7 @@ fn change(alloc: Global, record: Record) -> Result<LogBatch> {
     Ok(batch)
 }
 
-/// Puts a batch after the bytes of the file.
+/// Appends the bytes of a batch, signed for a file.
 fn append_batch(file: FileId, mut batch: LogBatch, bytes: &mut Vec<u8>) -> Result<()> {
     if !batch.is_open() {
         return Err(Error::Failed);
@@ -120,7 +120,7 @@ fn append_batch(file: FileId, mut batch: LogBatch, bytes: &mut Vec<u8>) -> Resul
     Ok(())
 }
 
-/// Puts the batches of a record after the bytes of the file. Entries have so many bytes.
+/// Appends the batches of a record to the bytes of a file. Each entry has `len` bytes.
 fn append_record(
     alloc: Global,
     file: FileId,
@@ -139,7 +139,7 @@ fn append_record(
     }
 }
 
-/// Returns the bytes of the file with the batches of the records, whose entries have so many bytes.
+/// Returns the bytes of a file with the batches of records. Each entry has `len` bytes.
 pub(super) fn file_bytes(
     alloc: Global,
     file: FileId,
@@ -153,7 +153,7 @@ pub(super) fn file_bytes(
     Ok(bytes)
 }
 
-/// Returns one file of the queue with the batches of the records, whose entries have so many bytes.
+/// Returns a segment with the first file of a queue, which has the batches of records. Each entry has `len` bytes.
 fn segments_of(
     alloc: Global,
     queue: LogQueue,
@@ -167,7 +167,7 @@ fn segments_of(
     Ok(vec![in alloc; segment]?)
 }
 
-/// Tests whether a row's files, whose entries have so many bytes, give what the row says.
+/// Tests whether the files of a row, whose entries have `len` bytes each, give the lines of the row.
 fn holds<R: Threads + Sync>(
     rt: &R,
     alloc: Global,
@@ -181,11 +181,12 @@ fn holds<R: Threads + Sync>(
     Ok(recovered_text(alloc, &tables)?.as_str() == row.lines)
 }
 
+/// Returns the rows of files of both queues.
 fn rows() -> &'static [Row] {
     &ROWS
 }
 
-/// Tests short entries, and entries with which a queue has a MiB and more, so that several workers read it.
+/// Tests short entries, and ones so long that a queue has a MiB or more, and several workers read it.
 #[test]
 fn both_queues_have_their_tables(rt: HostRuntime) {
     for row in rows() {

@@ -1,4 +1,4 @@
-//! What a context of some batches may hold, told from the list of the batches.
+//! Computes what a context of some batches may hold, from the list of these batches.
 
 use AtomicGroupStatus::{Begin, End};
 use raft_base::{FileId, LogQueue, Result};
@@ -9,7 +9,7 @@ use raft_records::{
 };
 use std::alloc::Global;
 
-/// By which a batch belongs to a group.
+/// A group marker: the group of a batch, and its place in it.
 #[derive(Clone, Copy, Debug)]
 struct Marker {
     group: u64,
@@ -37,7 +37,7 @@ fn marker_of(alloc: Global, batch: &LogItemBatch, queue: LogQueue) -> Result<Opt
     Ok(None)
 }
 
-/// Tests whether an item is of the group markers' key.
+/// Tests whether an item changes the group markers' key.
 fn is_skipped(item: &LogItem) -> bool {
     match &item.content {
         LogItemContent::Kv(kv) => is_reserved(kv.key.as_slice()),
@@ -46,6 +46,7 @@ fn is_skipped(item: &LogItem) -> bool {
 }
 
 impl Written {
+    /// Returns a batch as it was written to a file, with its group marker.
     pub(crate) fn new(alloc: Global, batch: LogItemBatch, file: FileId) -> Result<Written> {
         let marker = marker_of(alloc, &batch, file.queue)?;
         Ok(Written {
@@ -55,6 +56,7 @@ impl Written {
         })
     }
 
+    /// Returns the group that the batch belongs to; `None` where it has no group marker.
     fn group(&self) -> Option<u64> {
         match self.marker {
             Some(marker) => Some(marker.group),
@@ -62,7 +64,7 @@ impl Written {
         }
     }
 
-    /// Returns its status in a group, if it belongs to it.
+    /// Returns the batch's status in a group; `None` where it doesn't belong to it.
     fn status_in(&self, group: u64) -> Option<AtomicGroupStatus> {
         match self.marker {
             Some(marker) if marker.group == group => Some(marker.status),
@@ -70,7 +72,7 @@ impl Written {
         }
     }
 
-    /// Returns how many items it has, without group markers.
+    /// Returns how many items the batch has, without group markers.
     fn len(&self) -> u128 {
         let mut count = 0u128;
         for item in self.batch.iter() {
@@ -96,8 +98,8 @@ struct Key<'a> {
     key: &'a [u8],
 }
 
-/// What one reading of batches has, in plain lists: the entries and keys that stand, the keys that were
-/// deleted since their region's last `Clean`, the regions that were named, and how many were cleaned.
+/// The result of one reading of batches, in plain lists: the entries and keys that there are, the keys that were
+/// deleted since the last `Clean` of their region, the regions that were named, and how many were cleaned.
 #[derive(Drop)]
 struct Reading<'a> {
     entries: Vec<Entry>,
@@ -108,8 +110,8 @@ struct Reading<'a> {
 }
 
 impl<'a> Reading<'a> {
-    /// Returns the reading of batches in order. Where a run leaves a hole it is that of the rewrite queue: the append
-    /// queue refuses the run.
+    /// Returns the result of reading batches in order. A run that leaves a hole is read as in the rewrite queue, where
+    /// it replaces all entries; the append queue refuses it.
     fn of(alloc: Global, batches: &'a [Written]) -> Result<Reading<'a>> {
         let mut reading = Reading {
             entries: Vec::new(alloc),
@@ -124,7 +126,7 @@ impl<'a> Reading<'a> {
         Ok(reading)
     }
 
-    /// Takes in what takes effect at the last of the batches.
+    /// Applies what takes effect with the last of the batches.
     fn take_effect(&mut self, batches: &'a [Written]) -> Result<()> {
         let (Some(last), Some(first)) = (batches.last(), effect_of(batches)) else {
             return Ok(());
@@ -137,6 +139,7 @@ impl<'a> Reading<'a> {
         Ok(())
     }
 
+    /// Applies the items of a batch, but for group markers.
     fn take_items(&mut self, batch: &'a LogItemBatch) -> Result<()> {
         for item in batch.iter() {
             if !is_skipped(item) {
@@ -146,6 +149,7 @@ impl<'a> Reading<'a> {
         Ok(())
     }
 
+    /// Applies an item.
     fn take(&mut self, item: &'a LogItem) -> Result<()> {
         let region = item.raft_group_id;
         if !self.regions.contains(&region) {
@@ -169,16 +173,19 @@ impl<'a> Reading<'a> {
         }
     }
 
+    /// Removes the region's entries below an index.
     fn compact(&mut self, region: u64, index: u64) {
         self.entries
             .retain(|e| e.region != region || e.index >= index);
     }
 
+    /// Removes the region's entries from an index on.
     fn truncate(&mut self, region: u64, index: u64) {
         self.entries
             .retain(|e| e.region != region || e.index < index);
     }
 
+    /// Removes the region's entries and keys, and counts the cleaning.
     fn clean(&mut self, region: u64) {
         self.entries.retain(|e| e.region != region);
         self.keys.retain(|k| k.region != region);
@@ -197,7 +204,7 @@ impl<'a> Reading<'a> {
         hole
     }
 
-    /// Puts a run in place of the region's entries from its start on, and of all that a hole parts from it.
+    /// Puts a run in place of the region's entries from its start on, or of all, if it leaves a hole behind them.
     fn put_run(&mut self, region: u64, run: &[EntryIndex]) -> Result<()> {
         let Some(first) = run.first() else {
             return Ok(());
@@ -215,6 +222,7 @@ impl<'a> Reading<'a> {
         Ok(())
     }
 
+    /// Puts a key, or removes it and notes that it is deleted.
     fn take_pair(&mut self, region: u64, kv: &'a KeyValue) -> Result<()> {
         let key = Key {
             region,
@@ -231,7 +239,7 @@ impl<'a> Reading<'a> {
     }
 }
 
-/// Returns where the batches begin that take effect at the last one, if they do.
+/// Returns the position of the first batch that takes effect with the last one; `None` where nothing takes effect.
 fn effect_of(batches: &[Written]) -> Option<usize> {
     let (last, before) = batches.split_last()?;
     match last.marker {
@@ -241,7 +249,7 @@ fn effect_of(batches: &[Written]) -> Option<usize> {
     }
 }
 
-/// Returns where the stretch of a group begins that is open after the batches, if one is.
+/// Returns the position at which a group begins that is still open after the batches; `None` where it isn't open.
 fn begin_of(batches: &[Written], group: u64) -> Option<usize> {
     let mut at = batches.len();
     for written in batches.iter().rev() {
@@ -255,8 +263,8 @@ fn begin_of(batches: &[Written], group: u64) -> Option<usize> {
     None
 }
 
-/// Returns how many items of a group stand before its first `Begin`, up to its first `End`; none if a `Begin`
-/// comes before an `End`.
+/// Returns how many items of a group come before its first `End`, that one included, or in all batches, if there is
+/// none; 0 if a `Begin` comes before.
 fn front(batches: &[Written], group: u64) -> u128 {
     let mut count = 0u128;
     for written in batches {
@@ -274,7 +282,7 @@ fn front(batches: &[Written], group: u64) -> u128 {
     count
 }
 
-/// Returns how many items the stretch of a group has that is open after the batches.
+/// Returns how many items a group has that is still open after the batches; 0 where it isn't open.
 fn open(batches: &[Written], group: u64) -> u128 {
     let Some(first) = begin_of(batches, group) else {
         return 0;
@@ -288,7 +296,7 @@ fn open(batches: &[Written], group: u64) -> u128 {
     count
 }
 
-/// Returns the groups that have a group marker.
+/// Returns the groups that have a group marker, each once.
 fn groups_of(alloc: Global, batches: &[Written]) -> Result<Vec<u64>> {
     let mut groups = Vec::new(alloc);
     for written in batches {
@@ -320,7 +328,7 @@ pub(crate) fn bound_of(alloc: Global, batches: &[Written]) -> Result<Kept> {
     })
 }
 
-/// Tests whether a context holds the entries and key values of one reading, and otherwise no more than it may.
+/// Tests whether a context holds just the entries and key values that it should, and of all else no more than it may.
 pub(crate) fn is_within(kept: Kept, bound: Kept) -> bool {
     kept.entries == bound.entries
         && kept.keys == bound.keys

@@ -1,4 +1,4 @@
-//! Contexts that refused a batch or a neighbor: they serve no further call.
+//! Tests contexts that refused a batch or a neighbor: they take no further call.
 
 use super::batches::{RUN_10_20, RUN_20_25, RUN_35_40, RUN_40_45, TRUNCATE_20};
 use super::histories::Batch;
@@ -9,7 +9,7 @@ use raft_records::LogItemBatch;
 use raft_trials::again;
 use std::alloc::Global;
 
-/// How a call is refused, if it is.
+/// The error with which a call is refused.
 #[derive(Clone, Copy, PartialEq, Eq)]
 enum Refusal {
     Corruption,
@@ -17,7 +17,7 @@ enum Refusal {
     Other,
 }
 
-/// Returns what comes of a call, if it isn't refused for want of memory.
+/// Returns with which error a call was refused, if it was. `Memory` is passed on.
 fn refusal_of(called: Result<()>) -> Result<Option<Refusal>> {
     match called {
         Ok(()) => Ok(None),
@@ -28,7 +28,7 @@ fn refusal_of(called: Result<()>) -> Result<Option<Refusal>> {
     }
 }
 
-/// Returns how the replay of an empty batch of a file is refused.
+/// Returns with which error the replay of an empty batch of a file is refused, if it is.
 fn replay(
     alloc: Global,
     context: &mut MemTableRecoverContext,
@@ -38,7 +38,7 @@ fn replay(
     refusal_of(context.replay(LogItemBatch::default(alloc), file))
 }
 
-/// Tests whether a context's merge with another, and its taking in of another, are refused as `Failed`.
+/// Tests whether a context refuses, as `Failed`, the merge of a newer one, and an append context put over it.
 fn are_merges_failed(alloc: Global, context: &mut MemTableRecoverContext) -> Result<bool> {
     let merged = context.merge(MemTableRecoverContext::new(alloc)?, LogQueue::Append);
     let overlaid = context.merge_append_context(MemTableRecoverContext::new(alloc)?);
@@ -48,7 +48,8 @@ fn are_merges_failed(alloc: Global, context: &mut MemTableRecoverContext) -> Res
     )
 }
 
-/// Tests whether a batch of a later file, merges, what it holds and its tables are refused as `Failed`.
+/// Tests whether all calls on a context are refused as `Failed`: a batch of a later file, merges, those for what it
+/// holds and for its tables.
 fn serves_no_call(alloc: Global, mut context: MemTableRecoverContext) -> Result<bool> {
     let replayed = replay(alloc, &mut context, 6)?;
     let failed = are_merges_failed(alloc, &mut context)?;
@@ -81,10 +82,11 @@ fn refused_contexts_stay_failed(rt: HostRuntime) {
     assert!(rt; matches!(again!(refused_batch_stays_failed(rt.alloc())), Ok(true)));
 }
 
-/// A run of region 1, and one that leaves a hole after it.
+/// A run of region 1, and one that leaves a hole behind it.
 const WITH_A_HOLE: [Batch; 2] = [(1, RUN_10_20), (2, RUN_40_45)];
 
-/// Returns the context of a history's first batch, if it refuses that of the second.
+/// Merges the context of a history's second batch into that of the first. Returns the first one's context if the merge
+/// is refused as damage.
 fn with_refused_neighbor(history: &History) -> Result<Option<MemTableRecoverContext>> {
     let mut context = history.replayed(0, 1)?.context;
     let newer = history.replayed(1, 2)?.context;
@@ -103,8 +105,8 @@ fn refused_neighbor_stays_failed(alloc: Global, history: &History) -> Result<boo
     serves_no_call(alloc, context)
 }
 
-/// Tests whether a context that refused its neighbor is itself refused as `Failed`: as a neighbor, or where it is taken
-/// in.
+/// Tests whether a context that refused its neighbor is itself refused as `Failed`: as a newer neighbor, or, with
+/// `is_taken_in`, when it is to be put over another.
 fn is_no_neighbor(alloc: Global, history: &History, is_taken_in: bool) -> Result<bool> {
     let Some(failed) = with_refused_neighbor(history)? else {
         return Ok(false);
@@ -118,7 +120,7 @@ fn is_no_neighbor(alloc: Global, history: &History, is_taken_in: bool) -> Result
     Ok(refusal_of(refused)? == Some(Refusal::Failed))
 }
 
-/// Tests whether both are so.
+/// Tests whether such a context is refused in both ways.
 fn refused_neighbor_is_of_no_use(alloc: Global) -> Result<bool> {
     let history = History::read(alloc, LogQueue::Append, &WITH_A_HOLE)?;
     Ok(
@@ -133,8 +135,8 @@ fn refused_merges_stay_failed(rt: HostRuntime) {
     assert!(rt; matches!(again!(refused_neighbor_is_of_no_use(rt.alloc())), Ok(true)));
 }
 
-/// A batch of an older context and those of a newer one, whose runs leave a hole together, and what is said of it. No
-/// batch is named: a context doesn't remember where its runs stood.
+/// A batch of an older context and those of a newer one, whose runs leave a hole together; and the text of the error.
+/// It names no batch: a context doesn't remember where its runs came from.
 static HOLES: [(&[Batch], &str); 2] = [
     (
         &WITH_A_HOLE,
@@ -152,7 +154,8 @@ static HOLES: [(&[Batch], &str); 2] = [
     ),
 ];
 
-/// Returns what is said where the context of the first batch refuses that of the others; nothing where it doesn't.
+/// Returns the text with which the context of the first batch refuses that of the others; an empty text where it
+/// doesn't.
 fn told_by_merge(alloc: Global, batches: &[Batch]) -> Result<String> {
     let history = History::read(alloc, LogQueue::Append, batches)?;
     let mut context = history.replayed(0, 1)?.context;

@@ -46,13 +46,13 @@ const EIGHTH: Batch = (
     "0000000000002800000000000000001678780f18e1f80201010208010203030101780176cd383ca0",
 );
 
-/// Batches of the append queue: runs of region 1 and its compaction, region 2, which is cleaned and comes again, and a
+/// Batches of the append queue: runs and a compaction of region 1; region 2, which is cleaned and written again; and a
 /// key of region 3.
 pub(crate) const APPENDED: [Batch; 8] = [
     FIRST, SECOND, THIRD, FOURTH, FIFTH, SIXTH, SEVENTH, EIGHTH,
 ];
 
-/// The same with a truncation of region 1 to 9 behind them.
+/// These batches, and a truncation of region 1 to 9 behind them.
 const TRUNCATED: [Batch; 9] = [
     FIRST,
     SECOND,
@@ -65,7 +65,7 @@ const TRUNCATED: [Batch; 9] = [
     (5, "000000000000190000000000000000100101020309c1868b12"),
 ];
 
-/// The same with a run that leaves a hole behind them.
+/// These batches, and behind them a run that leaves a hole.
 pub(crate) const WITH_A_HOLE: [Batch; 9] = [
     FIRST,
     SECOND,
@@ -81,7 +81,7 @@ pub(crate) const WITH_A_HOLE: [Batch; 9] = [
     ),
 ];
 
-/// Batches of the rewrite queue: a group over two others, of other regions, and one that is left open.
+/// Batches of the rewrite queue: a group around two others, of other regions, and a group that doesn't end.
 pub(crate) const REWRITTEN: [Batch; 8] = [
     (1, RUN_1_10_OF_5),
     (2, GROUP_BEGIN_1_4),
@@ -105,6 +105,7 @@ pub(crate) const REWRITTEN: [Batch; 8] = [
     ),
 ];
 
+/// Returns the rows of histories.
 pub(crate) fn histories() -> &'static [Row] {
     &ROWS
 }

@@ -1,4 +1,4 @@
-//! What contexts hold: those of rows at every cutting, however they are merged, and some others.
+//! Tests what contexts hold: those of rows at each cutting, however they are merged, and some others.
 
 use super::batches::{PUT_K, RUN_10_20};
 use super::bound::is_within;
@@ -12,8 +12,8 @@ use raft_memtable::{Kept, MemTableRecoverContext};
 use raft_trials::again;
 use std::alloc::Global;
 
-/// Tests whether all contexts on the way of a row's batches hold no more than their own batches let them, and the merged
-/// ones have what it owes; where nothing is owed, whether the batches can't be read or are refused at each cutting.
+/// Tests at each cutting whether no context of a row's batches holds more than its batches allow, and the merged ones
+/// give what the row expects; or, where it expects a refusal, whether the batches can't be read or are refused.
 fn row_holds_little(alloc: Global, row: &Row) -> Result<bool> {
     match History::read(alloc, row.queue, row.batches) {
         Ok(history) => history.at_each_cutting(row),
@@ -40,7 +40,8 @@ fn merged_contexts_before_one_more_batch_hold_little(rt: HostRuntime) {
     }
 }
 
-/// Batches that an older context replays and a newer one, how often each, and what the newer one and both merged hold.
+/// The batches that an older and a newer context replay, how often each; and what the newer one, and both merged, may
+/// hold.
 struct Counted {
     queue: LogQueue,
     older: &'static [Batch],
@@ -65,7 +66,7 @@ const ONE_KEY: Kept = Kept {
     ..NOTHING
 };
 
-/// At most: the key that is put again may count as deleted.
+/// What the newer context holds at most: the key that is put again may count as deleted.
 const TWO_DELETED: Kept = Kept {
     deleted_keys: 2,
     ..ONE_KEY
@@ -77,13 +78,13 @@ const TWO_WAIT: Kept = Kept {
     ..NOTHING
 };
 
-/// Two keys of region 1 are deleted, and one of them is put again.
+/// A batch that deletes two keys of region 1, and puts one of them again.
 const DELETE_K_AND_J_PUT_J: Batch = (
     1,
     "0000000000002600000000000000001003010302016b010302016a010301016a01769696a0ef",
 );
 
-/// The end of a group with two keys.
+/// A batch that ends a group, and has two keys.
 const END_WITH_TWO: Batch = (
     1,
     "0000000000002c00000000000000001003090301035f5f010102050301016b0176050301016a0176ecd19e14",
@@ -127,11 +128,12 @@ static COUNTED: [Counted; 4] = [
     },
 ];
 
+/// Returns the rows of counted contexts.
 fn counted_rows() -> &'static [Counted] {
     &COUNTED
 }
 
-/// Returns the context that replayed batches so often.
+/// Returns a context that has replayed batches so often.
 fn replayed_often(
     alloc: Global,
     queue: LogQueue,
@@ -148,13 +150,13 @@ fn replayed_often(
     Ok(context)
 }
 
-/// Tests whether a context holds no more than this, and just its region marks.
+/// Tests whether a context holds no more than `bound`, and exactly as many marks.
 fn holds_within(context: &MemTableRecoverContext, bound: Kept) -> Result<bool> {
     let kept = context.kept()?;
     Ok(kept.marks == bound.marks && is_within(kept, bound))
 }
 
-/// Tests whether a row's newer context holds no more than the row says, also once the older one is merged with it.
+/// Tests whether the newer context of a row, and then both merged, hold no more than the row says.
 fn holds_no_more(alloc: Global, row: &Counted) -> Result<bool> {
     let newer = replayed_often(alloc, row.queue, row.newer, row.times)?;
     let alone = holds_within(&newer, row.alone)?;

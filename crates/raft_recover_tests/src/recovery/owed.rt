@@ -1,38 +1,38 @@
-//! Batches, and what is owed for them: the lines of their tables, where entries lie, the values of keys, the files of
-//! groups, and how many items may wait.
+//! Batches, and what recovery has to give for them: the lines of their tables, the places of entries, the values of
+//! keys, the files of groups, and how many items may wait.
 
 use raft_base::{EntryIndex, FileBlockHandle, FileId, FileSeq, LogQueue, Result};
 use raft_memtable::MemTableAccessor;
 use raft_recover::recovered::recovered_text;
 use std::alloc::Global;
 
-/// An entry of one byte: its region and index, the number of its file, where its block begins there and how long that
-/// is, and where it begins in the block.
+/// The place of an entry of one byte: its region and its index, the number of its file, the offset and the length of
+/// its block, and its offset within the block.
 pub(crate) type Place = (u64, u64, FileSeq, u64, usize, u32);
 
-/// A region, a key, and its value, if the region has the key.
+/// A region, a key, and its value; `None` where the region must not have the key.
 pub(crate) type Pair = (u64, &'static [u8], Option<&'static [u8]>);
 
-/// A region, and the first and the last file of its last group, if it has one.
+/// A region, and the first and the last file of its last atomic group, if it has one.
 pub(crate) type Group = (u64, Option<(FileSeq, FileSeq)>);
 
-/// Batches of a queue, each with the number of its file and its bytes in base 16, as version 1 has them. Those with the
-/// same number are of one file.
+/// Batches of a queue, and what recovery has to give for them. A batch is the number of its file, and its bytes in
+/// version 1, in base 16. Batches with the same number are in one file.
 #[derive(Clone, Copy)]
 pub(crate) struct Row {
     pub(crate) queue: LogQueue,
     pub(crate) batches: &'static [(FileSeq, &'static str)],
-    /// The lines of their tables; none where they are refused as `Corruption`.
+    /// The lines of their tables; `None` where they have to be refused as `Corruption`.
     pub(crate) lines: Option<&'static str>,
-    /// Where some entries lie, or all.
+    /// The places of some entries, or of all.
     pub(crate) places: &'static [Place],
     pub(crate) pairs: &'static [Pair],
     pub(crate) groups: &'static [Group],
-    /// How many items of groups wait behind the last batch, at most.
+    /// How many items of groups may wait at most after the last batch.
     pub(crate) waiting: u128,
 }
 
-/// What a row of the append queue is where it says nothing else.
+/// A row of the append queue, from which others take what they don't set themselves.
 pub(crate) const APPEND: Row = Row {
     queue: LogQueue::Append,
     batches: &[],
@@ -43,14 +43,14 @@ pub(crate) const APPEND: Row = Row {
     waiting: 0,
 };
 
-/// The same of the rewrite queue.
+/// A row of the rewrite queue, from which others take what they don't set themselves.
 pub(crate) const REWRITE: Row = Row {
     queue: LogQueue::Rewrite,
     ..APPEND
 };
 
 impl Row {
-    /// Tests whether tables have what is owed. Where the batches are to be refused, none have.
+    /// Tests whether tables have what the row expects: never, if it expects a refusal.
     pub(crate) fn is_met(&self, alloc: Global, tables: &MemTableAccessor) -> Result<bool> {
         let Some(lines) = self.lines else {
             return Ok(false);
@@ -59,7 +59,7 @@ impl Row {
         Ok(text.as_str() == lines && self.are_kept(tables))
     }
 
-    /// Tests whether tables have these places, values and groups.
+    /// Tests whether tables have the places, values and groups of the row.
     fn are_kept(&self, tables: &MemTableAccessor) -> bool {
         let queue = self.queue;
         self.places
@@ -70,7 +70,7 @@ impl Row {
     }
 }
 
-/// Tests whether an entry lies there, in a file of the queue.
+/// Tests whether an entry is at its place, in a file of a queue.
 fn is_placed(tables: &MemTableAccessor, queue: LogQueue, place: &Place) -> bool {
     let (region, index, seq, offset, len, entry_offset) = *place;
     let entry = EntryIndex {
@@ -90,7 +90,7 @@ fn is_placed(tables: &MemTableAccessor, queue: LogQueue, place: &Place) -> bool 
     }
 }
 
-/// Tests whether a region's key has this value, or the region doesn't have the key.
+/// Tests whether a region's key has its value, or, without a value, isn't there.
 fn has_pair(tables: &MemTableAccessor, pair: &Pair) -> bool {
     let (region, key, value) = *pair;
     match tables.get(region) {
@@ -99,7 +99,7 @@ fn has_pair(tables: &MemTableAccessor, pair: &Pair) -> bool {
     }
 }
 
-/// Tests whether a region's last group has these files.
+/// Tests whether the last group of a region has its files.
 fn has_group(tables: &MemTableAccessor, group: &Group) -> bool {
     let (region, files) = *group;
     match tables.get(region) {

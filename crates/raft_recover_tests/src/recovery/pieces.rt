@@ -17,7 +17,7 @@ pub(crate) struct History {
     pub(crate) batches: Vec<Written>,
 }
 
-/// A context of the batches from one to below another.
+/// A context that has read the batches from one on and below another.
 #[derive(Drop)]
 pub(crate) struct Piece {
     pub(crate) context: MemTableRecoverContext,
@@ -25,7 +25,7 @@ pub(crate) struct Piece {
     end: usize,
 }
 
-/// In which order pieces are merged.
+/// The order in which pieces are merged.
 #[derive(Clone, Copy, Debug)]
 enum Order {
     FromLeft,
@@ -36,8 +36,7 @@ enum Order {
 const ORDERS: [Order; 3] = [Order::FromLeft, Order::FromRight, Order::ByHalves];
 
 impl History {
-    /// Returns the batches of files of version 1, which digits in base 16 spell: those with the same number are parts of
-    /// one file.
+    /// Returns the batches of files of version 1, given in base 16. Batches with the same number are parts of one file.
     pub(crate) fn read(alloc: Global, queue: LogQueue, batches: &[Batch]) -> Result<History> {
         let mut history = History {
             alloc,
@@ -58,6 +57,7 @@ impl History {
         Ok(history)
     }
 
+    /// Adds the batches of a file to the history.
     fn push_file(&mut self, part: &FilePart) -> Result<()> {
         let mut at = 0;
         for _ in 0..part.bytes().len() {
@@ -74,7 +74,7 @@ impl History {
         Ok(())
     }
 
-    /// Refuses a piece whose context holds more than it may, as `Failed`.
+    /// Checks that the context of a piece holds no more than it may; `Failed` where it does.
     fn check(&self, piece: &Piece) -> Result<()> {
         let Some(batches) = self.batches.get(piece.first..piece.end) else {
             return Err(Error::Failed);
@@ -86,7 +86,7 @@ impl History {
         }
     }
 
-    /// Replays the batches from one to below another, with a look at the context after each.
+    /// Replays the batches from `first` on and below `end`, and checks the context after each.
     pub(crate) fn replayed(&self, first: usize, end: usize) -> Result<Piece> {
         let mut piece = Piece {
             context: MemTableRecoverContext::new(self.alloc)?,
@@ -101,7 +101,7 @@ impl History {
         Ok(piece)
     }
 
-    /// Returns the pieces of the history that is cut after the batches whose bits are set.
+    /// Returns the pieces of the history, which is cut behind each batch whose bit in `cuts` is set.
     fn pieces(&self, cuts: u64) -> Result<Vec<Piece>> {
         let count = self.batches.len();
         let (mut pieces, mut first, mut left) = (Vec::new(self.alloc), 0, cuts);
@@ -116,7 +116,7 @@ impl History {
         Ok(pieces)
     }
 
-    /// Merges a piece with its newer neighbor, with a look at the context.
+    /// Merges a piece with its newer neighbor, and checks the context.
     fn merged(&self, older: Piece, newer: Piece) -> Result<Piece> {
         let mut piece = older;
         piece.end = newer.end;
@@ -125,6 +125,7 @@ impl History {
         Ok(piece)
     }
 
+    /// Merges pieces one by one, from the first on; `None` where there is none.
     fn from_left(&self, pieces: Vec<Piece>) -> Result<Option<Piece>> {
         let mut whole: Option<Piece> = None;
         for piece in pieces {
@@ -136,6 +137,7 @@ impl History {
         Ok(whole)
     }
 
+    /// Merges pieces one by one, from the last on; `None` where there is none.
     fn from_right(&self, pieces: Vec<Piece>) -> Result<Option<Piece>> {
         let mut whole: Option<Piece> = None;
         for piece in pieces.into_iter().rev() {
@@ -168,7 +170,7 @@ impl History {
         }
     }
 
-    /// Merges at most sixteen pieces by halves.
+    /// Merges at most sixteen pieces in halves, and returns what they give, if that is a single piece.
     fn by_halves(&self, pieces: Vec<Piece>) -> Result<Option<Piece>> {
         let mut pieces = pieces;
         for _ in 0..4 {
@@ -177,7 +179,8 @@ impl History {
         self.from_left(pieces)
     }
 
-    /// Tests whether a piece is the whole history of a row and has what it owes, and no more items that wait.
+    /// Tests whether a piece has the whole history of a row, gives what the row expects, and has no more items that
+    /// wait.
     fn has(&self, whole: Option<Piece>, row: &Row) -> Result<bool> {
         let Some(whole) = whole else {
             return Ok(false);
@@ -190,7 +193,8 @@ impl History {
         Ok(row.is_met(self.alloc, &tables)? && kept.waiting_items <= row.waiting)
     }
 
-    /// Returns the history, cut after the batches whose bits are set and merged in this order.
+    /// Returns the whole history as one piece: cut behind each batch whose bit in `cuts` is set, and merged in an
+    /// order.
     fn whole(&self, cuts: u64, order: Order) -> Result<Option<Piece>> {
         let pieces = self.pieces(cuts)?;
         match order {
@@ -200,7 +204,8 @@ impl History {
         }
     }
 
-    /// Tests whether the history of a row, cut and merged so, has what it owes; where nothing is, whether it is refused.
+    /// Tests whether the history of a row, cut and merged in this way, gives what the row expects, or is refused, if it
+    /// expects that.
     fn holds(&self, cuts: u64, order: Order, row: &Row) -> Result<bool> {
         match self.whole(cuts, order) {
             Ok(whole) => self.has(whole, row),
@@ -209,7 +214,8 @@ impl History {
         }
     }
 
-    /// Tests whether the history of a row has what it owes, or is refused, at each cutting, merged in each order.
+    /// Tests whether the history of a row gives what the row expects, or is refused, at each cutting, merged in each
+    /// order.
     pub(crate) fn at_each_cutting(&self, row: &Row) -> Result<bool> {
         for cuts in 0..cuttings(self.batches.len()) {
             for &order in &ORDERS {
@@ -222,10 +228,12 @@ impl History {
     }
 }
 
+/// Replays a copy of a batch.
 pub(crate) fn replay(context: &mut MemTableRecoverContext, written: &Written) -> Result<()> {
     context.replay(written.batch.clone()?, written.file)
 }
 
+/// Merges a context with its newer neighbor.
 pub(crate) fn merge(
     older: &mut MemTableRecoverContext,
     newer: MemTableRecoverContext,

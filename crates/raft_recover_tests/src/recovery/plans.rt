@@ -1,4 +1,4 @@
-//! Contexts of segments that workers draw by a schedule, merged as plans say.
+//! Tests contexts of segments that workers draw in given schedules, merged as plans say.
 
 use super::histories::{histories, truncated, with_a_hole};
 use super::owed::Row;
@@ -13,7 +13,7 @@ use raft_trials::again;
 use std::alloc::Global;
 use std::thread::Threads;
 
-/// In which order pieces are merged.
+/// The order in which pieces are merged.
 #[derive(Clone, Copy)]
 enum Order {
     FromLeft,
@@ -23,13 +23,13 @@ enum Order {
 
 use Order::{ByHalves, FromLeft, FromRight};
 
-/// Who of two workers draws each of up to nine segments.
+/// Which of two workers draws each of up to nine segments.
 type Draws = [usize; 9];
 
-/// Each segment is a piece.
+/// Draws with which each segment is a piece.
 const ALONE: Draws = [0, 1, 0, 1, 0, 1, 0, 1, 0];
 
-/// Pieces of one segment and of two take turns.
+/// Draws with which pieces of one segment and of two alternate.
 const IN_PAIRS: Draws = [0, 1, 1, 0, 1, 1, 0, 1, 1];
 
 static SCHEDULES: [(Draws, Order); 5] = [
@@ -40,11 +40,12 @@ static SCHEDULES: [(Draws, Order); 5] = [
     (IN_PAIRS, ByHalves),
 ];
 
+/// Returns the rows of schedules.
 fn schedules() -> &'static [(Draws, Order)] {
     &SCHEDULES
 }
 
-/// Returns the plan that merges so many pieces.
+/// Returns the plan that merges so many pieces in an order.
 fn plan_of(alloc: Global, pieces: usize, order: Order) -> Result<Plan> {
     match order {
         FromLeft => from_left(alloc, pieces),
@@ -53,6 +54,7 @@ fn plan_of(alloc: Global, pieces: usize, order: Order) -> Result<Plan> {
     }
 }
 
+/// Returns the plan that merges so many pieces one by one, from the first on.
 fn from_left(alloc: Global, pieces: usize) -> Result<Plan> {
     let mut plan = Plan::One;
     for _ in 1..pieces {
@@ -61,7 +63,7 @@ fn from_left(alloc: Global, pieces: usize) -> Result<Plan> {
     Ok(plan)
 }
 
-/// Returns the context of a row's segments, which two workers draw so, and which are merged in this order.
+/// Returns the context of a row's segments, which two workers draw as `draws` says, and which are merged in an order.
 fn scheduled(
     alloc: Global,
     row: &Row,
@@ -74,14 +76,14 @@ fn scheduled(
     replay_scheduled(alloc, &factory, segments, row.queue, 2, draws, &plan)
 }
 
-/// Tests whether a context has what a row owes, and no more items that wait.
+/// Tests whether a context gives what a row expects, and has no more items that wait.
 fn has(alloc: Global, row: &Row, context: MemTableRecoverContext) -> Result<bool> {
     let kept = context.kept()?;
     let tables = context.finish()?;
     Ok(row.is_met(alloc, &tables)? && kept.waiting_items <= row.waiting)
 }
 
-/// Tests whether a row's segments have what it owes, or are refused, by each schedule.
+/// Tests whether the segments of a row give what it expects, or are refused, in each schedule.
 fn by_each_schedule(alloc: Global, row: &Row, segments: &[Segment]) -> Result<bool> {
     for (draws, order) in schedules() {
         let held = match scheduled(alloc, row, segments, draws, *order) {
@@ -96,7 +98,7 @@ fn by_each_schedule(alloc: Global, row: &Row, segments: &[Segment]) -> Result<bo
     Ok(true)
 }
 
-/// Tests whether a row's batches have what it owes, or are refused, at each cutting.
+/// Tests whether the batches of a row give what it expects, or are refused, at each cutting.
 fn at_each_cutting(alloc: Global, row: &Row) -> Result<bool> {
     for cuts in 0..cuttings(row.batches.len()) {
         let segments = cut(alloc, row.queue, Version::V1, row.batches, cuts)?;
@@ -107,8 +109,8 @@ fn at_each_cutting(alloc: Global, row: &Row) -> Result<bool> {
     Ok(true)
 }
 
-/// Returns a row's batches, a segment each, and one segment more, which has no parts: in front of this batch, or behind
-/// them all.
+/// Returns the batches of a row as a segment each, and one more segment, which has no parts: before the batch at
+/// position `number`, or behind all.
 fn with_nothing(alloc: Global, row: &Row, number: usize) -> Result<Vec<Segment>> {
     let mut segments = cut(alloc, row.queue, Version::V1, row.batches, u64::MAX)?;
     if let Some(nothing) = segments.pop() {
@@ -117,7 +119,7 @@ fn with_nothing(alloc: Global, row: &Row, number: usize) -> Result<Vec<Segment>>
     Ok(segments)
 }
 
-/// Tests whether no segment without parts shows, wherever it is among those of a row.
+/// Tests whether a segment without parts changes nothing, wherever it is among those of a row.
 fn nothing_shows(alloc: Global, row: &Row) -> Result<bool> {
     for number in 0..=row.batches.len() {
         let segments = with_nothing(alloc, row, number)?;
@@ -133,7 +135,7 @@ fn plans_pass_segments_without_parts(rt: HostRuntime) {
     assert!(rt; matches!(again!(nothing_shows(rt.alloc(), &FIVE_OWED)), Ok(true)));
 }
 
-/// Tests whether none shows to so many workers.
+/// Tests whether a segment without parts changes nothing with so many workers.
 fn nothing_shows_to<R: Threads + Sync>(
     rt: &R,
     alloc: Global,

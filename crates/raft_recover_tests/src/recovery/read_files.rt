@@ -1,4 +1,4 @@
-//! Recoveries of files that workers read in pieces.
+//! Tests recoveries of files that workers read in pieces.
 
 use super::both::{Record, file_bytes};
 use Record::{Compact, Run};
@@ -15,7 +15,7 @@ use std::rt::Files;
 use std::thread::Threads;
 use std::{fs, io};
 
-/// Files of the append queue that are held in memory.
+/// Files of the append queue in memory, each as its number and its bytes.
 #[derive(Drop)]
 struct HeldFiles(Vec<(FileSeq, Vec<u8>)>);
 
@@ -27,7 +27,7 @@ impl ReadFiles for HeldFiles {
 }
 
 impl HeldFiles {
-    /// Returns so many bytes of a file, from an offset on; fewer where the file ends before.
+    /// Returns `len` bytes of a file from an offset on; fewer where the file ends before.
     fn part(&self, seq: FileSeq, offset: u64, len: usize) -> &[u8] {
         for (held, bytes) in &self.0 {
             if *held == seq {
@@ -48,28 +48,31 @@ impl HeldFiles {
     }
 }
 
+/// Returns `len` bytes from an offset on; fewer where the bytes end before.
 fn part_of(bytes: &[u8], offset: u64, len: usize) -> &[u8] {
     let start = offset.min(bytes.len() as u64) as usize;
     let end = start.saturating_add(len).min(bytes.len());
     bytes.get(start..end).unwrap_or(&[])
 }
 
-/// How many bytes an entry has.
+/// The length of an entry, in bytes.
 const ENTRY_LEN: usize = 1 << 18;
 
-/// What the files have: the first one has 8.25 MiB of entries, which are read in three pieces.
+/// The files, each as its number and its records. The first one has 8.25 MiB of entries, which are read in three
+/// pieces.
 static FILES: [(FileSeq, &[Record]); 3] = [
     (1, &[Run(10, 43)]),
     (2, &[Run(43, 44)]),
     (3, &[Compact(20), Run(44, 45)]),
 ];
 
-/// The lines of what these files give.
+/// The lines that these files give.
 const LINES: &str = "1 entries 20..45 keys 0 append 1 rewrite -\ncleaned -\nlive 25 0\n";
 
-/// Where the last piece of the first file begins, behind two of 4 MiB.
+/// The place at which the last piece of the first file begins, behind two of 4 MiB, as errors name it.
 const LAST_PIECE: &str = "append file 1, offset 8388608: ";
 
+/// Returns files with the batches of `FILES`.
 fn made(alloc: Global) -> Result<HeldFiles> {
     let mut files = Vec::new(alloc);
     for &(seq, records) in &FILES {
@@ -79,7 +82,7 @@ fn made(alloc: Global) -> Result<HeldFiles> {
     Ok(HeldFiles(files))
 }
 
-/// Recovers the tables of files of these sizes, which three workers read.
+/// Recovers the tables of files with these numbers and lengths, which three workers read.
 fn tables_of<R: Threads + Sync>(
     rt: &R,
     alloc: Global,
@@ -89,26 +92,27 @@ fn tables_of<R: Threads + Sync>(
     recover_files(rt, alloc, files, sizes, LogQueue::Append, Version::V2, 3)
 }
 
+/// Tests whether tables are printed as the lines.
 fn have_lines(alloc: Global, tables: &MemTableAccessor) -> Result<bool> {
     Ok(recovered_text(alloc, tables)?.as_str() == LINES)
 }
 
-/// Tests whether files that are read give the lines.
+/// Tests whether files that are read in pieces give the lines.
 fn files_give_lines<R: Threads + Sync>(rt: &R, alloc: Global, files: &HeldFiles) -> Result<bool> {
     let sizes = files.sizes(alloc)?;
     let tables = tables_of(rt, alloc, files, sizes.as_slice())?;
     have_lines(alloc, &tables)
 }
 
-/// Tests whether `recover` makes the lines of the bytes of the files.
+/// Tests whether `recover` gives the lines for the bytes of the files.
 fn bytes_give_lines<R: Threads + Sync>(rt: &R, alloc: Global, files: HeldFiles) -> Result<bool> {
     let segments = file_segments(LogQueue::Append, Version::V2, files.0)?;
     let tables = recover(rt, alloc, segments.as_slice(), LogQueue::Append, 3)?;
     have_lines(alloc, &tables)
 }
 
-/// Tests whether files are refused of which the first one is said to have one byte more than it has: the read of its last
-/// piece gives fewer bytes than it is asked for.
+/// Tests whether files are refused if the first one is said to have one byte more than it has: the read of its last
+/// piece returns fewer bytes than are wanted.
 fn shorter_file_is_refused<R: Threads + Sync>(
     rt: &R,
     alloc: Global,
@@ -121,7 +125,7 @@ fn shorter_file_is_refused<R: Threads + Sync>(
     stops_at_last_piece(alloc, tables_of(rt, alloc, files, sizes.as_slice()))
 }
 
-/// Tests whether a read is refused with its place. Another refusal is handed on.
+/// Tests whether a recovery is refused with the place of the last piece. Other errors are passed on.
 fn stops_at_last_piece(alloc: Global, read: Result<MemTableAccessor>) -> Result<bool> {
     match read {
         Ok(_tables) => Ok(false),
@@ -133,12 +137,12 @@ fn stops_at_last_piece(alloc: Global, read: Result<MemTableAccessor>) -> Result<
     }
 }
 
-/// Returns the path at which a file is written.
+/// Returns the path of a file.
 fn path_of(alloc: Global, seq: FileSeq) -> Result<String> {
     Ok(format!(in alloc; "in_pieces.{seq}.log")?)
 }
 
-/// Writes the files, and returns the words that ask for their tables.
+/// Writes the files, and returns the arguments that have the program recover them.
 fn words_for<S: Files + AllocGlobal>(rt: &S, files: &HeldFiles) -> Result<Vec<String>> {
     let alloc = rt.alloc();
     let mut words = Vec::new(alloc);
@@ -153,6 +157,7 @@ fn words_for<S: Files + AllocGlobal>(rt: &S, files: &HeldFiles) -> Result<Vec<St
     Ok(words)
 }
 
+/// Removes the files from the disk.
 fn remove<S: Files + AllocGlobal>(rt: &S, files: &HeldFiles) -> Result<()> {
     for (seq, _) in &files.0 {
         fs::remove_file(rt, path_of(rt.alloc(), *seq)?.as_str())?;
@@ -160,8 +165,7 @@ fn remove<S: Files + AllocGlobal>(rt: &S, files: &HeldFiles) -> Result<()> {
     Ok(())
 }
 
-/// Tests whether the program prints the lines of files on a disk. A run that is refused counts as one that found no
-/// memory.
+/// Tests whether the program prints the lines of files on a disk. A run that is refused counts as `Memory`.
 fn program_prints_lines<S: SharedFiles + Files + AllocGlobal + Threads + Sync>(
     rt: &S,
     files: &HeldFiles,
@@ -178,7 +182,8 @@ fn program_prints_lines<S: SharedFiles + Files + AllocGlobal + Threads + Sync>(
     Ok(out.as_slice() == LINES.as_bytes())
 }
 
-/// Tests whether a read at an offset gives what the file has there: fewer bytes where it ends, and nothing behind its end.
+/// Tests whether a read at an offset returns what the file has there: fewer bytes where it ends, and none behind its
+/// end.
 fn reads_are_at_offsets<S: SharedFiles + Files + AllocGlobal>(rt: &S) -> Result<bool> {
     let mut bytes = Vec::new(rt.alloc());
     fs::write(rt, "at_offsets.log", b"0123456789".as_slice())?;
@@ -196,6 +201,7 @@ fn reads_are_at_offsets<S: SharedFiles + Files + AllocGlobal>(rt: &S) -> Result<
     )
 }
 
+/// Tests all ways of reading the files.
 fn all_hold<S: SharedFiles + Files + AllocGlobal + Threads + Sync>(rt: &S) -> Result<bool> {
     let alloc = rt.alloc();
     let files = made(alloc)?;

@@ -1,4 +1,4 @@
-//! Texts of refusals: where reading stopped, and why.
+//! Tests the texts of errors: where reading stopped, and why.
 
 use crate::recovery::histories::{APPENDED, WITH_A_HOLE};
 use crate::recovery::{cut, cuttings, whole_files};
@@ -11,7 +11,7 @@ use raft_trials::again;
 use std::alloc::Global;
 use std::thread::Threads;
 
-/// What is said of a batch that lacks its last byte, of each of the appended ones.
+/// The text for each of the appended batches, if it lacks its last byte.
 static CUT_SHORT: [&str; 8] = [
     "append file 1, offset 0: a log batch of 44 bytes is cut short",
     "append file 1, offset 44: a log batch of 37 bytes is cut short",
@@ -23,15 +23,15 @@ static CUT_SHORT: [&str; 8] = [
     "append file 5, offset 0: a log batch of 40 bytes is cut short",
 ];
 
-/// What is said of the hole after the appended batches.
+/// The text for the hole behind the appended batches.
 const PLACED_HOLE: &str =
     "append file 5, offset 40: region 1: a run from index 12 on leaves a hole behind the entries, which end before index 10";
 
 /// A batch of 24 bytes with `Clean`.
 const CLEAN: &str = "00000000000018000000000000000010010102015a800bdd";
 
-/// Batches whose checksum is right, but whose items end too early or name a region by no number, and what is said of
-/// them behind one of 24 bytes.
+/// Batches with a right checksum, whose items end too early, or begin with no number for a region; and the text for
+/// each behind a batch of 24 bytes.
 static SPELLINGS: [(&str, &str); 3] = [
     (
         "0000000000001700000000000000001001010248e39609",
@@ -47,6 +47,7 @@ static SPELLINGS: [(&str, &str); 3] = [
     ),
 ];
 
+/// Returns the rows of batches that are refused.
 fn spellings() -> &'static [(&'static str, &'static str)] {
     &SPELLINGS
 }
@@ -56,13 +57,13 @@ fn spellings() -> &'static [(&'static str, &'static str)] {
 enum Call {
     Recover,
     RecoverSegments,
-    /// With no segments of the other queue.
+    /// Recovers both queues, the other one without segments.
     RecoverBoth,
 }
 
 use Call::{Recover, RecoverBoth, RecoverSegments};
 
-/// Returns what a call returns that reads segments as those of a queue by so many workers.
+/// Makes a call that reads segments as those of a queue with so many workers, and returns its result.
 fn tables_of<R: Threads + Sync>(
     rt: &R,
     alloc: Global,
@@ -79,8 +80,8 @@ fn tables_of<R: Threads + Sync>(
     }
 }
 
-/// Returns what is said where a call refuses segments as corruption or as an argument, read as those of this queue by so
-/// many workers; nothing where they are read.
+/// Returns the text with which a call refuses segments, as `Corruption` or as `InvalidArgument`, read as those of a
+/// queue with so many workers; an empty text where they are read.
 fn told<R: Threads + Sync>(
     rt: &R,
     alloc: Global,
@@ -97,7 +98,7 @@ fn told<R: Threads + Sync>(
     }
 }
 
-/// Returns what is told of batches of the append queue, each a part of its own.
+/// Returns the text with which batches of the append queue are refused, each as a part of its own.
 fn refusal<R: Threads + Sync>(
     rt: &R,
     alloc: Global,
@@ -111,7 +112,7 @@ fn refusal<R: Threads + Sync>(
     told(rt, alloc, call, segments.as_slice(), queue, workers)
 }
 
-/// Returns what is told of the files of batches of the append queue, each a part of all its batches.
+/// Returns the text with which the files of batches of the append queue are refused, each as a part of all its batches.
 fn file_refusal<R: Threads + Sync>(
     rt: &R,
     alloc: Global,
@@ -131,7 +132,7 @@ fn file_refusal<R: Threads + Sync>(
     )
 }
 
-/// Returns the appended batches, of which this one lacks its last byte.
+/// Returns the appended batches, of which the one at position `number` lacks its last byte.
 fn cut_short(alloc: Global, number: usize) -> Result<Vec<(FileSeq, &'static str)>> {
     let mut batches = Vec::from_slice(alloc, APPENDED.as_slice())?;
     if let Some((_, digits)) = batches.get_mut(number) {
@@ -140,11 +141,13 @@ fn cut_short(alloc: Global, number: usize) -> Result<Vec<(FileSeq, &'static str)
     Ok(batches)
 }
 
+/// Returns the text for each appended batch that is cut short.
 fn cut_short_texts() -> &'static [&'static str] {
     &CUT_SHORT
 }
 
-/// Tests whether the place of a batch that is cut short is told, in one segment and in one for each batch.
+/// Tests whether a batch that is cut short is refused with this text, which has its place: in one segment, and in a
+/// segment for each batch.
 fn is_told<R: Threads + Sync>(rt: &R, alloc: Global, number: usize, text: &str) -> Result<bool> {
     let batches = cut_short(alloc, number)?;
     let batches = batches.as_slice();
@@ -169,7 +172,7 @@ fn refusals_name_file_and_offset(rt: HostRuntime) {
     }
 }
 
-/// Returns the place in front of a text.
+/// Returns the place at the start of a text.
 fn place_in(text: &str) -> &str {
     match text.split_once(": ") {
         Some((place, _)) => place,
@@ -177,7 +180,7 @@ fn place_in(text: &str) -> &str {
     }
 }
 
-/// Tests whether the place of a batch that is cut short is told where its file is one part.
+/// Tests whether the error for a batch that is cut short names its place, also where its file is a single part.
 fn is_place_told<R: Threads + Sync>(
     rt: &R,
     alloc: Global,
@@ -202,7 +205,8 @@ fn refusals_in_files_name_the_batch(rt: HostRuntime) {
     }
 }
 
-/// Tests whether a hole is told in one wording at every seventh cutting, by one to four workers, and in whole files.
+/// Tests whether a hole is refused with the same text at each seventh cutting, with one to four workers, and in whole
+/// files.
 fn is_hole_told<R: Threads + Sync>(rt: &R, alloc: Global) -> Result<bool> {
     let batches = WITH_A_HOLE.as_slice();
     for seventh in 0..cuttings(batches.len()) / 7 {
@@ -231,7 +235,7 @@ fn holes_are_told_in_one_wording(rt: HostRuntime) {
     assert!(rt; matches!(again!(is_hole_told(&rt, rt.alloc())), Ok(true)));
 }
 
-/// Tests whether a call says this of so many workers on a queue; nothing where it takes them.
+/// Tests whether a call refuses so many workers on a queue with this text, or takes them, if it is empty.
 fn is_argument_told<R: Threads + Sync>(
     rt: &R,
     alloc: Global,
@@ -277,7 +281,7 @@ const REWRITE_PARTS: Queues = [
     &[LogQueue::Rewrite],
 ];
 
-/// One part is of the rewrite queue.
+/// Queues of parts, of which one is the rewrite queue.
 const MIXED_PARTS: Queues = [
     &[LogQueue::Append],
     &[LogQueue::Append, LogQueue::Rewrite],
@@ -286,7 +290,7 @@ const MIXED_PARTS: Queues = [
 
 const OTHER_QUEUE: &str = "a part of another queue";
 
-/// The queues of parts, that which they are read as, and what is said; nothing where they are read.
+/// The queues of parts, the queue that they are read as, and the text of the error; an empty text where they are read.
 static MIXTURES: [(Queues, LogQueue, &str); 6] = [
     (APPEND_PARTS, LogQueue::Append, ""),
     (MIXED_PARTS, LogQueue::Append, OTHER_QUEUE),
@@ -296,11 +300,12 @@ static MIXTURES: [(Queues, LogQueue, &str); 6] = [
     (APPEND_PARTS, LogQueue::Rewrite, OTHER_QUEUE),
 ];
 
+/// Returns the rows of segments with parts of several queues.
 fn mixtures() -> &'static [(Queues, LogQueue, &'static str)] {
     &MIXTURES
 }
 
-/// Returns segments of parts without bytes, which are of these queues.
+/// Returns segments of parts without bytes, of these queues.
 fn empty_segments(alloc: Global, queues: &Queues) -> Result<Vec<Segment>> {
     let mut segments = Vec::new(alloc);
     for &parts in queues {
@@ -309,6 +314,7 @@ fn empty_segments(alloc: Global, queues: &Queues) -> Result<Vec<Segment>> {
     Ok(segments)
 }
 
+/// Returns a segment of parts without bytes, one of each of these queues.
 fn empty_segment(alloc: Global, queues: &[LogQueue]) -> Result<Segment> {
     let mut segment = Vec::new(alloc);
     for &queue in queues {
@@ -318,7 +324,7 @@ fn empty_segment(alloc: Global, queues: &[LogQueue]) -> Result<Segment> {
     Ok(segment)
 }
 
-/// Tests whether each call says this of such segments, read as those of a queue by two workers.
+/// Tests whether each call refuses such segments with the text of a row, read as those of a queue with two workers.
 fn is_mixture_told<R: Threads + Sync>(
     rt: &R,
     alloc: Global,
@@ -343,7 +349,8 @@ fn parts_of_another_queue_are_told(rt: HostRuntime) {
     }
 }
 
-/// Tests whether a call says this of a batch behind another, each a part of its own and both one.
+/// Tests whether a call refuses a batch behind another one with this text: each as a part of its own, and both as one
+/// part.
 fn is_spelling_told<R: Threads + Sync>(
     rt: &R,
     alloc: Global,

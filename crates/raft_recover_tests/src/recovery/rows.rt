@@ -13,10 +13,11 @@ const RUN_4_6: &str = "0000000000002100000000000000001678780f18e1f80101010204010
 
 const PUT_K_OF_2: &str = "0000000000001c00000000000000001001020301016b01762c33a0d9";
 
-/// Two runs of region 1, a compaction in the third file that drops the first run's front, and a key of region 2.
+/// Two runs of region 1, a compaction in the third file that drops the first entries of the first run, and a key of
+/// region 2.
 pub(crate) const FIVE: [Batch; 4] = [(1, RUN_1_4), (2, RUN_4_6), (3, COMPACT_3), (4, PUT_K_OF_2)];
 
-/// What is owed for them, the same with an empty segment among them.
+/// What recovery has to give for these batches, also with an empty segment among them.
 pub(crate) const FIVE_OWED: Row = Row {
     batches: &FIVE,
     lines: Some(
@@ -36,6 +37,7 @@ live 4 0
     ..APPEND
 };
 
+/// Returns the rows of batches.
 pub(crate) fn rows() -> &'static [Row] {
     &ROWS
 }

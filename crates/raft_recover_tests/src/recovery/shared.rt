@@ -1,4 +1,4 @@
-//! Recovered tables that threads share.
+//! Tests recovered tables that threads share.
 
 use super::histories::histories;
 use super::rows::FIVE_OWED;
@@ -12,7 +12,7 @@ use std::alloc::Global;
 use std::sync::Wait;
 use std::thread::Threads;
 
-/// A table's region, its first and last index, how many keys it has, and its least file in both queues.
+/// What a table has: its region, its first and last index, how many keys, and its oldest file in each queue.
 type Shape = (
     u64,
     (Option<u64>, Option<u64>),
@@ -20,7 +20,7 @@ type Shape = (
     (Option<FileSeq>, Option<FileSeq>),
 );
 
-/// What shared tables of a history show.
+/// What the shared tables of a history have.
 struct Row {
     tables: &'static [Shape],
     cleaned: &'static [u64],
@@ -37,8 +37,8 @@ static FIVE: Row = Row {
     live: (4, 0),
 };
 
-/// Of the appended history, in which region 2 was cleaned and has a table again; of the rewritten one; and of one with a
-/// truncation.
+/// Rows of the appended history, in which region 2 was cleaned and has a table again; of the rewritten one; and of one
+/// with a truncation.
 static HISTORIES: [Row; 3] = [
     Row {
         tables: &[
@@ -64,10 +64,12 @@ static HISTORIES: [Row; 3] = [
     },
 ];
 
+/// Returns the rows of histories.
 fn history_rows() -> &'static [Row] {
     &HISTORIES
 }
 
+/// Returns what the tests compare of a table.
 fn shape(table: &MemTable) -> Shape {
     (
         table.region_id(),
@@ -80,11 +82,12 @@ fn shape(table: &MemTable) -> Shape {
     )
 }
 
+/// Returns the shape of a shared table; `None` where the region has none.
 fn shape_of<R: Wait>(rt: &R, shared: &SharedAccessor, region: u64) -> Option<Shape> {
     shared.with_table(rt, region, shape)
 }
 
-/// Returns the shared tables by region.
+/// Returns what the shared tables have, by region.
 fn shapes<R: Wait>(rt: &R, alloc: Global, shared: &SharedAccessor) -> Result<Vec<Shape>> {
     let mut shapes = Vec::new(alloc);
     for region in shared.collect(rt, |_: &MemTable| true)? {
@@ -96,13 +99,14 @@ fn shapes<R: Wait>(rt: &R, alloc: Global, shared: &SharedAccessor) -> Result<Vec
     Ok(shapes)
 }
 
+/// Takes the cleaned regions, as a batch.
 fn cleaned_logs<R: Wait>(rt: &R, alloc: Global, shared: &SharedAccessor) -> Result<LogBatch> {
     let mut logs = LogBatch::default(alloc);
     shared.take_cleaned_region_logs(rt, &mut logs)?;
     Ok(logs)
 }
 
-/// Returns the regions that were cleaned. They are taken.
+/// Takes the cleaned regions, and returns them.
 fn cleaned<R: Wait>(rt: &R, alloc: Global, shared: &SharedAccessor) -> Result<Vec<u64>> {
     let mut logs = cleaned_logs(rt, alloc, shared)?;
     let mut regions = Vec::new(alloc);
@@ -112,7 +116,7 @@ fn cleaned<R: Wait>(rt: &R, alloc: Global, shared: &SharedAccessor) -> Result<Ve
     Ok(regions)
 }
 
-/// Returns the tables of a history, shared.
+/// Recovers the tables of a history, and shares them.
 fn shared_of<R: Threads + Wait + Sync>(
     rt: &R,
     alloc: Global,
@@ -123,7 +127,8 @@ fn shared_of<R: Threads + Wait + Sync>(
     SharedAccessor::from_core(alloc, tables)
 }
 
-/// Tests whether shared tables of a history show what its row says, and come back with all that is owed.
+/// Tests whether the shared tables of a history have what its row says, and, once they are an accessor's again, all
+/// that recovery has to give.
 fn holds<R: Threads + Wait + Sync>(
     rt: &R,
     alloc: Global,

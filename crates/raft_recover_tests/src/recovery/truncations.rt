@@ -1,4 +1,4 @@
-//! Rows with truncations, a batch in each file.
+//! Rows with truncations, each batch in a file of its own.
 
 use super::batches::{
     CLEAN, COMPACT_1, COMPACT_2, COMPACT_3, COMPACT_20, GROUP_BEGIN_1_10, GROUP_BEGIN_TRUNCATE_4,
@@ -8,6 +8,7 @@ use super::batches::{
 };
 use super::owed::{APPEND, REWRITE, Row};
 
+/// Returns the rows of truncations.
 pub(crate) fn truncations() -> &'static [Row] {
     &ROWS
 }

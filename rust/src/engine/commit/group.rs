@@ -1,28 +1,29 @@
-//! The batches that one thread writes for all.
+//! A group of batches, which one thread writes.
 
 use super::{Commit, Commits};
 use crate::Result;
 use crate::engine::locks;
 use std::mem;
 
-/// The batches that a leader writes. Where the lead ends all their threads go on, but for those whose sync is left to them: those
-/// without a result have failed.
+/// The batches that a leading thread has taken to write. When the group is dropped all of their threads go on; a batch without a
+/// result counts as failed. Only batches whose sync was left to another thread stay in the line.
 #[derive(Debug)]
 pub(in crate::engine) struct Group<'a> {
+    /// The line that the batches are from.
     commits: &'a Commits,
     /// The ticket of the leader's own batch.
     leader: u64,
-    /// Those that are to be written.
+    /// The batches that are to be written.
     taken: Vec<Commit>,
-    /// Those that were written and wait for a sync.
+    /// The batches that were written, and wait for a sync.
     unsynced: Vec<Commit>,
-    /// Whether that sync is left to their threads.
+    /// Whether that sync is left to one of their threads.
     is_handed_on: bool,
 }
 
 impl<'a> Group<'a> {
-    /// Makes the group that the thread with the ticket `leader` leads. It has taken no batches yet.
-    pub(super) fn of(commits: &'a Commits, leader: u64) -> Group<'a> {
+    /// Makes the group that the thread with the ticket `leader` leads. It has no batches yet.
+    pub(super) fn led_by(commits: &'a Commits, leader: u64) -> Group<'a> {
         Group {
             commits,
             leader,
@@ -32,7 +33,7 @@ impl<'a> Group<'a> {
         }
     }
 
-    /// Takes all batches that wait by now, among them the leader's own.
+    /// Takes all batches that wait in the line by now, to be written or to be synced.
     pub(in crate::engine) fn take_waiting(&mut self) {
         let mut line = locks::lock(&self.commits.line);
         self.taken.append(&mut line.waiting);
@@ -44,12 +45,13 @@ impl<'a> Group<'a> {
         &mut self.taken
     }
 
-    /// Counts the batches of which items were written.
+    /// Returns how many of the batches that were to be written had items and were written.
     pub(in crate::engine) fn count_written(&self) -> u64 {
         self.taken.iter().filter(|commit| commit.is_written).count() as u64
     }
 
-    /// Lets the threads go on whose batches were refused, or needn't be synced. The batches that are to be written are none then.
+    /// Lets the threads go on whose batches were refused, or needn't be synced. All other batches wait for a sync from then on;
+    /// none is to be written any more.
     pub(in crate::engine) fn release_unsynced(&mut self) {
         let mut taken = mem::take(&mut self.taken);
         for commit in taken.iter_mut().filter(|commit| !commit.sync) {
@@ -60,8 +62,8 @@ impl<'a> Group<'a> {
         self.unsynced.append(&mut taken);
     }
 
-    /// Tests whether the leader is to make a sync: its own batch waits for one. Where others alone do, one of their threads leads
-    /// next.
+    /// Tests whether the leader has to make a sync, since its own batch waits for one. If it hasn't, the batches that wait for
+    /// one are left to their threads, one of which leads next.
     pub(in crate::engine) fn is_sync_due(&mut self) -> bool {
         let mut unsynced = self.unsynced.iter();
         let is_due = unsynced.any(|commit| commit.ticket == self.leader);
@@ -69,8 +71,8 @@ impl<'a> Group<'a> {
         is_due
     }
 
-    /// Lets the threads of all batches that are left go on. Those whose batch has no result yet are told `result`.
-    pub(in crate::engine) fn end_with(&mut self, result: &Result<()>) {
+    /// Lets the threads of all batches go on that are left in the group. `result` is that of the batches which have none yet.
+    pub(in crate::engine) fn finish_with(&mut self, result: &Result<()>) {
         let mut all = mem::take(&mut self.taken);
         all.append(&mut self.unsynced);
         for commit in &mut all {

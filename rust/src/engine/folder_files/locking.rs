@@ -1,25 +1,26 @@
-//! The locks of a folder.
+//! Locks a folder, so that one engine at a time changes it.
 
 use crate::{Error, ErrorKind, Result};
 use std::fs::{File, OpenOptions, TryLockError};
 use std::io;
 use std::path::Path;
 
-/// The name of the file that is locked beside the folder itself: raft-engine, and whoever opened a folder before it was locked
-/// itself, look at that file alone.
+/// The name of the file that is locked together with the folder. raft-engine, and older versions of this crate, look at the lock
+/// of that file alone.
 const LOCK: &str = "LOCK";
 
-/// A folder that is locked for as long as this value lives.
+/// A folder that is locked as long as this value lives.
 #[derive(Debug)]
 pub(super) struct LockedFolder {
-    /// The folder itself, whose lock nobody can take away by deleting a file.
+    /// The open folder. Nobody can take its lock away by deleting a file.
     pub(super) folder: File,
+    /// The locked file `LOCK`; `None` where there is none, which only a shared lock allows.
     lock: Option<File>,
 }
 
 impl Drop for LockedFolder {
-    /// Gives the locks back. That closing the files does so isn't enough: a process that another thread starts just then has them
-    /// too for a moment, until it runs its own program.
+    /// Gives the locks back. Closing the files alone isn't enough: a process that another thread starts just then shares the open
+    /// files for a moment, until it runs its own program.
     fn drop(&mut self) {
         let _ = self.folder.unlock();
         if let Some(lock) = &self.lock {
@@ -29,11 +30,11 @@ impl Drop for LockedFolder {
 }
 
 impl LockedFolder {
-    /// Locks a folder for one who changes it.
+    /// Locks a folder to change it. The file `LOCK` is made if it isn't there.
     ///
     /// # Errors
     ///
-    /// `TryAgain` where another engine has it open, `Io`.
+    /// `TryAgain` where another engine has the folder open; `Io`. No lock is held then.
     pub(super) fn lock_exclusive(path: &Path) -> Result<LockedFolder> {
         let folder = File::open(path).map_err(|e| Error::system(path.display(), e))?;
         check_lock(path, folder.try_lock())?;
@@ -49,11 +50,12 @@ impl LockedFolder {
         Ok(locked)
     }
 
-    /// Locks a folder for one who reads it, and may be allowed no more: others may read it at the same time.
+    /// Locks a folder to read it: others may do so at the same time, but no engine can change it. Nothing is made, so the right
+    /// to read is enough.
     ///
     /// # Errors
     ///
-    /// `TryAgain` where an engine has it open that writes, `Io`.
+    /// `TryAgain` where an engine has the folder open that writes; `Io`. No lock is held then.
     pub(super) fn lock_shared(path: &Path) -> Result<LockedFolder> {
         let folder = File::open(path).map_err(|e| Error::system(path.display(), e))?;
         check_lock(path, folder.try_lock_shared())?;
@@ -69,11 +71,11 @@ impl LockedFolder {
     }
 }
 
-/// Returns the answer of a lock, as a refusal with the path where the lock wasn't given.
+/// Turns the result of an attempt to lock `path` into one with errors of this crate.
 ///
 /// # Errors
 ///
-/// `TryAgain` where another engine has the lock, `Io`.
+/// `TryAgain` where another engine has the lock; `Io` where the system refused to lock.
 fn check_lock(path: &Path, locked: std::result::Result<(), TryLockError>) -> Result<()> {
     let path = path.display();
     locked.map_err(|refused| match refused {

@@ -1,18 +1,18 @@
-//! Bytes that are written to a log file, all of them or none.
+//! Writes bytes to a log file: all of them, or none where there is no room.
 
 use std::fs::File;
 use std::io::{self, Write};
 
-/// Writes bytes at the end of a file. Where there is no room for all of them those that were written are cut off again.
+/// Writes bytes at the end of a file. Where there is no room for all of them, those that were written are cut off again.
 ///
 /// # Errors
 ///
-/// Those of the system: as [`Unmade::AsBefore`] where there is no room and the file has none of the bytes, else as
-/// [`Unmade::InPart`].
+/// [`ChangeError::AsBefore`] where there is no room, and the file has none of the bytes. [`ChangeError::InPart`] for any
+/// other error of the system, or where they couldn't be cut off again: some of the bytes may be in the file then.
 pub(super) fn write_all_or_nothing(
     mut file: &File,
     bytes: &[u8],
-) -> std::result::Result<(), Unmade> {
+) -> std::result::Result<(), ChangeError> {
     let mut rest = bytes;
     while !rest.is_empty() {
         match file.write(rest) {
@@ -21,8 +21,8 @@ pub(super) fn write_all_or_nothing(
             Err(e) if e.kind() == io::ErrorKind::Interrupted => {}
             Err(e) => {
                 let written = (bytes.len() - rest.len()) as u64;
-                if lacks_room(&e) && (written == 0 || cut_last_bytes(file, written).is_ok()) {
-                    return Err(Unmade::AsBefore(e));
+                if is_out_of_room(&e) && (written == 0 || cut_last_bytes(file, written).is_ok()) {
+                    return Err(ChangeError::AsBefore(e));
                 }
                 return Err(e.into()); // what is there is cut as a torn tail
             }
@@ -31,22 +31,22 @@ pub(super) fn write_all_or_nothing(
     Ok(())
 }
 
-/// Why a change of the files wasn't made.
+/// Why a change of the files failed, and whether some of it may be made.
 #[derive(Debug)]
-pub(super) enum Unmade {
-    /// All is as it was before.
+pub(super) enum ChangeError {
+    /// Nothing is changed.
     AsBefore(io::Error),
-    /// It may have been made in part.
+    /// Some of the change may be made.
     InPart(io::Error),
 }
 
-impl From<io::Error> for Unmade {
-    fn from(e: io::Error) -> Unmade {
-        Unmade::InPart(e)
+impl From<io::Error> for ChangeError {
+    fn from(e: io::Error) -> ChangeError {
+        ChangeError::InPart(e)
     }
 }
 
-/// Cuts the last `count` bytes off a file, which were just written.
+/// Cuts the last `count` bytes off a file; all of them, if there are fewer.
 ///
 /// # Errors
 ///
@@ -55,8 +55,9 @@ fn cut_last_bytes(file: &File, count: u64) -> io::Result<()> {
     file.set_len(file.metadata()?.len().saturating_sub(count))
 }
 
-/// Tests whether the system refused a write for want of room.
-pub(super) fn lacks_room(refused: &io::Error) -> bool {
+/// Tests whether an error of the system says that there is no room: on the disk, within a quota, or within the greatest length of
+/// a file.
+pub(super) fn is_out_of_room(refused: &io::Error) -> bool {
     matches!(
         refused.kind(),
         io::ErrorKind::StorageFull | io::ErrorKind::QuotaExceeded | io::ErrorKind::FileTooLarge

@@ -1,4 +1,4 @@
-//! The reading of the files of a queue by several threads.
+//! Reads the files of a queue by several threads.
 
 use super::file_reading::FileReading;
 use super::stretches::Stretches;
@@ -8,17 +8,20 @@ use crate::{Error, ErrorKind, Files, LogFile, Options, Queue, Result, Version};
 use std::sync::atomic::{AtomicUsize, Ordering::Relaxed};
 use std::{panic, thread};
 
-/// From how many bytes on that a file has left another thread reads in it too: for fewer the merge costs more than that saves.
+/// How many bytes of a file have to be left at least, so that another thread joins in reading it. For fewer the merge of what
+/// both have read costs more time than the thread saves.
 const LEAST_SHARE: u64 = 1 << 20;
 
-/// Reads the files of a queue, piece by piece, on as many threads as the options say, up to where the last one can't be read. A piece
-/// is let go once it is replayed, so besides the tables each thread takes the memory of a piece and of the longest batch.
+/// Reads the files of a queue, piece by piece, on as many threads as the options say, up to the first batch of the last file that
+/// can't be read. `listed` has the number and the length of each file, oldest first. A piece is dropped once its batches are
+/// replayed, so besides the tables each thread takes memory for a piece, or for the longest batch.
 ///
 /// # Errors
 ///
-/// The refusal of the first batch that is refused, but for the tail of the last file; `Io` with file and offset; `InvalidArgument`
-/// where a file is one of raft-engine; `Memory`. What several threads find first may vary, so files that they refuse are read once
-/// more by one, and where a refusal names no batch, once more to name it.
+/// That of the first batch that is refused, but for the tail of the last file; `Io` with file and offset; `InvalidArgument` where
+/// a file begins with the header of raft-engine; `Memory`. Several threads may meet errors in any order. So after one that is
+/// neither `Io` nor `Memory` a single thread reads the files once more, to find the first; and if that one names no file, once
+/// more to name the batch.
 pub(super) fn read_queue(
     files: &impl Files,
     queue: Queue,
@@ -51,18 +54,19 @@ pub(super) fn read_queue(
     })
 }
 
-/// The files of a queue while they are read.
+/// The files of a queue while threads read them.
 pub(super) struct QueueReading<'a, F> {
-    /// Those that have bytes.
+    /// The files that have bytes, oldest first.
     pub(super) files: Vec<FileReading<'a, F>>,
-    /// The first one that no thread has taken.
+    /// The position of the first file in which no thread has read.
     next: AtomicUsize,
+    /// What was read, and where the reading ends.
     pub(super) stretches: Stretches,
 }
 
 impl<'a, F: Files> QueueReading<'a, F> {
-    /// Makes the reading of the files that are listed, by number and length, of which nothing is read yet. `is_named` says whether a
-    /// batch that doesn't fit those before it is to be named.
+    /// Makes the reading of the files in `listed`, each with its number and its length, of which nothing is read yet. `is_named`
+    /// says whether an error has to name the batch that doesn't fit those before it.
     fn new(
         files: &'a F,
         queue: Queue,
@@ -84,23 +88,23 @@ impl<'a, F: Files> QueueReading<'a, F> {
         }
     }
 
-    /// Reads the files on at most `threads` threads, the caller's with them, or on fewer where some can't be started. Returns what
-    /// was read, and what stands in the last file from the first batch on that can't be read.
+    /// Reads the files on at most `threads` threads, the caller's included, and on fewer where some can't be started. Returns a
+    /// reader that has read all, and the bytes of the last file from the first batch on that can't be read.
     ///
     /// # Errors
     ///
-    /// The refusal of the first piece that is refused, or of a merge; `Memory`.
+    /// That of the first piece that is refused, or of a merge; `Memory`.
     fn read(self, threads: usize) -> Result<(ReaderHandle, Vec<u8>)> {
         let most: u64 = self.files.iter().map(FileReading::estimate_pieces).sum();
         let threads = threads.min(usize::try_from(most).unwrap_or(usize::MAX));
         thread::scope(|scope| {
             let others: Vec<_> = (1..threads)
                 .map_while(|_| {
-                    let work = || Worker::new(&self).work();
+                    let work = || Worker::new(&self).run();
                     thread::Builder::new().spawn_scoped(scope, work).ok()
                 })
                 .collect();
-            Worker::new(&self).work();
+            Worker::new(&self).run();
             for other in others {
                 other.join().unwrap_or_else(|e| panic::resume_unwind(e));
             }
@@ -108,9 +112,9 @@ impl<'a, F: Files> QueueReading<'a, F> {
         self.stretches.finish()
     }
 
-    /// Returns the file in which a thread reads next: one in which none has read yet, or that of which most is left; `None` where too
-    /// little is left of each for one more thread.
-    pub(super) fn next_file(&self) -> Option<usize> {
+    /// Returns the position of the file in which a thread is to read next: one in which none has read yet, or the one of which
+    /// most is left; `None` where too little is left of each.
+    pub(super) fn take_next_file(&self) -> Option<usize> {
         let next = self.next.fetch_add(1, Relaxed);
         if next < self.files.len() {
             return Some(next);

@@ -1,4 +1,4 @@
-//! The stretches of a queue that threads have read.
+//! Collects the stretches of a queue that threads have read, and merges neighbors.
 
 use crate::engine::locks;
 use crate::sys::ReaderHandle;
@@ -6,39 +6,45 @@ use crate::{Error, Queue, Result};
 use std::collections::BTreeMap;
 use std::sync::{Mutex, PoisonError};
 
-/// Where a piece stands among those of a queue: in which of the files, and which of its pieces it is, both counted from 0.
+/// The position of a piece in a queue.
 #[derive(Clone, Copy, PartialEq, Eq, PartialOrd, Ord, Debug)]
 pub(super) struct Position {
+    /// Which file it is in, from 0 on.
     pub(super) file: usize,
+    /// Which piece of that file it is, from 0 on.
     pub(super) piece: usize,
 }
 
-/// What was read of neighboring pieces.
+/// A run of neighboring pieces, and what was read of them.
 pub(super) struct Stretch {
-    /// The first of them.
+    /// The position of the first piece.
     pub(super) from: Position,
-    /// The one behind them; `None` where the reading of the queue ends in the midst of the last one.
+    /// The position of the piece behind the last one; `None` where the reading of the queue ends within the last one.
     pub(super) to: Option<Position>,
+    /// The reader that has read the pieces.
     pub(super) reader: ReaderHandle,
 }
 
-/// Where the reading of a queue ends in the midst of its files.
+/// How the reading of a queue ends before the end of its files.
 pub(super) enum End {
-    /// It is refused.
+    /// With this error.
     Refused(Error),
-    /// No batch of the last file can be read on: all that stands in it from there on.
+    /// With a batch of the last file that can't be read: all bytes of the file from there on.
     Rest(Vec<u8>),
 }
 
-/// The stretches of a queue that were read, of which no two are neighbors, and the first place where the reading ends.
+/// The stretches of a queue that were read, none of which are neighbors, and the first place where the reading ends.
 pub(super) struct Stretches {
     queue: Queue,
+    /// The stretches, by the positions of their first pieces.
     read: Mutex<BTreeMap<Position, Stretch>>,
+    /// The first piece at which the reading ends, and how; `None` as long as none is known.
     end: Mutex<Option<(Position, End)>>,
 }
 
 impl Position {
-    /// Returns the position of the piece behind: the first one of the next file where this piece is the last one of its file.
+    /// Returns the position behind this one: that of the first piece of the next file, if `is_last` says that this is the last
+    /// piece of its file, else that of the next piece.
     pub(super) fn next_position(self, is_last: bool) -> Position {
         match is_last {
             true => Position {
@@ -54,7 +60,7 @@ impl Position {
 }
 
 impl Stretches {
-    /// Makes stretches of a queue, of which none was read yet.
+    /// Makes the stretches of a queue of which nothing was read yet.
     pub(super) fn new(queue: Queue) -> Stretches {
         Stretches {
             queue,
@@ -63,9 +69,9 @@ impl Stretches {
         }
     }
 
-    /// Adds a stretch, and merges it with its neighbors. Where a merge is refused the reading of the queue ends between the two.
+    /// Adds a stretch, and merges it with its neighbors. Where a merge is refused, the reading of the queue ends between the two.
     pub(super) fn add(&self, mut stretch: Stretch) {
-        while let Some((older, newer)) = self.pair_with_neighbor(stretch) {
+        while let Some((older, newer)) = self.take_neighbor_of(stretch) {
             let seam = newer.from;
             stretch = match older.merge(newer, self.queue) {
                 Ok(both) => both,
@@ -74,8 +80,9 @@ impl Stretches {
         }
     }
 
-    /// Takes a neighbor of a stretch out, and returns both, the older one first; `None` where it has no neighbor, and is kept.
-    fn pair_with_neighbor(&self, stretch: Stretch) -> Option<(Stretch, Stretch)> {
+    /// Takes out a neighbor of a stretch, and returns both, the older one first. Where it has no neighbor the stretch is kept
+    /// here, and `None` returned.
+    fn take_neighbor_of(&self, stretch: Stretch) -> Option<(Stretch, Stretch)> {
         let mut read = locks::lock(&self.read);
         let older = read.range(..stretch.from).next_back();
         let older = older.filter(|(_, older)| older.to == Some(stretch.from));
@@ -90,7 +97,7 @@ impl Stretches {
         None
     }
 
-    /// Notes that the reading ends at a piece, and how, unless it ends at one before it.
+    /// Notes that the reading ends at a piece, and how, unless an end before this piece is known.
     pub(super) fn end_at(&self, piece: Position, end: End) {
         let mut first = locks::lock(&self.end);
         if first.as_ref().is_none_or(|(at, _)| piece < *at) {
@@ -98,18 +105,18 @@ impl Stretches {
         }
     }
 
-    /// Tests whether the reading ends in a file before the one at a position.
+    /// Tests whether the reading ends in a file before the one at position `file`.
     pub(super) fn ends_before(&self, file: usize) -> bool {
         let first = locks::lock(&self.end);
         first.as_ref().is_some_and(|(at, _)| at.file < file)
     }
 
-    /// Returns a reader that has read the queue up to where the reading ends, and what stands in the last file from there on: no
-    /// bytes where the file ends there.
+    /// Returns the reader that has read the queue up to the end of the reading, and the bytes of the last file from there on:
+    /// none where that file was read to its end.
     ///
     /// # Errors
     ///
-    /// The refusal of the first piece that is refused, `Memory`.
+    /// That of the first piece that is refused; `Memory`.
     pub(super) fn finish(self) -> Result<(ReaderHandle, Vec<u8>)> {
         let end = self
             .end
@@ -132,7 +139,7 @@ impl Stretches {
 }
 
 impl Stretch {
-    /// Makes a stretch of no piece, behind which the piece at a position stands.
+    /// Makes an empty stretch before the piece at a position, whose reader has read nothing.
     ///
     /// # Errors
     ///
@@ -145,11 +152,11 @@ impl Stretch {
         })
     }
 
-    /// Merges a stretch with the newer one, which stands right behind it.
+    /// Merges a stretch with its newer neighbor into one.
     ///
     /// # Errors
     ///
-    /// Those of [`ReaderHandle::merge`]. Both are then gone.
+    /// Those of [`ReaderHandle::merge`]. Both readers are gone then.
     fn merge(self, newer: Stretch, queue: Queue) -> Result<Stretch> {
         Ok(Stretch {
             from: self.from,

@@ -1,4 +1,4 @@
-//! A thread that reads the files of a queue.
+//! Has a thread read files of a queue.
 
 use super::file_pieces::Piece;
 use super::file_reading::FileReading;
@@ -6,24 +6,25 @@ use super::queue_reading::QueueReading;
 use super::stretches::{End, Position, Stretch};
 use crate::{Files, Result};
 
-/// A thread that reads pieces of files, and replays them.
+/// The work of a thread, which reads pieces of files and replays them.
 pub(super) struct Worker<'q, 'a, F> {
     queue: &'q QueueReading<'a, F>,
-    /// The stretch that it has read, as long as it goes on there.
+    /// The stretch that it has read last; it goes on there, if the next piece is a neighbor.
     own: Option<Stretch>,
 }
 
 impl<'q, 'a, F: Files> Worker<'q, 'a, F> {
-    /// Makes a thread's work on a queue. It has read nothing yet.
+    /// Makes the work of a thread on a queue, which has read nothing yet.
     pub(super) fn new(queue: &'q QueueReading<'a, F>) -> Worker<'q, 'a, F> {
         Worker { queue, own: None }
     }
 
-    /// Reads in one file after another until nothing is left, and adds what it has read to the stretches.
-    pub(super) fn work(mut self) {
+    /// Reads pieces of one file after another until nothing is left to read, and adds what it has read to the stretches of the
+    /// queue.
+    pub(super) fn run(mut self) {
         let mut room = Vec::new();
         let stretches = &self.queue.stretches;
-        while let Some(file) = self.queue.next_file()
+        while let Some(file) = self.queue.take_next_file()
             && !stretches.ends_before(file)
         {
             while self.read_piece(file, &mut room) && !stretches.ends_before(file) {}
@@ -33,8 +34,8 @@ impl<'q, 'a, F: Files> Worker<'q, 'a, F> {
         }
     }
 
-    /// Reads the next piece of the file at a position into `room`, and replays it. Returns whether another one may come behind it.
-    /// Where the reading ends there, that is noted with the stretches.
+    /// Reads the next piece of the file at position `file` into `room`, and replays it. Returns whether another piece of the file
+    /// may follow. If the reading of the queue ends there, that is noted with the stretches.
     fn read_piece(&mut self, file: usize, room: &mut Vec<u8>) -> bool {
         let reading = &self.queue.files[file];
         let (number, piece) = reading.read_next(room);
@@ -57,19 +58,19 @@ impl<'q, 'a, F: Files> Worker<'q, 'a, F> {
         false
     }
 
-    /// Replays the piece at the position `from`. Returns what stands in the last file of the queue from the first batch on that
-    /// can't be read, where one of the piece can't; `None` elsewhere.
+    /// Replays the piece at the position `from`. If a batch of it can't be read, in the last file of the queue, it returns all
+    /// bytes of the file from there on; else `None`.
     ///
     /// # Errors
     ///
-    /// Those of [`FileReading::replay`].
+    /// Those of [`FileReading::replay`]; `Memory`. What this thread has read of the stretch is lost then.
     fn replay(
         &mut self,
         reading: &FileReading<'_, F>,
         from: Position,
         piece: Piece<'_>,
     ) -> Result<Option<Vec<u8>>> {
-        let own = self.stretch_up_to(from)?;
+        let own = self.take_stretch_before(from)?;
         let (reader, rest) = reading.replay(own.reader, piece)?;
         let to = rest.is_none().then(|| from.next_position(piece.is_last));
         self.own = Some(Stretch {
@@ -80,13 +81,13 @@ impl<'q, 'a, F: Files> Worker<'q, 'a, F> {
         Ok(rest)
     }
 
-    /// Returns the stretch that this thread has read, if the piece at a position stands right behind it; else a new stretch, which
-    /// begins with that piece. The old one is then added to the others.
+    /// Takes out the stretch that this thread has read, if the piece at a position comes next behind it. Else it adds that
+    /// stretch to the others, and returns an empty one, which begins with the piece.
     ///
     /// # Errors
     ///
     /// `Memory`.
-    fn stretch_up_to(&mut self, piece: Position) -> Result<Stretch> {
+    fn take_stretch_before(&mut self, piece: Position) -> Result<Stretch> {
         match self.own.take() {
             Some(own) if own.to == Some(piece) => return Ok(own),
             Some(own) => self.queue.stretches.add(own),

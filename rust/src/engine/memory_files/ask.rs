@@ -1,8 +1,8 @@
-//! What is asked of files.
+//! A change that was asked of files.
 
 use crate::{FileId, Queue};
 
-/// Something that was asked of files.
+/// A change that was asked of [`MemoryFiles`](crate::MemoryFiles): the calls of [`Files`](crate::Files) that change something.
 ///
 /// ```
 /// # use raft_recover::{Ask, FileId, Files, MemoryFiles, Queue};
@@ -16,20 +16,20 @@ use crate::{FileId, Queue};
 #[derive(Clone, PartialEq, Eq, Hash, Debug)]
 #[non_exhaustive]
 pub enum Ask {
-    /// The bytes are to be written at the end of the file.
+    /// Write the bytes at the end of the file.
     Write(FileId, Vec<u8>),
-    /// All that was asked of the queue is to be safe from a crash.
+    /// Make all that was asked of the queue safe from a crash.
     Sync(Queue),
-    /// The file is to be begun, behind the last one of its queue.
+    /// Make the file, the new last one of its queue.
     Begin(FileId),
-    /// The oldest file of its queue is to go.
+    /// Delete the file, the oldest one of its queue.
     Delete(FileId),
-    /// The file is to be cut to a length in bytes, if it is longer.
+    /// Cut the file to a length in bytes, if it is longer.
     Cut(FileId, u64),
 }
 
 impl Ask {
-    /// Returns the queue of which it was asked.
+    /// Returns the queue that the change is for.
     ///
     /// ```
     /// # use raft_recover::{FileId, Files, MemoryFiles, Queue};

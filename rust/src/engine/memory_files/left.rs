@@ -1,22 +1,22 @@
-//! What a crash leaves.
+//! The files that a crash leaves.
 
 use super::{Ask, Unsynced, cut_bytes};
 
-/// What a crash leaves of a queue.
+/// A queue while its asks are gone through, one after another, to find what a crash leaves of it.
 pub(super) struct Left<'a> {
-    /// The files that stand for certain, those that were deleted too.
+    /// The files with all that is synced: the number and the bytes of each, oldest first. Deleted files are still among them.
     certain: Vec<(u64, Vec<u8>)>,
-    /// What was asked since then, in order.
+    /// The asks that aren't synced, oldest first, without the deletions.
     since: Vec<&'a Ask>,
-    /// How many of the files were deleted for certain.
+    /// How many files were deleted, and that is synced.
     gone: usize,
-    /// How many were deleted since then.
+    /// How many files were deleted, and that isn't synced.
     going: usize,
 }
 
 impl<'a> Left<'a> {
-    /// Begins with the files of a queue as they were found, which no crash takes away.
-    pub(super) fn of(found: &[(u64, Vec<u8>)]) -> Left<'a> {
+    /// Begins with the files of a queue as they were found, all of them synced.
+    pub(super) fn from_found(found: &[(u64, Vec<u8>)]) -> Left<'a> {
         Left {
             certain: found.to_vec(),
             since: Vec::new(),
@@ -25,15 +25,16 @@ impl<'a> Left<'a> {
         }
     }
 
-    /// Takes in what was asked next of the queue.
-    pub(super) fn take_ask(&mut self, ask: &'a Ask) {
+    /// Applies the next ask of the queue. A sync, and a new file, make all asks before them synced; a new file leaves deletions
+    /// as they are.
+    pub(super) fn apply_ask(&mut self, ask: &'a Ask) {
         match ask {
             Ask::Sync(_) => {
-                self.do_first(usize::MAX);
+                self.apply_steps(usize::MAX);
                 self.gone += std::mem::take(&mut self.going);
             }
             Ask::Begin(_) => {
-                self.do_first(usize::MAX);
+                self.apply_steps(usize::MAX);
                 self.since.push(ask);
             }
             Ask::Delete(_) => self.going += 1,
@@ -41,8 +42,9 @@ impl<'a> Left<'a> {
         }
     }
 
-    /// Does the first `steps` steps of what was asked since then, and drops the rest.
-    fn do_first(&mut self, mut steps: usize) {
+    /// Applies the first `steps` steps of the asks that aren't synced to the files, and drops the other asks. What a step is
+    /// [`Unsynced::steps`] says.
+    fn apply_steps(&mut self, mut steps: usize) {
         for ask in self.since.drain(..) {
             let last = self.certain.last_mut().map(|(_, bytes)| bytes);
             match (ask, last) {
@@ -67,10 +69,9 @@ impl<'a> Left<'a> {
         }
     }
 
-    /// Returns the files that a crash leaves: those that stand for certain, with as much of what was asked since then as `stays`
-    /// says.
+    /// Returns the files that a crash leaves: all that is synced, and as much of the rest as `stays` says.
     pub(super) fn files_after_crash(mut self, stays: Unsynced) -> Vec<(u64, Vec<u8>)> {
-        self.do_first(stays.steps);
+        self.apply_steps(stays.steps);
         let gone = self.gone + self.going.min(stays.deletions);
         self.certain.split_off(gone.min(self.certain.len()))
     }

@@ -1,8 +1,9 @@
-//! How much isn't synced.
+//! How much of a queue isn't synced.
 
 use super::Ask;
 
-/// How much of what was asked of a queue and wasn't synced is done. By default it is nothing.
+/// How much of the asks of a queue that aren't synced: all of it, as [`MemoryFiles::unsynced`](crate::MemoryFiles::unsynced)
+/// returns it, or the first part, which a crash leaves ([`MemoryFiles::left`](crate::MemoryFiles::left)). The default is nothing.
 ///
 /// ```
 /// # use raft_recover::{FileId, Files, MemoryFiles, Queue, Unsynced};
@@ -16,9 +17,9 @@ use super::Ask;
 /// ```
 #[derive(Clone, Copy, PartialEq, Eq, Hash, Debug, Default)]
 pub struct Unsynced {
-    /// Steps in the order in which they were asked: each byte that was written, each cut, and each new file is one.
+    /// How many steps, in the order in which they were asked: each byte that was written, each cut and each new file is one.
     pub steps: usize,
-    /// Files that were deleted, oldest first.
+    /// How many deletions of files, oldest first.
     pub deletions: usize,
 }
 
@@ -36,7 +37,7 @@ impl Unsynced {
                 steps: steps + 1,
                 deletions,
             },
-            // what stands in front of a new file was synced when it was begun
+            // what stands before a new file was synced when it was begun
             Ask::Begin(_) => Unsynced {
                 steps: 1,
                 deletions,

@@ -31,10 +31,10 @@ pub(crate) fn verify_checksum(alloc: Global, bytes: &[u8], signature: Option<u32
         return Err(Error::Corruption(format!(in alloc; "Content too short {len}")?));
     }
     let (content, seal) = bytes.split_at(len - LOG_BATCH_CHECKSUM_LEN);
-    let found = checksum_of(seal);
+    let found = read_checksum(seal);
     let actual = crc32(content);
-    if found != sign(actual, signature) {
-        let expected = sign(found, signature);
+    if found != sign_checksum(actual, signature) {
+        let expected = sign_checksum(found, signature);
         return Err(Error::Corruption(format!(in alloc;
             "Checksum expected {expected} but got {actual}"
         )?));
@@ -44,7 +44,7 @@ pub(crate) fn verify_checksum(alloc: Global, bytes: &[u8], signature: Option<u32
 
 /// Returns the checksum that is stored in `seal`, four little-endian bytes.
 #[tactic(auto, using(crate::proofs::SealLemmas::all_four))]
-fn checksum_of(seal: &[u8]) -> u32
+fn read_checksum(seal: &[u8]) -> u32
     requires { length seal.now ≡ LOG_BATCH_CHECKSUM_LEN }
     ensures { seal.now ≡ little_bytes 4 result }
 {
@@ -57,7 +57,7 @@ fn checksum_of(seal: &[u8]) -> u32
 
 /// Returns `checksum` combined with `signature` by exclusive or, or `checksum` itself without a signature.
 /// Applied to a signed checksum, it gives the unsigned one back.
-pub(crate) fn sign(checksum: u32, signature: Option<u32>) -> u32
+pub(crate) fn sign_checksum(checksum: u32, signature: Option<u32>) -> u32
     ensures { result ≡ signed_crc signature checksum }
 {
     match signature {

@@ -53,7 +53,7 @@ impl Command {
         ensures err { OnErr result (buf.new.items ≡ buf.old.items) }
         ensures memory { IfErr result (λ e. e ≡ Error.Memory) }
     {
-        Ok(self.write(buf)?)
+        Ok(self.append_to(buf)?)
     }
 
     /// Appends the bytes of the command to `buf`, as [`Command::encode`] does, with an error that is only
@@ -62,14 +62,14 @@ impl Command {
     /// # Errors
     ///
     /// `AllocError` if there is no memory to grow `buf`, which is unchanged then.
-    pub(crate) fn write(&self, buf: &mut Vec<u8>) -> AllocResult<()>
+    pub(crate) fn append_to(&self, buf: &mut Vec<u8>) -> AllocResult<()>
         ensures ok { OnOk result (buf.new.items ≡ buf.old.items ++ command_bytes self.now) }
         ensures err { OnErr result (buf.new.items ≡ buf.old.items) }
     {
         match self {
             Command::Clean => Ok(buf.push(CMD_CLEAN)?),
-            Command::Compact { index } => append_indexed(buf, CMD_COMPACT, *index),
-            Command::Truncate { index } => append_indexed(buf, CMD_TRUNCATE, *index),
+            Command::Compact { index } => append_command_with_index(buf, CMD_COMPACT, *index),
+            Command::Truncate { index } => append_command_with_index(buf, CMD_TRUNCATE, *index),
         }
     }
 
@@ -128,7 +128,7 @@ impl Command {
 /// # Errors
 ///
 /// `AllocError` if there is no memory to grow `buf`, which is unchanged then.
-fn append_indexed(buf: &mut Vec<u8>, kind: u8, index: u64) -> AllocResult<()>
+fn append_command_with_index(buf: &mut Vec<u8>, kind: u8, index: u64) -> AllocResult<()>
     ensures ok { OnOk result (buf.new.items ≡ buf.old.items ++ kind ∷ varint index) }
     ensures err { OnErr result (buf.new.items ≡ buf.old.items) }
 {

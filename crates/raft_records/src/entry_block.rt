@@ -22,7 +22,7 @@ pub fn entries_block_in(part: &FilePart, place: FileBlockHandle) -> Result<&[u8]
     ensures fault { IfErr result (IsBlockFault part.now place) }
 {
     let alloc = part.allocator();
-    match bytes_from(part, place) {
+    match bytes_from_place(part, place) {
         Some(bytes) => lent_entry_block(alloc, bytes, place.len),
         None => Err(Error::Corruption(format!(in alloc;
             "the entry block at offset {} of file {} isn't in the part",
@@ -33,7 +33,7 @@ pub fn entries_block_in(part: &FilePart, place: FileBlockHandle) -> Result<&[u8]
 
 /// Returns the bytes of the part from the start of `place` to the end of the part. Returns `None` if `place`
 /// is in another file, or doesn't lie in the part.
-fn bytes_from(part: &FilePart, place: FileBlockHandle) -> Option<&[u8]>
+fn bytes_from_place(part: &FilePart, place: FileBlockHandle) -> Option<&[u8]>
     ensures { MatchOption result (IsPlaceIn part.now place → ⊥)
         (λ bytes. IsPlaceIn part.now place
         × (bytes.now ≡ drop (place.offset - part.now.offset) part.now.bytes)) }

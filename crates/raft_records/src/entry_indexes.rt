@@ -14,7 +14,7 @@ use std::alloc::Global;
 
 /// Tests whether each of `entries` begins where the one before it ends, and all end at offset 2^32 - 1 at
 /// most. Other entries can't be written. Returns true if there are no entries.
-fn runs_on(entries: &[EntryIndex]) -> bool
+fn is_contiguous(entries: &[EntryIndex]) -> bool
     ensures { IsTrue result ↔ RunOn entries.now }
 {
     let mut offset = match entries.first() {
@@ -60,7 +60,7 @@ impl EntryIndexes {
     }
 
     /// Sets the place of each entry to `handle`, and its compression type to `compression_type`.
-    pub(crate) fn place(&mut self, handle: FileBlockHandle, compression_type: CompressionType)
+    pub(crate) fn set_places(&mut self, handle: FileBlockHandle, compression_type: CompressionType)
         ensures { self.new.0.items ≡
             map (λ (e : EntryIndex). record e {
               entries = Some handle;
@@ -88,7 +88,7 @@ impl EntryIndexes {
     pub(crate) fn is_writable(&self) -> bool
         ensures { IsTrue result ↔ AreWritable self.now.0.items }
     {
-        is_consecutive(self.0.as_slice()) && runs_on(self.0.as_slice())
+        is_consecutive(self.0.as_slice()) && is_contiguous(self.0.as_slice())
     }
 
     /// Appends the bytes of the entries to `buf`: their count, the first index, and for each entry its *tail
@@ -111,7 +111,7 @@ impl EntryIndexes {
                 "the entries are not consecutive or don't run on",
             ));
         }
-        append_whole!(buf, self.write(buf))
+        append_whole!(buf, self.append_to(buf))
     }
 
     /// Appends the bytes of the entries to `buf`, as [`EntryIndexes::encode`] does, without testing whether
@@ -121,7 +121,7 @@ impl EntryIndexes {
     ///
     /// `AllocError` if there is no memory for the bytes. `buf` may have more bytes at its end then, which the
     /// caller cuts off.
-    pub(crate) fn write(&self, buf: &mut Vec<u8>) -> AllocResult<()>
+    pub(crate) fn append_to(&self, buf: &mut Vec<u8>) -> AllocResult<()>
         ensures ok { OnOk result (buf.new.items ≡ buf.old.items ++ entries_bytes self.now.0.items) }
         ensures err { OnErr result (Keeps buf.old.items buf.new.items) }
     {
@@ -195,7 +195,7 @@ pub(crate) fn tail_offset(entry: &EntryIndex) -> u64
 /// makes the error.
 #[inline(always)]
 #[tactic(auto, using(crate::proofs::EntryLemmas::tail_read, raft_codec::proofs::VarintLemmas::short_below, raft_codec::proofs::VarintLemmas::short_is_read))]
-pub(crate) fn short_tail(bytes: &[u8], offset: u32, bounded: bool) -> Option<(u32, &[u8])>
+pub(crate) fn parse_short_tail(bytes: &[u8], offset: u32, bounded: bool) -> Option<(u32, &[u8])>
     ensures read { IfSome result (λ read. (index : ℕ) → index < 2 ^ 64 - 1 →
         Reads (IsTail (index, offset)) bytes.now read.1.now (entry_between index offset read.0)) }
     ensures ends { IfSome result (λ read. offset ≤ read.0) }

@@ -104,7 +104,7 @@ pub(crate) fn reserve_header(buf: &mut Vec<u8>) -> AllocResult<()>
 /// # Errors
 ///
 /// `AllocError` if there is no memory to grow `buf`, which is unchanged then.
-fn close_entry_block(buf: &mut Vec<u8>) -> AllocResult<()>
+fn append_entries_checksum(buf: &mut Vec<u8>) -> AllocResult<()>
     requires { 16 ≤ length buf.old.items }
     ensures ok { OnOk result
         (buf.new.items ≡ take 16 buf.old.items ++ entry_block (drop 16 buf.old.items)) }
@@ -120,7 +120,7 @@ fn close_entry_block(buf: &mut Vec<u8>) -> AllocResult<()>
 
 /// Returns the offset of the item batch in a log batch with `entries_size` entry bytes: it is after the
 /// header and, if there are entry bytes, after their checksum.
-pub(crate) fn offset_behind(entries_size: u32) -> usize
+pub(crate) fn item_batch_offset(entries_size: u32) -> usize
     ensures { (entry_bytes : List ℕ) → length entry_bytes ≡ entries_size →
         result ≡ item_offset entry_bytes }
 {
@@ -164,7 +164,7 @@ pub fn lent_entry_block(alloc: Global, bytes: &[u8], len: usize) -> Result<&[u8]
 /// `Full` if the batch would have 2^56 bytes or more; `Memory`. `buf` may have more bytes at its end then;
 /// the bytes before are unchanged.
 #[tactic(auto, using(crate::proofs::BufferLemmas::closed_keeps, crate::proofs::BufferLemmas::behind_keeps))]
-pub(crate) fn encode_behind(buf: &mut Vec<u8>, item_batch: &mut LogItemBatch) -> Result<()>
+pub(crate) fn complete_batch(buf: &mut Vec<u8>, item_batch: &mut LogItemBatch) -> Result<()>
     requires room { 16 ≤ length buf.old.items }
     requires some { item_batch.old ≢ [] }
     ensures ok { OnOk result (IsUnsealed item_batch.old (drop 16 buf.old.items) buf.new.items) }
@@ -175,7 +175,7 @@ pub(crate) fn encode_behind(buf: &mut Vec<u8>, item_batch: &mut LogItemBatch) ->
     ensures fault { IfErr result (λ e. e ≢ Error.Memory →
         (e ≡ Error.Full) × (2 ^ 56 ≤ encoded_length item_batch.old (drop 16 buf.old.items))) }
 {
-    close_entry_block(buf)?;
+    append_entries_checksum(buf)?;
     let offset = buf.len();
     item_batch.encode(buf)?;
     let len = buf.len();
@@ -188,7 +188,7 @@ pub(crate) fn encode_behind(buf: &mut Vec<u8>, item_batch: &mut LogItemBatch) ->
 
 /// Sets the checksum of the item batch in `buf`, which has the bytes of a whole batch, signed for the file of
 /// `context`. `buf` is empty, and stays so, if the batch has no items.
-pub(crate) fn seal(item_batch: &LogItemBatch, buf: &mut Vec<u8>, context: &LogFileContext)
+pub(crate) fn seal_batch(item_batch: &LogItemBatch, buf: &mut Vec<u8>, context: &LogFileContext)
     requires { IsHeld encoded item_batch.now (entry_bytes_in item_batch.now buf.old.items)
         buf.old.items }
     ensures { buf.new.items ≡ log_batch_bytes (signature_of context.now) item_batch.now
@@ -198,12 +198,17 @@ pub(crate) fn seal(item_batch: &LogItemBatch, buf: &mut Vec<u8>, context: &LogFi
     if buf.is_empty() {
         return;
     }
-    let offset = offset_behind(item_batch.entries_size());
-    seal_behind(item_batch, buf.as_mut_slice(), offset, context);
+    let offset = item_batch_offset(item_batch.entries_size());
+    seal_item_batch(item_batch, buf.as_mut_slice(), offset, context);
 }
 
 /// Sets the checksum of the item batch that begins at `offset` of `buf`, signed for the file of `context`.
-fn seal_behind(item_batch: &LogItemBatch, buf: &mut [u8], offset: usize, context: &LogFileContext)
+fn seal_item_batch(
+    item_batch: &LogItemBatch,
+    buf: &mut [u8],
+    offset: usize,
+    context: &LogFileContext,
+)
     requires within { offset ≤ length buf.old }
     requires encoded { IsEncoded item_batch.now (drop offset buf.old) }
     ensures { buf.new ≡ take offset buf.old ++ (item_batch_bytes item_batch.now

@@ -123,7 +123,7 @@ impl KeyValue {
         if !self.is_writable() {
             return Err(Error::invalid_argument(*buf.allocator(), "a put has no value"));
         }
-        append_whole!(buf, self.write(buf))
+        append_whole!(buf, self.append_to(buf))
     }
 
     /// Appends the bytes of the change to `buf`, as [`KeyValue::encode`] does, without testing whether it can
@@ -133,7 +133,7 @@ impl KeyValue {
     ///
     /// `AllocError` if there is no memory for the bytes. `buf` may have more bytes at its end then, which the
     /// caller cuts off.
-    pub(crate) fn write(&self, buf: &mut Vec<u8>) -> AllocResult<()>
+    pub(crate) fn append_to(&self, buf: &mut Vec<u8>) -> AllocResult<()>
         ensures ok { OnOk result (buf.new.items ≡ buf.old.items ++ pair_bytes (pair_of self.now)) }
         ensures err { OnErr result (Keeps buf.old.items buf.new.items) }
     {
@@ -159,7 +159,7 @@ impl KeyValue {
         ensures fault { IfErr result (IsKeyValueFault buf.old.now) }
     {
         let (key, value, rest) = parse_pair(alloc, *buf)?;
-        let kv = KeyValue::copied(alloc, key, value, None)?;
+        let kv = KeyValue::from_slices(alloc, key, value, None)?;
         *buf = rest;
         Ok(kv)
     }
@@ -171,7 +171,7 @@ impl KeyValue {
     ///
     /// `Memory` alone.
     #[inline(always)]
-    pub(crate) fn copied(
+    pub(crate) fn from_slices(
         alloc: Global,
         key: &[u8],
         value: Option<&[u8]>,

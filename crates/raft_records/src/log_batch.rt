@@ -7,8 +7,8 @@ ghost use Rattle.raft_records.specs.Common.{IsKeyRefusal, IsMessageRefusal, plac
 
 use crate::checksum::LOG_BATCH_CHECKSUM_LEN;
 use crate::header::{
-    LOG_BATCH_HEADER_LEN, encode_behind, lent_entry_block, offset_behind, parse_header,
-    reserve_header, seal,
+    LOG_BATCH_HEADER_LEN, complete_batch, item_batch_offset, lent_entry_block, parse_header,
+    reserve_header, seal_batch,
 };
 use crate::laws::log_batches_are_read_again;
 use crate::{Command, LogItem, LogItemBatch, is_reserved};
@@ -223,7 +223,7 @@ impl LogBatch {
         }
         reserve_header(&mut self.buf)?;
         let start = self.buf.len();
-        if let Err(e) = encode_behind(&mut self.buf, &mut self.item_batch) {
+        if let Err(e) = complete_batch(&mut self.buf, &mut self.item_batch) {
             self.buf.truncate(start);
             return Err(e);
         }
@@ -238,7 +238,7 @@ impl LogBatch {
         requires { self.old.stage ≢ is_open }
         ensures { self.new ≡ record self.old { stage = sealed (signature_of context.now) } }
     {
-        seal(&self.item_batch, &mut self.buf, context);
+        seal_batch(&self.item_batch, &mut self.buf, context);
         self.state = BufState::Sealed(context.get_signature());
     }
 
@@ -355,7 +355,7 @@ impl LogBatch {
         ensures err { OnErr result (self.new ≡ self.old) }
         ensures fault { IfErr result (IsKeyRefusal key.items) }
     {
-        refuse_reserved(&key)?;
+        refuse_reserved_key(&key)?;
         self.put_unchecked(region, key, value)
     }
 
@@ -373,7 +373,7 @@ impl LogBatch {
         ensures err { OnErr result (self.new ≡ self.old) }
         ensures fault { IfErr result (IsMessageRefusal (S.refuses message.now) key.items) }
     {
-        refuse_reserved(&key)?;
+        refuse_reserved_key(&key)?;
         self.item_batch.put_message(region, key, message)
     }
 
@@ -411,9 +411,10 @@ impl LogBatch {
         let entry_place = FileBlockHandle {
             id: handle.id,
             offset: handle.offset + LOG_BATCH_HEADER_LEN as u64,
-            len: offset_behind(self.item_batch.entries_size()) - LOG_BATCH_HEADER_LEN,
+            len: item_batch_offset(self.item_batch.entries_size()) - LOG_BATCH_HEADER_LEN,
         };
-        self.item_batch.place(entry_place, CompressionType::None);
+        self.item_batch
+            .set_places(entry_place, CompressionType::None);
     }
 
     /// Returns a copy of the batch: the same items and entry bytes, at the same stage.
@@ -446,7 +447,7 @@ impl LogBatch {
 /// # Errors
 ///
 /// `InvalidArgument` if it is; `Memory` if there is none for its text.
-fn refuse_reserved(key: &Vec<u8>) -> Result<()>
+fn refuse_reserved_key(key: &Vec<u8>) -> Result<()>
     ensures accepted { OnOk result (key.now.items ≢ reserved_key) }
     ensures fault { IfErr result (IsKeyRefusal key.now.items) }
 {

@@ -106,11 +106,11 @@ impl LogItem {
 
     /// Sets the place of the item's entries to `handle` and their compression type to `compression_type`, or
     /// the file of its key value to that of `handle`. A command isn't changed.
-    pub(crate) fn place(&mut self, handle: FileBlockHandle, compression_type: CompressionType)
+    pub(crate) fn set_place(&mut self, handle: FileBlockHandle, compression_type: CompressionType)
         ensures { item_of self.new ≡ placed_item handle compression_type (item_of self.old) }
     {
         match &mut self.content {
-            LogItemContent::EntryIndexes(entries) => entries.place(handle, compression_type),
+            LogItemContent::EntryIndexes(entries) => entries.set_places(handle, compression_type),
             LogItemContent::Command(_) => {}
             LogItemContent::Kv(kv) => kv.file_id = Some(handle.id),
         }
@@ -181,7 +181,7 @@ impl LogItem {
                 "an item's entries don't run on, or a put has no value",
             ));
         }
-        append_whole!(buf, self.write(buf))
+        append_whole!(buf, self.append_to(buf))
     }
 
     /// Appends the bytes of the item to `buf`, as [`LogItem::encode`] does, without testing whether it can be
@@ -191,12 +191,12 @@ impl LogItem {
     ///
     /// `AllocError` if there is no memory for the bytes. `buf` may have more bytes at its end then, which the
     /// caller cuts off.
-    pub(crate) fn write(&self, buf: &mut Vec<u8>) -> AllocResult<()>
+    pub(crate) fn append_to(&self, buf: &mut Vec<u8>) -> AllocResult<()>
         ensures ok { OnOk result (buf.new.items ≡ buf.old.items ++ item_bytes (item_of self.now)) }
         ensures err { OnErr result (Keeps buf.old.items buf.new.items) }
     {
         append_number(buf, self.raft_group_id)?;
-        self.content.write(buf)
+        self.content.append_to(buf)
     }
 
     /// Reads an item from the start of `buf`, and moves `buf` past it. Its entries have no place, and its key
@@ -227,7 +227,7 @@ impl LogItem {
         let (raft_group_id, behind) = codec::parse_var_u64(*buf)?;
         let mut entries: Vec<EntryIndex> = Vec::new(alloc);
         let (read, end, rest) = read_content(alloc, behind, *entries_size, &mut entries)?;
-        let content = made_content(alloc, read, entries)?;
+        let content = copy_content_with_entries(alloc, read, entries)?;
         *entries_size = end;
         *buf = rest;
         Ok(LogItem {
@@ -258,7 +258,7 @@ impl LogItemContent {
     ///
     /// `AllocError` if there is no memory for the bytes. `buf` may have more bytes at its end then, which the
     /// caller cuts off.
-    fn write(&self, buf: &mut Vec<u8>) -> AllocResult<()>
+    fn append_to(&self, buf: &mut Vec<u8>) -> AllocResult<()>
         ensures ok { OnOk result (buf.new.items
             ≡ buf.old.items ++ content_bytes (content_of self.now)) }
         ensures err { OnErr result (Keeps buf.old.items buf.new.items) }
@@ -266,15 +266,15 @@ impl LogItemContent {
         match self {
             LogItemContent::EntryIndexes(entries) => {
                 buf.push(TYPE_ENTRIES)?;
-                entries.write(buf)
+                entries.append_to(buf)
             }
             LogItemContent::Command(command) => {
                 buf.push(TYPE_COMMAND)?;
-                command.write(buf)
+                command.append_to(buf)
             }
             LogItemContent::Kv(kv) => {
                 buf.push(TYPE_KV)?;
-                kv.write(buf)
+                kv.append_to(buf)
             }
         }
     }
@@ -286,7 +286,7 @@ impl LogItemContent {
 /// # Errors
 ///
 /// `Memory` alone, and only for a change of a key.
-fn made_content(
+fn copy_content_with_entries(
     alloc: Global,
     content: ReadContent<'_>,
     entries: Vec<EntryIndex>,
@@ -299,11 +299,11 @@ fn made_content(
         ReadContent::Run { .. } => Ok(LogItemContent::EntryIndexes(EntryIndexes(entries))),
         ReadContent::Command(command) => Ok(LogItemContent::Command(command)),
         ReadContent::Put { key, value } => {
-            let kv = KeyValue::copied(alloc, key, Some(value), None)?;
+            let kv = KeyValue::from_slices(alloc, key, Some(value), None)?;
             Ok(LogItemContent::Kv(kv))
         }
         ReadContent::Delete { key } => {
-            let kv = KeyValue::copied(alloc, key, None, None)?;
+            let kv = KeyValue::from_slices(alloc, key, None, None)?;
             Ok(LogItemContent::Kv(kv))
         }
     }

@@ -5,7 +5,7 @@ ghost use Rattle.raft_records.specs.Common.{into_iter_items, into_iter_len, iter
 ghost use Rattle.raft_records.specs.Common.{AreInBytes, IsInBytes, IsItemBatch, IsDecoded, IsItemBatchFault, checksum_bytes, item_batch_bytes, placed_item, raised_item, with_offsets_from, entry_lengths, entry_bytes_of, FitsBehind};
 ghost use Rattle.raft_records.specs.Common.{IsEncoded, no_checksum, FitTogether, first_entry, IsMemoryOrMessage, Keeps, item_batch_size, at_most_usize, HaveSmallNumbers, AreInRange, Put, Del, partial_equiv_from_equiv};
 
-use crate::checksum::{LOG_BATCH_CHECKSUM_LEN, sign};
+use crate::checksum::{LOG_BATCH_CHECKSUM_LEN, sign_checksum};
 use crate::number::append_number;
 use crate::{Command, LogItem, LogItemContent, OpType, ReadBatch};
 use byteorder::{ByteOrder, LittleEndian};
@@ -178,7 +178,7 @@ impl LogItemBatch {
     {
         let start = self.entries_size();
         let end = set_offsets(&mut entry_indexes, start);
-        Ok(self.add(LogItem::new_entry_indexes(region, entry_indexes), end)?)
+        Ok(self.push_item(LogItem::new_entry_indexes(region, entry_indexes), end)?)
     }
 
     /// Adds entries of `region`, whose offsets are set already, as one item. `end` is the offset at which
@@ -188,7 +188,7 @@ impl LogItemBatch {
     ///
     /// `AllocError` if there is no memory for the item. The batch is unchanged then, and `entry_indexes` is
     /// dropped.
-    pub(crate) fn add_laid_entries(
+    pub(crate) fn add_entries_with_offsets(
         &mut self,
         region: u64,
         entry_indexes: Vec<EntryIndex>,
@@ -199,7 +199,7 @@ impl LogItemBatch {
         ensures ok { OnOk result (self.new ≡ self.old ++ entries_item region entry_indexes.items ∷ []) }
         ensures err { OnErr result (self.new ≡ self.old) }
     {
-        self.add(LogItem::new_entry_indexes(region, entry_indexes), end)
+        self.push_item(LogItem::new_entry_indexes(region, entry_indexes), end)
     }
 
     /// Adds a command on the log of `region`.
@@ -213,7 +213,7 @@ impl LogItemBatch {
         ensures memory { IfErr result (λ e. e ≡ Error.Memory) }
     {
         let entries_size = self.entries_size;
-        Ok(self.add(LogItem::new_command(region, command), entries_size)?)
+        Ok(self.push_item(LogItem::new_command(region, command), entries_size)?)
     }
 
     /// Adds the deletion of `key` in `region`.
@@ -229,7 +229,7 @@ impl LogItemBatch {
     {
         let entries_size = self.entries_size();
         let item = LogItem::new_kv(region, OpType::Del, key, None);
-        Ok(self.add(item, entries_size)?)
+        Ok(self.push_item(item, entries_size)?)
     }
 
     /// Adds a put of `value` under `key` in `region`.
@@ -245,7 +245,7 @@ impl LogItemBatch {
     {
         let entries_size = self.entries_size();
         let item = LogItem::new_kv(region, OpType::Put, key, Some(value));
-        Ok(self.add(item, entries_size)?)
+        Ok(self.push_item(item, entries_size)?)
     }
 
     /// Adds a put of the bytes of `message` under `key` in `region`.
@@ -314,11 +314,11 @@ impl LogItemBatch {
 
     /// Sets the place of all entries to `handle` and their compression type to `compression_type`, and the
     /// file of all key values to that of `handle`.
-    pub(crate) fn place(&mut self, handle: FileBlockHandle, compression_type: CompressionType)
+    pub(crate) fn set_places(&mut self, handle: FileBlockHandle, compression_type: CompressionType)
         ensures { self.new ≡ map (placed_item handle compression_type) self.old }
     {
         self.decoded_in = None;
-        place_items(&mut self.items, handle, compression_type);
+        set_item_places(&mut self.items, handle, compression_type);
     }
 
     /// Appends the bytes of the batch to `buf`, with four zero bytes in place of the checksum, which
@@ -356,7 +356,10 @@ impl LogItemBatch {
             Some(checksum) => checksum,
             None => crc32(&buf[..end]),
         };
-        LittleEndian::write_u32(&mut buf[end..], sign(checksum, context.get_signature()));
+        LittleEndian::write_u32(
+            &mut buf[end..],
+            sign_checksum(checksum, context.get_signature()),
+        );
     }
 
     /// Reads an item batch, which all of `buf` must be, in the file of `context`. Each entry gets the place
@@ -412,7 +415,7 @@ impl LogItemBatch {
     ///
     /// `AllocError` if there is no memory for the item. The batch is unchanged then, and `item` is dropped.
     #[inline(always)]
-    pub(crate) fn add(&mut self, item: LogItem, entries_size: u32) -> AllocResult<()>
+    pub(crate) fn push_item(&mut self, item: LogItem, entries_size: u32) -> AllocResult<()>
         requires fits { FitsBehind (entry_bytes_of self.old) (content_of item.content) }
         requires in_bytes { IsInBytes (content_of item.content) }
         requires end { entries_size
@@ -495,7 +498,7 @@ fn write_items(buf: &mut Vec<u8>, items: &[LogItem]) -> AllocResult<()>
 {
     append_number(buf, items.len() as u64)?;
     for item in items {
-        item.write(buf)?;
+        item.append_to(buf)?;
     }
     buf.extend_from_slice(&[0; LOG_BATCH_CHECKSUM_LEN])?;
     Ok(())
@@ -503,12 +506,16 @@ fn write_items(buf: &mut Vec<u8>, items: &[LogItem]) -> AllocResult<()>
 
 /// Sets the place of all entries of `items` to `handle` and their compression type to `compression_type`, and
 /// the file of all key values to that of `handle`.
-fn place_items(items: &mut Vec<LogItem>, handle: FileBlockHandle, compression_type: CompressionType)
+fn set_item_places(
+    items: &mut Vec<LogItem>,
+    handle: FileBlockHandle,
+    compression_type: CompressionType,
+)
     ensures { map item_of items.new.items
         ≡ map (placed_item handle compression_type) (map item_of items.old.items) }
 {
     for item in items.iter_mut() {
-        item.place(handle, compression_type);
+        item.set_place(handle, compression_type);
     }
 }
 

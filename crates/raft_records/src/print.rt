@@ -65,13 +65,13 @@ pub fn write_whole<W: Write>(writer: &mut W, bytes: &[u8]) -> Result<()>
         if rest.is_empty() {
             break;
         }
-        let count = write_some(writer, rest)?;
+        let count = write_prefix(writer, rest)?;
         rest = &rest[count..];
     }
     if rest.is_empty() {
         Ok(())
     } else {
-        Err(unwritten())
+        Err(write_zero_error())
     }
 }
 
@@ -81,7 +81,7 @@ pub fn write_whole<W: Write>(writer: &mut W, bytes: &[u8]) -> Result<()>
 /// # Errors
 ///
 /// `Io` if the writer fails or takes no bytes. Nothing was written then.
-fn write_some<W: Write>(writer: &mut W, bytes: &[u8]) -> Result<usize>
+fn write_prefix<W: Write>(writer: &mut W, bytes: &[u8]) -> Result<usize>
     ensures bound { IfOk result (λ count. count ≤ length bytes.now) }
     ensures ok { IfOk result
         (λ count. Appends (W.contents writer.old) (W.contents writer.new) (take count bytes.now)) }
@@ -89,7 +89,7 @@ fn write_some<W: Write>(writer: &mut W, bytes: &[u8]) -> Result<usize>
     ensures fault { IfErr result IsIoError }
 {
     match writer.write(bytes) {
-        Ok(0) => Err(unwritten()),
+        Ok(0) => Err(write_zero_error()),
         Ok(count) => Ok(count),
         Err(error) if error.kind() == ErrorKind::Interrupted => Ok(0),
         Err(error) => Err(Error::Io(error)),
@@ -97,7 +97,7 @@ fn write_some<W: Write>(writer: &mut W, bytes: &[u8]) -> Result<usize>
 }
 
 /// Returns the error for a writer that takes no more bytes: `Io` of the kind `WriteZero`.
-fn unwritten() -> Error
+fn write_zero_error() -> Error
     ensures { IsIoError result }
 {
     Error::Io(io::Error::new(ErrorKind::WriteZero, "the writer takes no more"))
@@ -216,16 +216,16 @@ fn append_key_value(alloc: Global, kv: &KeyValue, text: &mut String) -> AllocRes
     match kv.op_type {
         OpType::Put => {
             text.push_str("put ")?;
-            append_bytes(alloc, kv.key.as_slice(), text)?;
+            append_hex(alloc, kv.key.as_slice(), text)?;
             text.push(' ')?;
             match &kv.value {
-                Some(value) => append_bytes(alloc, value.as_slice(), text),
-                None => append_bytes(alloc, &[], text),
+                Some(value) => append_hex(alloc, value.as_slice(), text),
+                None => append_hex(alloc, &[], text),
             }
         }
         OpType::Del => {
             text.push_str("del ")?;
-            append_bytes(alloc, kv.key.as_slice(), text)
+            append_hex(alloc, kv.key.as_slice(), text)
         }
     }
 }
@@ -235,7 +235,7 @@ fn append_key_value(alloc: Global, kv: &KeyValue, text: &mut String) -> AllocRes
 /// # Errors
 ///
 /// `AllocError` if there is no memory for them.
-fn append_bytes(alloc: Global, bytes: &[u8], text: &mut String) -> AllocResult<()>
+fn append_hex(alloc: Global, bytes: &[u8], text: &mut String) -> AllocResult<()>
     ensures { OnOk result (string_bytes text.new ≡ string_bytes text.old ++ bytes_text bytes.now) }
 {
     if bytes.is_empty() {

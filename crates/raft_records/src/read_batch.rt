@@ -213,7 +213,7 @@ impl<'a> ReadBatch<'a> {
         for item in &self.items {
             let (own, rest) = spans.split_at(item.span_count());
             let end = end_of_spans(own, batch.entries_size());
-            batch.add(item.to_item(alloc, self.place, own)?, end)?;
+            batch.push_item(item.to_item(alloc, self.place, own)?, end)?;
             spans = rest;
         }
         Ok(batch.with_file(self.place.id))
@@ -264,7 +264,7 @@ impl ReadItem<'_> {
     {
         Ok(LogItem {
             raft_group_id: self.region,
-            content: own_content(alloc, place, &self.content, spans)?,
+            content: copy_content_with_spans(alloc, place, &self.content, spans)?,
         })
     }
 }
@@ -275,7 +275,7 @@ impl ReadItem<'_> {
 /// # Errors
 ///
 /// `Memory` alone.
-fn own_content(
+fn copy_content_with_spans(
     alloc: Global,
     place: FileBlockHandle,
     content: &ReadContent<'_>,
@@ -287,16 +287,16 @@ fn own_content(
 {
     match content {
         ReadContent::Run { first, .. } => {
-            let run = entries_at(alloc, *first, place, spans)?;
+            let run = entries_from_spans(alloc, *first, place, spans)?;
             Ok(LogItemContent::EntryIndexes(EntryIndexes(run)))
         }
         ReadContent::Command(command) => Ok(LogItemContent::Command(command.clone()?)),
         ReadContent::Put { key, value } => {
-            let kv = KeyValue::copied(alloc, key, Some(value), Some(place.id))?;
+            let kv = KeyValue::from_slices(alloc, key, Some(value), Some(place.id))?;
             Ok(LogItemContent::Kv(kv))
         }
         ReadContent::Delete { key } => {
-            let kv = KeyValue::copied(alloc, key, None, Some(place.id))?;
+            let kv = KeyValue::from_slices(alloc, key, None, Some(place.id))?;
             Ok(LogItemContent::Kv(kv))
         }
     }
@@ -308,7 +308,7 @@ fn own_content(
 /// # Errors
 ///
 /// `Memory` alone.
-fn entries_at(
+fn entries_from_spans(
     alloc: Global,
     first: u64,
     place: FileBlockHandle,

@@ -87,7 +87,7 @@ impl LogBatch {
         }
         reserve_header(&mut self.buf)?;
         let start = self.buf.len();
-        if let Err(e) = write_strings(
+        if let Err(e) = write_raw_entries(
             &mut self.buf,
             &mut self.item_batch,
             region,
@@ -132,7 +132,7 @@ impl LogBatch {
         }
         reserve_header(&mut self.buf)?;
         let start = self.buf.len();
-        if let Err(e) = write_joined(
+        if let Err(e) = write_joined_entries(
             &mut self.buf,
             &mut self.item_batch,
             region,
@@ -172,7 +172,7 @@ impl LogBatch {
         if own + others > MAX_LOG_ENTRIES_SIZE_PER_BATCH {
             return Err(Error::Full);
         }
-        reserve_behind(&mut self.buf, rhs.buf.len())?;
+        reserve_for_entry_bytes(&mut self.buf, rhs.buf.len())?;
         self.item_batch.merge(&mut rhs.item_batch)?;
         move_entry_bytes(&mut self.buf, &mut rhs.buf);
         Ok(())
@@ -187,7 +187,7 @@ impl LogBatch {
 ///
 /// `Full` if the batch would have more than 2^31 - 1 entry bytes; `Memory`. `item_batch` is unchanged then;
 /// `buf` may have more bytes at its end, which the caller cuts off.
-fn write_strings(
+fn write_raw_entries(
     buf: &mut Vec<u8>,
     item_batch: &mut LogItemBatch,
     region: u64,
@@ -210,7 +210,7 @@ fn write_strings(
         × (2 ^ 31
         ≤ entry_bytes_of item_batch.old + length (concat (map (λ e. e.items) entries.now)))) }
 {
-    append_strings(buf, &mut entry_indexes, entries)?;
+    append_raw_entries(buf, &mut entry_indexes, entries)?;
     item_batch.add_entry_indexes(region, entry_indexes)
 }
 
@@ -221,7 +221,7 @@ fn write_strings(
 ///
 /// `Full` if the batch would have more than 2^31 - 1 entry bytes; `Memory`. `buf` may have more bytes at its
 /// end then, and some lengths may be set.
-fn append_strings(
+fn append_raw_entries(
     buf: &mut Vec<u8>,
     entry_indexes: &mut Vec<EntryIndex>,
     entries: &[Vec<u8>],
@@ -255,7 +255,7 @@ fn append_strings(
 ///
 /// `Full` if the batch would have more than 2^31 - 1 entry bytes; `Memory`. `item_batch` is unchanged then;
 /// `buf` may have more bytes at its end, which the caller cuts off.
-fn write_joined(
+fn write_joined_entries(
     buf: &mut Vec<u8>,
     item_batch: &mut LogItemBatch,
     region: u64,
@@ -321,7 +321,7 @@ fn write_messages<M: MessageExt>(
     }
     append_messages::<M>(buf, &mut entry_indexes, entries)?;
     let end = (buf.len() - LOG_BATCH_HEADER_LEN) as u32;
-    Ok(item_batch.add_laid_entries(region, entry_indexes, end)?)
+    Ok(item_batch.add_entries_with_offsets(region, entry_indexes, end)?)
 }
 
 /// Tests whether the indexes of `entries` rise by one from each entry to the next, and none of them is 2^64 -
@@ -393,7 +393,7 @@ fn append_messages<M: MessageExt>(
 /// # Errors
 ///
 /// `AllocError` if there is no memory for the room. The bytes of `buf` stay the same in any case.
-fn reserve_behind(buf: &mut Vec<u8>, len: usize) -> AllocResult<()>
+fn reserve_for_entry_bytes(buf: &mut Vec<u8>, len: usize) -> AllocResult<()>
     ensures same { buf.new.items ≡ buf.old.items }
     ensures room { OnOk result (16 < length buf.old.items →
         length buf.old.items + (len - 16) ≤ vec_capacity buf.new) }
@@ -405,7 +405,7 @@ fn reserve_behind(buf: &mut Vec<u8>, len: usize) -> AllocResult<()>
 }
 
 /// Moves the entry bytes of the buffer `others` to the end of `buf`, which has room for them
-/// ([`reserve_behind`]). `others` is left empty, with at most 8 MiB allocated.
+/// ([`reserve_for_entry_bytes`]). `others` is left empty, with at most 8 MiB allocated.
 fn move_entry_bytes(buf: &mut Vec<u8>, others: &mut Vec<u8>)
     requires { 16 < length buf.old.items →
         length buf.old.items + (length others.old.items - 16) ≤ vec_capacity buf.old }

@@ -9,7 +9,7 @@ ghost use Rattle.std.specs.Prelude.{◌≡◌, ◌≢◌, ◌⊎◌, List, [], I
 ghost use Rattle.raft_records.specs.Common.{Reads, HasNoFront, IsContentFault, IsEntriesFault, IsItemFault, IsMemory, IsTailsFault, AreTails, IsContent, IsEntries, IsItem, Item, AreItems, AreItemsFault, AreEntriesRead, AreHeldAs};
 ghost use Rattle.raft_records.specs.Common.{AreTailsRead, IsContentRead, IsItemRead, reached, EntryIndex, entry_between, span_of, vec_len, vec_capacity, IsByteString, IsKeyValue, Pair, pair, IsHeldAs};
 
-use crate::entry_indexes::{parse_tail, short_tail};
+use crate::entry_indexes::{parse_short_tail, parse_tail};
 use crate::key_value::parse_pair;
 use crate::log_item::{TYPE_COMMAND, TYPE_ENTRIES, TYPE_KV};
 use crate::{Command, ReadContent, ReadItem};
@@ -225,7 +225,7 @@ fn read_tails<'a, T: Kept>(
     // Where none of their indexes is 2^64 - 1, no index is tested by itself.
     let bounded = count <= u64::MAX - first;
     for _ in 0..count {
-        let (tail, behind) = match short_tail(rest, offset, bounded) {
+        let (tail, behind) = match parse_short_tail(rest, offset, bounded) {
             Some(read) => read,
             None => parse_tail(alloc, rest, index, offset)?,
         };
@@ -349,7 +349,7 @@ fn read_short_spans<'a>(
     let mut rest = bytes;
     let mut offset = start;
     for _ in 0..count {
-        let Some((tail, behind)) = short_tail(rest, offset, true) else {
+        let Some((tail, behind)) = parse_short_tail(rest, offset, true) else {
             spans.truncate(len);
             return None;
         };

@@ -6,8 +6,8 @@ use Rattle.raft_records.proofs.log_batch.LogBatch.add_joined_entries.Goals as go
 pub invariant_of-self : goal.invariant_of-self
 invariant_of-self c = reheld (open_of c.self.view_is c.requires.open) c.self.invariant c.reserve_header.ensures.same
 
-pub write_joined-requires-clause-whole : goal.write_joined-requires-clause-whole
-write_joined-requires-clause-whole c =
+pub write_joined_entries-requires-clause-whole : goal.write_joined_entries-requires-clause-whole
+write_joined_entries-requires-clause-whole c =
     reserved_len c.reserve_header.new.buf.items (open_of c.self.view_is c.requires.open) c.self.invariant c.in_ok-reserve_header.ensures.ok c.reserve_header.ensures.same
 
 pub invariant_of-self-in-Err : goal.invariant_of-self-in-Err

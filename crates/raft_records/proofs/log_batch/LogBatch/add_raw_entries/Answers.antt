@@ -6,8 +6,8 @@ use Rattle.raft_records.proofs.log_batch.LogBatch.add_raw_entries.Goals as goal
 pub invariant_of-self : goal.invariant_of-self
 invariant_of-self c = reheld (open_of c.self.view_is c.requires.open) c.self.invariant c.reserve_header.ensures.same
 
-pub write_strings-requires-clause-whole : goal.write_strings-requires-clause-whole
-write_strings-requires-clause-whole c =
+pub write_raw_entries-requires-clause-whole : goal.write_raw_entries-requires-clause-whole
+write_raw_entries-requires-clause-whole c =
     reserved_len c.reserve_header.new.buf.items (open_of c.self.view_is c.requires.open) c.self.invariant c.in_ok-reserve_header.ensures.ok c.reserve_header.ensures.same
 
 pub invariant_of-self-in-Err : goal.invariant_of-self-in-Err

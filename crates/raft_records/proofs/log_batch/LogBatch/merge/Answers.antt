@@ -9,7 +9,7 @@ held : (c : goal.After-move_entry_bytes) →
     (entry_bytes_in c.merge.new.self c.move_entry_bytes.new.buf.items ≡ entry_bytes_in c.self.inside.item_batch
     c.self.inside.buf.items ++ entry_bytes_in c.rhs.inside.item_batch c.rhs.inside.buf.items)
 held c =
-    let bytes = rw c.reserve_behind.ensures.same at c.move_entry_bytes.ensures.joined in
+    let bytes = rw c.reserve_for_entry_bytes.ensures.same at c.move_entry_bytes.ensures.joined in
     let fits : entry_bytes_of c.self.inside.item_batch + entry_bytes_of c.rhs.inside.item_batch < 2 ^ 31 = omega (
       arith,
       c.entries_size.ensures,

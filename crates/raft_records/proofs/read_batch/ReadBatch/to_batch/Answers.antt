@@ -11,14 +11,14 @@ end_of_spans-end-requires c =
 pub to_item-requires : goal.to_item-requires
 to_item-requires c = (next_item c.loop-item.invariant c.loop-item-test.true c.split_at.ensures.front c.span_count.ensures c.entries_size.ensures).in_file
 
-pub add-requires-clause-end : goal.add-requires-clause-end
-add-requires-clause-end c =
+pub push_item-requires-clause-end : goal.push_item-requires-clause-end
+push_item-requires-clause-end c =
     let next = next_item c.loop-item.invariant c.loop-item-test.true c.split_at.ensures.front c.span_count.ensures c.entries_size.ensures in
     copied_end next c.end_of_spans-end.ensures c.entries_size.ensures (ap (λ x. x.content) c.in_ok-to_item.ensures.ok)
 
 pub loop-item-preserved : goal.loop-item-preserved
 loop-item-preserved c =
-    let added = c.in_ok-add.ensures.ok ∙ ap (λ (x : Item). c.loop-item.batch ++ x ∷ []) c.in_ok-to_item.ensures.ok in
+    let added = c.in_ok-push_item.ensures.ok ∙ ap (λ (x : Item). c.loop-item.batch ++ x ∷ []) c.in_ok-to_item.ensures.ok in
     one_more_copied c.loop-item.invariant c.loop-item-test.true c.split_at.ensures.front c.split_at.ensures.back c.span_count.ensures added
 
 pub with_file-requires : goal.with_file-requires

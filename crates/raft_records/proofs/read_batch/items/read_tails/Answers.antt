@@ -18,9 +18,9 @@ returns-in_err-tail-in-None-clause-fault g c =
 pub loop-preserved : goal.loop-preserved
 loop-preserved g c =
     let so = c.loop.invariant in
-    let tail = c.match-short_tail.tail in
+    let tail = c.match-parse_short_tail.tail in
     let r : Reads (IsTail (c.loop.index, c.loop.offset)) c.loop.rest.now tail.1.now (entry_between c.loop.index c.loop.offset tail.0)
-    × (c.loop.offset ≤ tail.0) × (length tail.1.now < length c.loop.rest.now) = elim c.match-short_tail.branch [
+    × (c.loop.offset ≤ tail.0) × (length tail.1.now < length c.loop.rest.now) = elim c.match-parse_short_tail.branch [
       | in-Some w ↦ rw w.tail-is (
         w.in-Some.ensures.read c.loop.index
             (let b : c.args.count ≤ 18446744073709551615 - c.args.first = leb-true _ _ w.in-Some.ensures.bounded in omega (arith, b, so.4, c.loop-test.true)),

@@ -1,6 +1,6 @@
 use Rattle.raft_records.proofs.Common.{◌≡◌, ◌+◌, ◌^◌, ◌<◌, ◌≤◌, ◌++◌, ◌∙◌, List, ℕ, length, refl, ap, arith, length-append}
 use Rattle.raft_records.proofs.StringLemmas.{past_limit, strung_next}
-use Rattle.raft_records.proofs.log_batch.entries.append_strings.Goals as goal
+use Rattle.raft_records.proofs.log_batch.entries.append_raw_entries.Goals as goal
 
 pub returns-then-len-gt-MOST_OPEN_BYTES-clause-fault : goal.returns-then-len-gt-MOST_OPEN_BYTES-clause-fault
 returns-then-len-gt-MOST_OPEN_BYTES-clause-fault c ne =

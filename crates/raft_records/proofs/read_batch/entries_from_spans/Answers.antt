@@ -1,6 +1,6 @@
 use Rattle.raft_records.proofs.Common.{◌++◌, ap, sym, ◌∙◌, arith, drop_of_length-le, entries_of_block, append-nil}
 use Rattle.raft_records.proofs.CopyLemmas.{one_more, next_bounded}
-use Rattle.raft_records.proofs.read_batch.entries_at.Goals as goal
+use Rattle.raft_records.proofs.read_batch.entries_from_spans.Goals as goal
 
 pub loop-entry_offset-init : goal.loop-entry_offset-init
 loop-entry_offset-init c = (

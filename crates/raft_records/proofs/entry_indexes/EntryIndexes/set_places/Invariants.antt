@@ -1,5 +1,5 @@
 use Rattle.raft_records.proofs.Common.{◌≡◌, ◌++◌, map, take, drop, placed_entry}
-use Rattle.raft_records.proofs.entry_indexes.EntryIndexes.place.Given as goal
+use Rattle.raft_records.proofs.entry_indexes.EntryIndexes.set_places.Given as goal
 
 -- the entries so far have their place
 abbrev pub invariant-loop-entry : goal.invariant-loop-entry

@@ -1,6 +1,6 @@
 use Rattle.raft_records.proofs.Common.{◌≡◌, ◌+◌, arith, ◌++◌, ◌∷◌, [], map, ap, ◌∙◌, map-append, item_of, item_size, at_most_usize}
 use Rattle.raft_records.proofs.BatchLemmas.{kept_push}
-use Rattle.raft_records.proofs.log_item_batch.LogItemBatch.add.Goals as goal
+use Rattle.raft_records.proofs.log_item_batch.LogItemBatch.push_item.Goals as goal
 
 pub invariant_of-self-2 : goal.invariant_of-self-2
 invariant_of-self-2 c =

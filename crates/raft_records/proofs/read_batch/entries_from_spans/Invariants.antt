@@ -1,6 +1,6 @@
 use Rattle.raft_records.proofs.Common.{◌≡◌, ◌≤◌, length, vec_len, vec_capacity}
 use Rattle.raft_records.proofs.CopyLemmas.{IsSoFar}
-use Rattle.raft_records.proofs.read_batch.entries_at.Given as goal
+use Rattle.raft_records.proofs.read_batch.entries_from_spans.Given as goal
 
 -- the run so far, which has one entry for each span that was seen, and room for all
 abbrev pub invariant-loop-entry_offset : goal.invariant-loop-entry_offset

@@ -1,5 +1,5 @@
 use Rattle.raft_records.proofs.Common.{arith, get_or_default, map_over_more, placed_entry}
-use Rattle.raft_records.proofs.entry_indexes.EntryIndexes.place.Goals as goal
+use Rattle.raft_records.proofs.entry_indexes.EntryIndexes.set_places.Goals as goal
 
 pub loop-entry-preserved : goal.loop-entry-preserved
 loop-entry-preserved c =

@@ -1,5 +1,5 @@
 use Rattle.raft_records.proofs.Common.{◌↔◌, drop, Tile, RunOn}
-use Rattle.raft_records.proofs.entry_indexes.runs_on.Given as goal
+use Rattle.raft_records.proofs.entry_indexes.is_contiguous.Given as goal
 
 -- what is left to see decides
 abbrev pub invariant-loop-entry : goal.invariant-loop-entry

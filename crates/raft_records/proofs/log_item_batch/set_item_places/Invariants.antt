@@ -1,5 +1,5 @@
 use Rattle.raft_records.proofs.Common.{◌≡◌, ◌++◌, map, take, drop, item_of, placed_item}
-use Rattle.raft_records.proofs.log_item_batch.place_items.Given as goal
+use Rattle.raft_records.proofs.log_item_batch.set_item_places.Given as goal
 
 -- the items so far have their place
 abbrev pub invariant-loop-item : goal.invariant-loop-item

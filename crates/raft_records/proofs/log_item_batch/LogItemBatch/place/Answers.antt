@@ -1,7 +1,0 @@
-use Rattle.raft_records.proofs.Common.{map, item_of}
-use Rattle.raft_records.proofs.BatchLemmas.{placed_kept}
-use Rattle.raft_records.proofs.log_item_batch.LogItemBatch.place.Goals as goal
-
-pub invariant_of-self : goal.invariant_of-self
-invariant_of-self c =
-    rw c.place_items.ensures (placed_kept c.args.handle c.args.compression_type (map item_of c.self.inside.items.items) c.self.inside.item_size c.self.inside.entries_size c.self.inside.checksum c.self.invariant.0, tt)

@@ -57,7 +57,7 @@ fn read_block(part: &FilePart, place: FileBlockHandle) -> Result<ReadBlock<'_>>
 /// # Errors
 ///
 /// `Memory` alone.
-pub(crate) fn first_block<'a>(
+pub(crate) fn read_first_block<'a>(
     part: &'a FilePart,
     items: &[LogItem],
 ) -> Result<Option<ReadBlock<'a>>>
@@ -65,7 +65,7 @@ pub(crate) fn first_block<'a>(
     ensures memory { IfErr result (λ e. e ≡ Error.Memory) }
 {
     for item in items {
-        if let Some(place) = first_place(item) {
+        if let Some(place) = first_block_place(item) {
             let block = read_block(part, place)?;
             return Ok(Some(block));
         }
@@ -88,14 +88,14 @@ pub fn needed_block<'a>(
     ensures memory { IfErr result (λ e. e ≡ Error.Memory) }
 {
     if selection.values {
-        return first_block(part, items);
+        return read_first_block(part, items);
     }
     Ok(None)
 }
 
 /// Returns the place of the entry block that the first entry of `item` names. `None` if the item has no entries, or the first one names no
 /// block.
-fn first_place(item: &LogItem) -> Option<FileBlockHandle> {
+fn first_block_place(item: &LogItem) -> Option<FileBlockHandle> {
     match &item.content {
         LogItemContent::EntryIndexes(entries) => entries.0.first()?.entries,
         LogItemContent::Command(_) | LogItemContent::Kv(_) => None,
@@ -109,7 +109,7 @@ fn first_place(item: &LogItem) -> Option<FileBlockHandle> {
 ///
 /// `Memory` alone.
 #[tactic(auto, using(crate::proofs::LossLemmas::bytes_can_be_read))]
-pub(crate) fn loss_of(
+pub(crate) fn loss_of_entry(
     part: &FilePart,
     entry: &EntryIndex,
     known: Option<ReadBlock<'_>>,
@@ -143,7 +143,7 @@ pub fn bytes_of_entry<'a>(
         return Ok(BytesOfEntry::Lost(Loss::Unplaced));
     };
     let block = block_at(part, place, known)?;
-    Ok(bytes_in(block, entry))
+    Ok(entry_bytes_in_block(block, entry))
 }
 
 /// Returns the block at `place`: `known` if it stands there, else the one that is read from the part.
@@ -171,7 +171,7 @@ fn block_at<'a>(
 }
 
 /// Returns the bytes of `entry`, which is in `block`, or the reason why they can't be read: the block can't be, or is too short.
-fn bytes_in<'a>(block: ReadBlock<'a>, entry: &EntryIndex) -> BytesOfEntry<'a>
+fn entry_bytes_in_block<'a>(block: ReadBlock<'a>, entry: &EntryIndex) -> BytesOfEntry<'a>
     ensures { (part : Part) → IsReadBlock part block.entry → entry.now.entries ≡ Some block.entry.place
         → IsReadOf part entry.now result }
 {

@@ -71,7 +71,7 @@ pub fn append_reason(reason: &Error, text: &mut String) -> AllocResult<()>
         Error::Corruption(why) => append_named_reason("Corruption: ", why, text),
         Error::TryAgain(why) => append_named_reason("TryAgain Error: ", why, text),
         Error::Other(why) => append_named_reason("Other Error: ", why, text),
-        Error::Io(why) => text.push_str(io_words(why)),
+        Error::Io(why) => text.push_str(io_error_words(why)),
         Error::Codec(_) => text.push_str("Codec Error: a number is cut short, or is none"),
         Error::Message(_) => text.push_str("Message Error"),
         Error::EntryCompacted => text.push_str("Entry Compacted"),
@@ -83,7 +83,7 @@ pub fn append_reason(reason: &Error, text: &mut String) -> AllocResult<()>
 }
 
 /// Returns the words for a read or a write that failed. Only an early end of the bytes is told from other failures.
-fn io_words(error: &io::Error) -> &'static str
+fn io_error_words(error: &io::Error) -> &'static str
     ensures { result.now ≡ io_words (error_kind error.now) }
 {
     match error.kind() {
@@ -102,13 +102,13 @@ fn append_named_reason(name: &str, why: &String, text: &mut String) -> AllocResu
 {
     text.push_str(name)?;
     for letter in why.chars() {
-        text.push(unbroken(letter))?;
+        text.push(replace_line_break(letter))?;
     }
     Ok(())
 }
 
 /// Returns a space for a line break, and any other character unchanged.
-fn unbroken(letter: char) -> char
+fn replace_line_break(letter: char) -> char
     ensures { result ≡ unbroken letter }
 {
     if letter == '\n' { ' ' } else { letter }

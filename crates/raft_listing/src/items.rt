@@ -10,7 +10,7 @@ ghost use Rattle.raft_listing.specs.Dumped.{Adds, AreContents, AreEntryLines, Ar
 use crate::blocks::{BytesOfEntry, ReadBlock, bytes_of_entry, needed_block};
 use crate::damage::Loss;
 use crate::selection::Selection;
-use crate::shown::append_shown;
+use crate::shown::append_quoted_or_hex;
 use raft_base::{AllocResult, EntryIndex, Error, FileBlockHandle, Result};
 use raft_records::{
     AtomicGroupStatus, Command, FilePart, KeyValue, LogItem, LogItemContent, OpType,
@@ -93,7 +93,7 @@ fn append_content(
             append_entries(part, entries.0.as_slice(), selection, known, text)
         }
         LogItemContent::Command(command) => Ok(append_command(command, text)?),
-        LogItemContent::Kv(change) => append_change(part, item, change, selection, text),
+        LogItemContent::Kv(change) => append_key_change(part, item, change, selection, text),
     }
 }
 
@@ -110,7 +110,7 @@ fn append_command(command: &Command, text: &mut String) -> AllocResult<()>
 
 /// Appends what is done to a key, and ends the line. If the key value marks a batch of an atomic group, the line says whether the group
 /// begins, goes on or ends there. `change` is the content of `item`.
-fn append_change(
+fn append_key_change(
     part: &FilePart,
     item: &LogItem,
     change: &KeyValue,
@@ -124,9 +124,9 @@ fn append_change(
 {
     let alloc = part.allocator();
     text.push_str(op_words(change.op_type))?;
-    append_shown(alloc, change.key.as_slice(), text)?;
+    append_quoted_or_hex(alloc, change.key.as_slice(), text)?;
     append_value(part, &change.value, selection, text)?;
-    let status = status_of(part, item)?;
+    let status = group_status_of(part, item)?;
     text.push_str(status_words(status))?;
     text.push_str("\n")?;
     Ok(())
@@ -159,7 +159,7 @@ fn append_value(
         return write!(text, " {} bytes", value.len());
     }
     text.push_str(" = ")?;
-    append_shown(part.allocator(), value.as_slice(), text)
+    append_quoted_or_hex(part.allocator(), value.as_slice(), text)
 }
 
 /// Returns the place of the batch in an atomic group that `item` marks. `None` if the item is no group marker, or its byte stands for no
@@ -168,7 +168,7 @@ fn append_value(
 /// # Errors
 ///
 /// `Memory` alone.
-pub fn status_of(part: &FilePart, item: &LogItem) -> Result<Option<AtomicGroupStatus>>
+pub fn group_status_of(part: &FilePart, item: &LogItem) -> Result<Option<AtomicGroupStatus>>
     ensures ok { IfOk result (MarksGroup (item_of item.now)) }
     ensures memory { IfErr result (λ e. e ≡ Error.Memory) }
 {
@@ -211,7 +211,7 @@ fn append_entries(
         return Ok(());
     };
     append_entries_line(first, entries.len(), text)?;
-    append_lines_if_asked(part, entries, selection, known, text)
+    append_entry_lines_if_asked(part, entries, selection, known, text)
 }
 
 /// Appends the rest of an item's line: the indexes of `count` consecutive entries from `first` on, and the place of the block that `first`
@@ -221,12 +221,12 @@ fn append_entries_line(first: &EntryIndex, count: usize, text: &mut String) -> A
 {
     let end = first.index.saturating_add(count as u64);
     write!(text, "entries {}..{end}", first.index)?;
-    append_place(&first.entries, text)?;
+    append_block_place(&first.entries, text)?;
     text.push('\n')
 }
 
 /// Appends a line for each selected entry if values are selected; else nothing.
-fn append_lines_if_asked(
+fn append_entry_lines_if_asked(
     part: &FilePart,
     entries: &[EntryIndex],
     selection: &Selection,
@@ -245,7 +245,7 @@ fn append_lines_if_asked(
 }
 
 /// Appends the offset and the length in bytes of an entry block; nothing for `None`.
-fn append_place(place: &Option<FileBlockHandle>, text: &mut String) -> AllocResult<()>
+fn append_block_place(place: &Option<FileBlockHandle>, text: &mut String) -> AllocResult<()>
     ensures { OnOk result (string_bytes text.new ≡ string_bytes text.old ++ place_words place.now) }
 {
     match place {
@@ -267,14 +267,14 @@ fn append_entry_lines(
         (string_bytes text.old) (string_bytes text.new)) }
     ensures memory { IfErr result (λ e. e ≡ Error.Memory) }
 {
-    for index in entries {
-        append_line_if_selected(part, index, selection, known, text)?;
+    for entry in entries {
+        append_entry_if_selected(part, entry, selection, known, text)?;
     }
     Ok(())
 }
 
 /// Appends the line of an entry if it is selected; else nothing.
-fn append_line_if_selected(
+fn append_entry_if_selected(
     part: &FilePart,
     entry: &EntryIndex,
     selection: &Selection,
@@ -287,13 +287,13 @@ fn append_line_if_selected(
     ensures memory { IfErr result (λ e. e ≡ Error.Memory) }
 {
     if selection.has_entry(entry) {
-        return append_entry(part, entry, known, text);
+        return append_entry_line(part, entry, known, text);
     }
     Ok(())
 }
 
 /// Appends the line of an entry: its index, and its bytes or the reason why they can't be read.
-fn append_entry(
+fn append_entry_line(
     part: &FilePart,
     entry: &EntryIndex,
     known: Option<ReadBlock<'_>>,
@@ -332,7 +332,7 @@ fn append_bytes_or_loss(alloc: Global, read: BytesOfEntry<'_>, text: &mut String
     ensures { OnOk result (Adds (AreBytesShown read.entry) (string_bytes text.old) (string_bytes text.new)) }
 {
     match read {
-        BytesOfEntry::Read(bytes) => append_shown(alloc, bytes, text),
+        BytesOfEntry::Read(bytes) => append_quoted_or_hex(alloc, bytes, text),
         BytesOfEntry::Lost(loss) => append_loss(loss, text),
     }
 }

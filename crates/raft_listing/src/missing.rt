@@ -11,13 +11,13 @@ pub fn missing_between(last: Option<FileSeq>, next: FileSeq) -> Option<(FileSeq,
     ensures { result ≡ missing_between last next }
 {
     match last {
-        Some(last) => missing_behind(last, next),
+        Some(last) => numbers_between(last, next),
         None => None,
     }
 }
 
 /// Returns the first and the last of the numbers between `last` and `next`, without these two. `None` if there are none.
-fn missing_behind(last: FileSeq, next: FileSeq) -> Option<(FileSeq, FileSeq)>
+fn numbers_between(last: FileSeq, next: FileSeq) -> Option<(FileSeq, FileSeq)>
     ensures { result ≡ missing_behind last next }
 {
     if next.saturating_sub(last) > 1 {

@@ -9,7 +9,7 @@ ghost use Rattle.raft_listing.specs.Scanned.{AreSaidOf, AreSaidOfEntries, IsScan
 ghost use Rattle.raft_listing.specs.Stretches.{IsItemSaid, IsLonger, IsTakenIn, said_of_stretch, stretch_of};
 ghost use Rattle.raft_listing.specs.Walks.{AreVisited, Met};
 
-use crate::blocks::{ReadBlock, first_block, loss_of};
+use crate::blocks::{ReadBlock, loss_of_entry, read_first_block};
 use crate::damage::{Damage, DamageKind, Loss};
 use crate::walk::PartVisitor;
 use raft_base::{EntryIndex, Error, FileSeq, Result};
@@ -134,7 +134,7 @@ fn add_batch_losses(
         × AreSaidOf part.now offset (map item_of items.now) said) }
     ensures memory { IfErr result (λ e. e ≡ Error.Memory) }
 {
-    let known = first_block(part, items)?;
+    let known = read_first_block(part, items)?;
     for item in items {
         add_item_losses(part, offset, item, known, damages)?;
     }
@@ -181,8 +181,8 @@ fn add_entry_losses(
 {
     let mut stretch = None;
     for entry in entries {
-        let loss = loss_of(part, entry, known)?;
-        stretch = take_in_entry(offset, region, stretch, entry.index, loss, damages)?;
+        let loss = loss_of_entry(part, entry, known)?;
+        stretch = extend_or_end_stretch(offset, region, stretch, entry.index, loss, damages)?;
     }
     add_stretch(offset, region, stretch, damages)
 }
@@ -190,7 +190,7 @@ fn add_entry_losses(
 /// Takes in the next entry of an item: `loss` is why it can't be read, or `None`. It makes `stretch` longer if it can; else `stretch` is
 /// added to `damages`, and another one may begin with the entry. Returns the stretch that ends with the entry; `None` if the entry can be
 /// read.
-fn take_in_entry(
+fn extend_or_end_stretch(
     offset: u64,
     region: u64,
     stretch: Option<Stretch>,
@@ -205,7 +205,7 @@ fn take_in_entry(
         return Ok(Some(longer));
     }
     add_stretch(offset, region, stretch, damages)?;
-    Ok(stretch_of(index, loss))
+    Ok(stretch_of_one_entry(index, loss))
 }
 
 /// Returns `stretch` made longer by the entry with the index `index`. `None` if there is no stretch, the entry can be read, or it can't be
@@ -225,7 +225,7 @@ fn longer_stretch(stretch: Option<Stretch>, index: u64, loss: Option<Loss>) -> O
 }
 
 /// Returns the stretch of the entry with the index `index` alone; `None` if the entry can be read.
-fn stretch_of(index: u64, loss: Option<Loss>) -> Option<Stretch>
+fn stretch_of_one_entry(index: u64, loss: Option<Loss>) -> Option<Stretch>
     ensures { result ≡ stretch_of index loss }
 {
     let (first, last) = (index, index);

@@ -28,7 +28,7 @@ impl Selection {
     {
         self.has_region(item.raft_group_id)
             && match &item.content {
-                LogItemContent::EntryIndexes(entries) => self.has_any(entries.0.as_slice()),
+                LogItemContent::EntryIndexes(entries) => self.allows_entries(entries.0.as_slice()),
                 LogItemContent::Command(_) | LogItemContent::Kv(_) => true,
             }
     }
@@ -44,14 +44,14 @@ impl Selection {
     }
 
     /// Tests whether an item with these `entries` is printed, as far as indexes decide: one of them is selected, or there are none.
-    fn has_any(&self, entries: &[EntryIndex]) -> bool
+    fn allows_entries(&self, entries: &[EntryIndex]) -> bool
         ensures { result ≡ has_any self.now entries.now }
     {
-        entries.is_empty() || self.has_one(entries)
+        entries.is_empty() || self.has_any_entry(entries)
     }
 
     /// Tests whether one of the entries is selected by its index.
-    fn has_one(&self, entries: &[EntryIndex]) -> bool
+    fn has_any_entry(&self, entries: &[EntryIndex]) -> bool
         ensures { result ≡ has_one self.now entries.now }
     {
         for entry in entries {

@@ -15,7 +15,7 @@ use std::str;
 ///
 /// Fails only if there is no memory. Some of it may then be appended.
 #[tactic(auto, using(crate::proofs::ShownLemmas::printable_is_utf8))]
-pub fn append_shown(alloc: Global, bytes: &[u8], text: &mut String) -> AllocResult<()>
+pub fn append_quoted_or_hex(alloc: Global, bytes: &[u8], text: &mut String) -> AllocResult<()>
     ensures { OnOk result (Adds (IsShown bytes.now) (string_bytes text.old) (string_bytes text.new)) }
 {
     if !are_printable(bytes) {

@@ -67,7 +67,7 @@ impl DumpForm for TextDump {
 
 /// Appends the words with which a line begins: the queue and the number of the part's file, and the offset in that file of position `at` of
 /// the part. Fails only if there is no memory; some of the words may then be appended.
-fn append_file_words(part: &FilePart, at: usize, text: &mut String) -> AllocResult<()>
+fn append_file_and_offset(part: &FilePart, at: usize, text: &mut String) -> AllocResult<()>
     requires { at ≤ length part.now.bytes }
     ensures { OnOk result (string_bytes text.new ≡ string_bytes text.old ++ file_words part.now at) }
 {
@@ -89,7 +89,7 @@ fn append_batch_line(
     requires { (at ≤ length part.now.bytes) × (at ≤ next) }
     ensures { OnOk result (string_bytes text.new ≡ string_bytes text.old ++ batch_line part.now at next count) }
 {
-    append_file_words(part, at, text)?;
+    append_file_and_offset(part, at, text)?;
     let len = next - at;
     writeln!(text, " length {len} items {count}")
 }
@@ -105,7 +105,7 @@ fn append_damage_line(
     requires { at ≤ length part.now.bytes }
     ensures { OnOk result (string_bytes text.new ≡ string_bytes text.old ++ damage_line part.now at reason.now) }
 {
-    append_file_words(part, at, text)?;
+    append_file_and_offset(part, at, text)?;
     text.push_str(" unreadable: ")?;
     append_reason(reason, text)?;
     text.push_str("\n")

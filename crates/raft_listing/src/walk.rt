@@ -93,13 +93,13 @@ fn visit_byte<V: PartVisitor>(part: &FilePart, at: usize, visitor: &mut V) -> Re
             Ok(Some(next))
         }
         Ok(None) => unreachable!(),
-        Err(reason) => visit_damage(part, at, reason, visitor),
+        Err(reason) => visit_damage_unless_memory(part, at, reason, visitor),
     }
 }
 
 /// Shows `visitor` that no batch can be read at position `at` of the part's bytes, for `reason`. Returns the position at which the walk
 /// goes on; `None` if no header leads on. If `reason` is `Memory`, nothing is shown, and it is returned as the error.
-fn visit_damage<V: PartVisitor>(
+fn visit_damage_unless_memory<V: PartVisitor>(
     part: &FilePart,
     at: usize,
     reason: Error,
@@ -138,14 +138,14 @@ fn visit_unreadable<V: PartVisitor>(
     ensures inside { IfOk result (λ next. IfSome next (λ n. n ≤ length part.now.bytes)) }
     ensures fault { IfErr result (λ e. e ≢ Error.Memory → V.may_fail e) }
 {
-    let next = end_by_header(part, at);
+    let next = batch_end_by_header(part, at);
     visitor.visit_damage(part, at, next, reason)?;
     Ok(next)
 }
 
 /// Returns the position in the part's bytes at which the batch at position `at` ends by its header. `None` if no header stands there, or
 /// the batch would end after the part.
-fn end_by_header(part: &FilePart, at: usize) -> Option<usize>
+fn batch_end_by_header(part: &FilePart, at: usize) -> Option<usize>
     requires { at ≤ length part.now.bytes }
     ensures some { IfSome result (EndsByHeader part.now at) }
     ensures none { IfNone result (EndsNowhere part.now at) }

@@ -14,7 +14,7 @@ ghost use Rattle.serde_json.specs.Written.{comma_if, compact_text};
 use crate::json::{QueueName, append_comma, quoted, quoted_hex};
 use raft_base::{AllocResult, EntryIndex, Error, FileBlockHandle, Result};
 use raft_listing::{
-    BytesOfEntry, Loss, ReadBlock, Selection, bytes_of_entry, needed_block, status_of,
+    BytesOfEntry, Loss, ReadBlock, Selection, bytes_of_entry, group_status_of, needed_block,
 };
 use raft_records::{
     AtomicGroupStatus, Command, FilePart, KeyValue, LogItem, LogItemContent, OpType,
@@ -157,7 +157,7 @@ fn append_change(
 {
     let alloc = part.allocator();
     append_value_len(&change.value, text)?;
-    let status = status_of(part, item)?;
+    let status = group_status_of(part, item)?;
     append_group(status, text)?;
     append_key(alloc, change.key.as_slice(), text)?;
     append_value(alloc, &change.value, selection, text)?;

@@ -1,7 +1,7 @@
 //! The keys of a region as text.
 
 use raft_base::{AllocResult, Error, Result};
-use raft_listing::append_shown;
+use raft_listing::append_quoted_or_hex;
 use raft_recover::MemTable;
 use std::alloc::Global;
 
@@ -36,10 +36,10 @@ fn append_key(
     text: &mut String,
 ) -> AllocResult<()> {
     text.push_str("  key ")?;
-    append_shown(alloc, key, text)?;
+    append_quoted_or_hex(alloc, key, text)?;
     if values {
         text.push_str(" = ")?;
-        append_shown(alloc, value, text)?;
+        append_quoted_or_hex(alloc, value, text)?;
     } else {
         write!(text, " {} bytes", value.len())?;
     }

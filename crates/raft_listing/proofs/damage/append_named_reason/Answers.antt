@@ -7,7 +7,7 @@ loop-letter-preserved c =
     let held = c.loop-letter.invariant in
     let parts = c.in-Some.ensures.steps.0 in
     let step = one_in_line _ _ c.in-Some.letter held.0 parts in
-    (IsUtf8-past_char _ _ c.in-Some.letter held.0 parts, rw (c.in_ok-push.ensures.bytes, c.unbroken.ensures, append_assoc) (rw step at held.1))
+    (IsUtf8-past_char _ _ c.in-Some.letter held.0 parts, rw (c.in_ok-push.ensures.bytes, c.replace_line_break.ensures, append_assoc) (rw step at held.1))
 
 pub returns : goal.returns
 returns c = sym (append-nil _) ∙ rw (none_in_line _ c.in-None.ensures.steps.0.0) at c.loop-letter.invariant.1

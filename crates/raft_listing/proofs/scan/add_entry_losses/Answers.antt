@@ -5,7 +5,7 @@ use Rattle.raft_listing.proofs.scan.add_entry_losses.Goals as goal
 pub loop-entry-preserved : goal.loop-entry-preserved
 loop-entry-preserved c =
     entry_said c.args.part.now c.args.offset c.args.region c.args.entries.now c.args.damages.now.items c.loop-entry.stretch c.in_ok-stretch.stretch _ (drop (c.loop-entry.entry-index + 1) c.args.entries.now) c.in_ok-loss.loss
-    c.loop-entry.damages.items c.take_in_entry.new.damages.items
+    c.loop-entry.damages.items c.extend_or_end_stretch.new.damages.items
     (subst (λ (l : List _). AreSaying c.args.part.now c.args.offset c.args.region c.args.entries.now c.args.damages.now.items c.loop-entry.stretch l c.loop-entry.damages.items)
     (drop_more c.args.entries.now c.loop-entry.entry-index _ c.loop-entry-test.true) c.loop-entry.invariant)
     c.in_ok-loss.ensures.ok c.in_ok-stretch.ensures.ok

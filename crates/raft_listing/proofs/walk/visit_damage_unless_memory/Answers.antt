@@ -1,4 +1,4 @@
-use Rattle.raft_listing.proofs.walk.visit_damage.Goals as goal
+use Rattle.raft_listing.proofs.walk.visit_damage_unless_memory.Goals as goal
 
 pub visit_unreadable-requires-clause-none : goal.visit_unreadable-requires-clause-none
 visit_unreadable-requires-clause-none g c = c.requires.none c.in_default.not-Memory

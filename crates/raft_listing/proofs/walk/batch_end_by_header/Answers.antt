@@ -1,5 +1,5 @@
 use Rattle.raft_listing.proofs.Common.{◌≡◌, ◌<◌, ◌∙◌, ℕ, List, length, drop, sym, ap, subst, HasHeader}
-use Rattle.raft_listing.proofs.walk.end_by_header.Goals as goal
+use Rattle.raft_listing.proofs.walk.batch_end_by_header.Goals as goal
 
 pub returns-in-None-clause-none : goal.returns-in-None-clause-none
 returns-in-None-clause-none c offset len h =

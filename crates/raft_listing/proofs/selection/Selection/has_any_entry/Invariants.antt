@@ -1,5 +1,5 @@
 use Rattle.raft_listing.proofs.Common.{◌≡◌, drop, has_one}
-use Rattle.raft_listing.proofs.selection.Selection.has_one.Given as goal
+use Rattle.raft_listing.proofs.selection.Selection.has_any_entry.Given as goal
 
 -- one of those that are left, where one of all is
 abbrev pub invariant-loop-entry : goal.invariant-loop-entry

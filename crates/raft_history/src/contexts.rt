@@ -20,7 +20,7 @@ pub fn new_contexts_stand_exactly()
 /// history with the batch at its end; exactly, if it did so before. The batch is refused only if the history
 /// with it isn't sound. If the history with it is sound, then the batch is of the context's queue, its file
 /// may follow the last one, and its items are allowed in that file. This is a law: it computes nothing.
-pub fn batches_are_taken_in()
+pub fn contexts_stand_for_batches_taken_in()
     ensures stands { (c d : Context) (h : List Event) (e : Event) → Suits e.file.queue c.files
         → follows c.files (files_of (e ∷ [])) ≡ true → AreInFile e.file e.items
         → HaveStatus e.file.queue e.items → StandsFor c h → taken_in c e ≡ Some d
@@ -96,7 +96,7 @@ pub fn exact_contexts_are_one_reading()
 
 /// States that a context that stands exactly for a history holds no more than the history may hold, in each
 /// of its counts. This is a law: it computes nothing.
-pub fn exact_contexts_keep_little()
+pub fn exact_contexts_keep_no_more_than_their_history()
     ensures { (q : LogQueue) (c : Context) (h : List Event) (tables : Tables) (cleaned : List ℕ)
         → IsExactFor c h → Suits q c.files → IsOneReading q h tables cleaned
         → IsAtMost (kept_of c) (kept_by q h tables) }
@@ -113,7 +113,7 @@ pub fn exact_contexts_agree()
 /// States that joining the waiting groups of two neighbors makes no records: those that wait after it, and
 /// those of the groups that it made whole, are together no more than waited in both. This is a law: it
 /// computes nothing.
-pub fn waiting_records_stay_few()
+pub fn joining_groups_makes_no_records()
     ensures { (older newer : WaitingGroups)
         → waiting_records (joined_groups older newer) + records_in_wholes (whole_groups older newer)
         ≤ waiting_records older + waiting_records newer }
@@ -121,7 +121,7 @@ pub fn waiting_records_stay_few()
 
 /// States that the steps of groups that become whole between two histories of a queue are steps that a replay
 /// of that queue accepts. This is a law: it computes nothing.
-pub fn wholes_are_of_the_queue()
+pub fn whole_groups_have_steps_of_their_queue()
     ensures { (q : LogQueue) (h k : List Event)
         → FilesFrom q 0 h → AllByRecursion (λ (e : Event). AreInFile e.file e.items) h
         → FilesFrom q 0 k → AllByRecursion (λ (e : Event). AreInFile e.file e.items) k

@@ -20,7 +20,7 @@ pub fn effects_are_stretches()
 /// States that what is known of the groups of two neighboring histories determines what is known of both, one
 /// after the other. The same holds for one more batch, and for each group by itself. This is a law: it
 /// computes nothing.
-pub fn groups_join()
+pub fn joined_groups_are_those_of_both_histories()
     ensures joined { (h k : List BatchSteps)
         → groups_in (h ++ k) ≡ joined_groups (groups_in h) (groups_in k) }
     ensures more { (h : List BatchSteps) (b : BatchSteps)
@@ -31,7 +31,7 @@ pub fn groups_join()
 /// States which steps two histories, one after the other, have on a region, if their effects are apart: those
 /// of the older one, those of the groups that become whole between them, and those of the newer one. One more
 /// batch adds its own steps, or those of the group that it makes whole. This is a law: it computes nothing.
-pub fn steps_join()
+pub fn joined_histories_add_steps_of_whole_groups()
     ensures across { (r : ℕ) (h k : List BatchSteps) → EachApart (effects (h ++ k))
         → steps_of r (h ++ k)
         ≡ steps_of r h
@@ -42,7 +42,7 @@ pub fn steps_join()
 
 /// States that different groups that become whole between two histories name different regions, if the
 /// effects of both, one after the other, are apart. This is a law: it computes nothing.
-pub fn wholes_name_different_regions()
+pub fn whole_groups_name_different_regions()
     ensures { (h k : List BatchSteps) → EachApart (effects (h ++ k)) → (g l : ℕ) → g ≢ l
         → (w v : WholeGroup) → whole_group (group_in g h) (group_in g k) ≡ Some w
         → whole_group (group_in l h) (group_in l k) ≡ Some v → (r : ℕ) → names r w.steps ≡ true

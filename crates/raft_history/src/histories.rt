@@ -54,7 +54,7 @@ pub fn last_words_stand()
 /// States that, in one reading of a sound history whose effects are apart, no record of a region is in a file
 /// below the least file of its queue. The least files of a table are those of all its records, lowered only
 /// in the rewrite queue, by its atomic group. This is a law: it computes nothing.
-pub fn least_files_are_least()
+pub fn no_record_is_below_the_least_file()
     ensures equal { (queue : LogQueue) (h : List Event) (tables : Tables) (cleaned : List ℕ)
         → IsSoundIn queue h → Apart h → IsOneReading queue h tables cleaned → (r : ℕ)
         → AreLeastFiles (table_of r (finite.get tables r)) }
@@ -65,8 +65,8 @@ pub fn least_files_are_least()
 
 /// States that, in a reading of both queues, no record of a region is in a file below the least file of its
 /// queue, if both histories are sound and the effects of the rewrite queue's are apart. It is what
-/// [`least_files_are_least`] says of one queue. This is a law: it computes nothing.
-pub fn least_files_of_both_are_least()
+/// [`no_record_is_below_the_least_file`] says of one queue. This is a law: it computes nothing.
+pub fn no_record_of_both_queues_is_below_the_least_file()
     ensures equal { (rewrite append : List Event) (tables : Tables) (cleaned : List ℕ)
         → IsSoundIn Rewrite rewrite → Apart rewrite → IsSoundIn Append append
         → IsReadingOfBoth rewrite append tables cleaned → (r : ℕ)

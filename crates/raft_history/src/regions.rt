@@ -33,7 +33,7 @@ pub fn regions_stand_for_steps()
 /// by its mark, over any rewritten table, what it gets by its steps; any other region keeps its rewritten
 /// table. This is a law: it computes nothing.
 #[tactic(auto, using(crate::proofs::RegionLaws::overlay_by_steps))]
-pub fn overlays_are_by_steps()
+pub fn region_marks_overlay_as_their_steps_do()
     ensures { (r : ℕ) (rs : MarkedRegions) (bs : List BatchSteps) (rewritten : Option Table)
         → AreExact Append rs bs
         → overlaid_region r (finite.get rs.marks r) (finite.get rs.tables r) rewritten

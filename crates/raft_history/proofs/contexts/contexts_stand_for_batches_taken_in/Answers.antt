@@ -1,5 +1,5 @@
 use Rattle.raft_history.proofs.TakenLaws.{taken_stands, taken_exact, taken_none, next_sound}
-use Rattle.raft_history.proofs.contexts.batches_are_taken_in.Goals as goal
+use Rattle.raft_history.proofs.contexts.contexts_stand_for_batches_taken_in.Goals as goal
 
 pub returns : goal.returns
 returns c = record {

@@ -41,7 +41,7 @@ pub fn nothing_is_lost()
 
 /// States what a crash may leave of a queue: exactly the prefixes of the written batches that have all synced
 /// ones. This is a law: it computes nothing.
-pub fn prefixes_may_stand()
+pub fn crashes_leave_prefixes_with_all_synced_batches()
     ensures front { (deeds : List Deed) (more lost : List Event) → written deeds ≡ (synced deeds ++ more) ++ lost
         → MayStand deeds (synced deeds ++ more) }
     ensures only { (deeds : List Deed) (h : List Event) → MayStand deeds h
@@ -160,7 +160,7 @@ pub fn deleting_is_safe()
 
 /// States that if each group is in one file, the files that stay end no group that began in the deleted ones,
 /// wherever these end. This is a law: it computes nothing.
-pub fn groups_in_one_file_let_files_go()
+pub fn groups_in_one_file_let_files_be_deleted()
     ensures none { FilesEndNoOlderGroup [] }
     ensures more { (h k : List Event) (seq : ℕ) → FilesEndNoOlderGroup h → AreInFileOf seq k → EndNoOlderGroup k
         → FilesEndNoOlderGroup (h ++ k) }

@@ -13,7 +13,7 @@ ghost use Rattle.raft_engine_laws.specs.KeptTables.{AreKept};
 /// States that tables are still kept without the files of a queue below a number, once no step is untold and
 /// the least file of each table in the queue is at that number or above. In the rewrite queue the files that
 /// stay must end no group that began in those that go. This is a law: it computes nothing.
-pub fn files_below_the_least_may_go()
+pub fn files_below_the_least_may_be_deleted()
     ensures append { (content : EntryIndex → List ℕ) (n : ℕ) (gone append rewrite : List Event)
         (tables : Tables) → AreKept content (gone ++ append) rewrite [] tables → AreFilesBelow n gone
         → AreLeastFrom Append n tables → AreKept content append rewrite [] tables }

@@ -28,7 +28,7 @@ pub fn open_groups_change_nothing()
 /// States that the effects of a history stay apart with one more batch without a group marker, with one that
 /// leaves its group open, and with a whole group whose batches follow one another. It also says which steps
 /// each of these adds. This is a law: it computes nothing.
-pub fn groups_stand_together()
+pub fn effects_stay_apart_with_more_batches()
     ensures alone { (h : List Event) (e : Event) → HasNoMarker e → Apart h → Apart (h ++ e ∷ []) }
     ensures alone_steps { (h : List Event) (e : Event) → HasNoMarker e
         → (r : ℕ) → steps_of r (batches (h ++ e ∷ [])) ≡ steps_of r (batches h) ++ steps_on r (steps_of_items e.items) }

@@ -14,7 +14,7 @@ ghost use Rattle.raft_engine_laws.specs.KeptTables.{AreKept};
 ghost use Rattle.raft_engine_laws.specs.MovedRecords.{AreFound};
 
 /// States that empty tables are kept where there are no batches. This is a law: it computes nothing.
-pub fn without_files_there_are_no_tables()
+pub fn empty_tables_are_kept_without_batches()
     ensures { (content : EntryIndex → List ℕ) → AreKept content [] [] [] finite.empty }
 {}
 
@@ -31,7 +31,7 @@ pub fn kept_tables_are_found()
 /// States which files of a queue kept tables don't need: no record of a table is in a file below a number if
 /// the least file of each table is at that number or above. For the rewrite queue no step may be untold. This
 /// is a law: it computes nothing.
-pub fn kept_tables_need_their_files()
+pub fn kept_tables_need_no_files_below_their_least()
     ensures append { (content : EntryIndex → List ℕ) (append rewrite : List Event)
         (untold : List RegionStep) (tables : Tables) → AreKept content append rewrite untold tables
         → (n : ℕ) → AreLeastFrom Append n tables

@@ -48,7 +48,7 @@ pub fn moving_items_move_records()
 /// States that tables accept items that move records of theirs within the rewrite queue, in any order, if the
 /// entries of each table are sound, and none of their rewritten key values is in a file above the one that
 /// these move to. This is a law: it computes nothing.
-pub fn tables_take_what_moves_again()
+pub fn tables_accept_items_that_move_records()
     ensures { (content : EntryIndex → List ℕ) (seq : ℕ) (tables : Tables) (items : List Item)
         → ((r : ℕ) → AreTableEntries (table_of r (finite.get tables r)).entries)
         → ((r : ℕ) (key : List ℕ) (s : Stored) → finite.get (table_of r (finite.get tables r)).keys key ≡ Some s

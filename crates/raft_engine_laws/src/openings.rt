@@ -66,7 +66,7 @@ pub fn contexts_hold_exact_marks()
 /// States why a compaction of rewritten entries that lie before the found ones, and are dropped with them,
 /// has to be told at once. As long as it isn't, a truncation that is written to the append queue brings these
 /// entries back. The contract has an example of two entries. This is a law: it computes nothing.
-pub fn what_is_dropped_in_front_comes_back()
+pub fn dropped_entries_come_back_until_told()
     ensures { (old new : EntryIndex) (t : Table) → t.entries ≡ old ∷ [] → old.index + 1 < new.index
         → (own none : Table) → own.entries ≡ new ∷ [] → none.entries ≡ []
         → ((overlay (Run (new ∷ []) ∷ []) own t).entries ≡ new ∷ [])
@@ -76,7 +76,7 @@ pub fn what_is_dropped_in_front_comes_back()
 /// States that the joined summaries of two neighboring histories are the summary of both, and that a summary
 /// tells whether each atomic group is in a row, that is in batches that follow one another in one file. This
 /// is a law: it computes nothing.
-pub fn row_summaries_are_joined()
+pub fn joined_summaries_are_summaries_of_both()
     ensures joined { (s t both : Summary) → AreJoined s t both → (h g : List Event) → IsSummaryOf s h → IsSummaryOf t g → IsSummaryOf both (h ++ g) }
     ensures whole { (s : Summary) (h : List Event) → IsSummaryOf s h → (FirstMayStand s.first None × (s.inner ≡ true)) ↔ AreGroupsInRows h }
 {}

@@ -31,7 +31,7 @@ pub fn records_come_from_written_batches()
 
 /// States that tables that were found have the records of the kept ones, and that a move changes no record,
 /// only its place. This is a law: it computes nothing.
-pub fn records_stay_where_places_change()
+pub fn records_stay_when_places_change()
     ensures found { (content : EntryIndex → List ℕ) (kept found : Tables) (records : ℕ → Records)
         → AreFound content kept found → HaveRecords content kept records → HaveRecords content found records }
     ensures moved { (content : EntryIndex → List ℕ) (file : FileId) (t moved rewritten put : Table) (rs : Records)
@@ -42,7 +42,7 @@ pub fn records_stay_where_places_change()
 /// States when two functions that say the bytes of entries are equally good: if tables have the records of a
 /// history by one of them, and both say the same of all entries in the tables and in the batches of the
 /// history, they have them by the other. This is a law: it computes nothing.
-pub fn records_are_told_alike()
+pub fn agreeing_contents_give_the_same_records()
     ensures { (told content : EntryIndex → List ℕ) (base : ℕ → Records) (tables : Tables) (h : List Event)
         → AllByRecursion (λ (e : Event). AllByRecursion (λ (item : Item). AreToldAlike told content item.content) e.items) h
         → ((r : ℕ) → entries_told told (table_of r (finite.get tables r)).entries ≡ entries_told content (table_of r (finite.get tables r)).entries)

@@ -80,7 +80,7 @@ pub fn told_steps_are_no_longer_untold()
 /// States that steps that take away nothing of what the rewrite files give needn't be told. One such step is
 /// a run that begins after all rewritten entries of its region that are live. This is a law: it computes
 /// nothing.
-pub fn quiet_steps_need_no_telling()
+pub fn steps_that_take_nothing_away_need_no_telling()
     ensures kept { (content : EntryIndex → List ℕ) (append rewrite : List Event)
         (untold fewer : List RegionStep) (tables rewritten : Tables)
         → AreKept content append rewrite untold tables

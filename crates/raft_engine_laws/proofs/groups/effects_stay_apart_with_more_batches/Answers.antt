@@ -1,6 +1,6 @@
 use Rattle.raft_engine_laws.proofs.GroupRows.{alone_apart, open_apart, open_adds, group_apart, group_steps}
 use Rattle.raft_engine_laws.proofs.RewriteReadings.{plain_more}
-use Rattle.raft_engine_laws.proofs.groups.groups_stand_together.Goals as goal
+use Rattle.raft_engine_laws.proofs.groups.effects_stay_apart_with_more_batches.Goals as goal
 
 pub returns-clause-alone : goal.returns-clause-alone
 returns-clause-alone c = alone_apart

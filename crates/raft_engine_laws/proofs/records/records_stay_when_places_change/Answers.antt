@@ -1,5 +1,5 @@
 use Rattle.raft_engine_laws.proofs.RecordLemmas.{found_have, moved_have}
-use Rattle.raft_engine_laws.proofs.records.records_stay_where_places_change.Goals as goal
+use Rattle.raft_engine_laws.proofs.records.records_stay_when_places_change.Goals as goal
 
 pub returns-clause-found : goal.returns-clause-found
 returns-clause-found c = found_have

@@ -3,7 +3,7 @@ use Rattle.raft_engine_laws.proofs.AppendDeletions.{shorter}
 use Rattle.raft_engine_laws.proofs.GroupFronts.{none_across}
 use Rattle.raft_engine_laws.proofs.NeededFiles.{append_needs, rewrite_needs}
 use Rattle.raft_engine_laws.proofs.RewriteDeletions.{purged}
-use Rattle.raft_engine_laws.proofs.deletions.files_below_the_least_may_go.Goals as goal
+use Rattle.raft_engine_laws.proofs.deletions.files_below_the_least_may_be_deleted.Goals as goal
 
 pub returns-clause-append : goal.returns-clause-append
 returns-clause-append c = λ content n gone append rewrite tables h below low. shorter content n gone append rewrite tables h below (λ r. append_needs content (gone ++ append) rewrite [] tables h r n low)

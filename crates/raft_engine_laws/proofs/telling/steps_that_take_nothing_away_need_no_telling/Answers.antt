@@ -1,5 +1,5 @@
 use Rattle.raft_engine_laws.proofs.QuietLemmas.{fewer_kept, quiet_run}
-use Rattle.raft_engine_laws.proofs.telling.quiet_steps_need_no_telling.Goals as goal
+use Rattle.raft_engine_laws.proofs.telling.steps_that_take_nothing_away_need_no_telling.Goals as goal
 
 pub returns-clause-kept : goal.returns-clause-kept
 returns-clause-kept c = fewer_kept

@@ -1,6 +1,6 @@
 use Rattle.raft_engine_laws.proofs.Common.{[], refl}
 use Rattle.raft_engine_laws.proofs.NeededFiles.{append_needs, rewrite_needs}
-use Rattle.raft_engine_laws.proofs.kept.kept_tables_need_their_files.Goals as goal
+use Rattle.raft_engine_laws.proofs.kept.kept_tables_need_no_files_below_their_least.Goals as goal
 
 pub returns-clause-append : goal.returns-clause-append
 returns-clause-append c = λ content append rewrite untold tables h n low r. append_needs content append rewrite untold tables h r n low

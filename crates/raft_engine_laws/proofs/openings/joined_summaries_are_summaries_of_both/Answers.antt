@@ -1,5 +1,5 @@
 use Rattle.raft_engine_laws.proofs.RowJoins.{joined_summary, whole_stands}
-use Rattle.raft_engine_laws.proofs.openings.row_summaries_are_joined.Goals as goal
+use Rattle.raft_engine_laws.proofs.openings.joined_summaries_are_summaries_of_both.Goals as goal
 
 pub returns-clause-joined : goal.returns-clause-joined
 returns-clause-joined c = joined_summary

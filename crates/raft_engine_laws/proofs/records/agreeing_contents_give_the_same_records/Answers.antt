@@ -1,5 +1,5 @@
 use Rattle.raft_engine_laws.proofs.AlikeContents.{alike_have}
-use Rattle.raft_engine_laws.proofs.records.records_are_told_alike.Goals as goal
+use Rattle.raft_engine_laws.proofs.records.agreeing_contents_give_the_same_records.Goals as goal
 
 pub returns : goal.returns
 returns c = alike_have

@@ -4,8 +4,8 @@ ghost use Rattle.std.specs.Prelude.{◌≡◌, ◌↔◌, ◌≤◌, drop, lengt
 ghost use Rattle.raft_codec.specs.Reading.{HasNoFront};
 ghost use Rattle.raft_tail.specs.Tails.{AreWhole, IsBroken, IsBrokenOff};
 
-use crate::header::{LOG_BATCH_HEADER_LEN, header_in};
-use crate::items::are_whole;
+use crate::header::{LOG_BATCH_HEADER_LEN, read_header};
+use crate::items::begins_with_whole_items;
 use raft_base::{Error, LogFileContext, Result};
 use raft_records::FilePart;
 use std::alloc::Global;
@@ -23,7 +23,7 @@ pub fn is_broken_off(part: &FilePart, at: usize) -> Result<bool>
 {
     let file = LogFileContext::new(part.id(), part.version());
     let (_, rest) = part.bytes().split_at(at);
-    is_broken(part.allocator(), rest, file.get_signature())
+    can_be_cut_batch(part.allocator(), rest, file.get_signature())
 }
 
 /// Tests whether `bytes` can be all that is left of one batch that was to be signed with `signature`: they
@@ -33,15 +33,15 @@ pub fn is_broken_off(part: &FilePart, at: usize) -> Result<bool>
 /// # Errors
 ///
 /// `Memory` alone.
-fn is_broken(alloc: Global, bytes: &[u8], signature: Option<u32>) -> Result<bool>
+fn can_be_cut_batch(alloc: Global, bytes: &[u8], signature: Option<u32>) -> Result<bool>
     ensures ok { IfOk result (λ broken. IsTrue broken ↔ IsBroken signature bytes.now) }
     ensures memory { IfErr result (λ e. e ≡ Error.Memory) }
 {
     if bytes.len() < LOG_BATCH_HEADER_LEN {
         return Ok(true);
     }
-    match header_in(bytes) {
-        Some((offset, len)) if bytes.len() < len => is_unfinished(alloc, bytes, offset, signature),
+    match read_header(bytes) {
+        Some((offset, len)) if bytes.len() < len => lacks_items(alloc, bytes, offset, signature),
         _ => Ok(false),
     }
 }
@@ -52,7 +52,7 @@ fn is_broken(alloc: Global, bytes: &[u8], signature: Option<u32>) -> Result<bool
 /// # Errors
 ///
 /// `Memory` alone.
-fn is_unfinished(alloc: Global, bytes: &[u8], offset: usize, signature: Option<u32>) -> Result<bool>
+fn lacks_items(alloc: Global, bytes: &[u8], offset: usize, signature: Option<u32>) -> Result<bool>
     ensures ok { IfOk result (λ unfinished. IsTrue unfinished ↔ HasNoFront (AreWhole signature) (drop offset bytes.now)) }
     ensures memory { IfErr result (λ e. e ≡ Error.Memory) }
 {
@@ -60,5 +60,5 @@ fn is_unfinished(alloc: Global, bytes: &[u8], offset: usize, signature: Option<u
         return Ok(true);
     }
     let (_, item_bytes) = bytes.split_at(offset);
-    Ok(!are_whole(alloc, item_bytes, signature)?)
+    Ok(!begins_with_whole_items(alloc, item_bytes, signature)?)
 }

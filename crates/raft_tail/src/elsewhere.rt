@@ -5,8 +5,8 @@ ghost use Rattle.raft_base.specs.Signature.{signature_in};
 ghost use Rattle.raft_tail.specs.Tails.{IsElsewhere, IsNextElsewhere, IsSignedFor, IsSoundAt, in_file};
 ghost use Rattle.raft_tail.specs.Passing.{IsItemSigner, IsSigner};
 
-use crate::errors::unless_memory;
-use crate::header::header_in;
+use crate::errors::check_not_memory;
+use crate::header::read_header;
 use raft_base::{Error, FileId, FileSeq, LogFileContext, Result};
 use raft_checksum::crc32;
 use raft_codec::codec;
@@ -38,7 +38,7 @@ pub fn signed_elsewhere(part: &FilePart, from: usize) -> Result<Option<(usize, F
         return Ok(None);
     };
     for at in from..part.bytes().len() {
-        if let Some(seq) = other_file_at(part, own, at)? {
+        if let Some(seq) = other_file_of_batch_at(part, own, at)? {
             return Ok(Some((at, seq)));
         }
     }
@@ -53,7 +53,7 @@ pub fn signed_elsewhere(part: &FilePart, from: usize) -> Result<Option<(usize, F
 ///
 /// `Memory` alone.
 #[inline(always)]
-fn other_file_at(part: &FilePart, own: u32, at: usize) -> Result<Option<FileSeq>>
+fn other_file_of_batch_at(part: &FilePart, own: u32, at: usize) -> Result<Option<FileSeq>>
     requires inside { at < length part.now.bytes }
     requires own { signature_in part.now.version part.now.id.seq ≡ Some own }
     ensures ok { IfOk result (λ seq.
@@ -61,14 +61,14 @@ fn other_file_at(part: &FilePart, own: u32, at: usize) -> Result<Option<FileSeq>
     ensures memory { IfErr result (λ e. e ≡ Error.Memory) }
 {
     let (_, rest) = part.bytes().split_at(at);
-    let Some(signer) = signer_in(rest) else {
+    let Some(signer) = batch_signature(rest) else {
         return Ok(None);
     };
     let seq = FileSeq::from(signer);
     if signer == own || seq == 0 || seq >= SEQ_LIMIT {
         return Ok(None);
     }
-    if is_readable_in(part, seq, at)? {
+    if can_read_batch_in_file(part, seq, at)? {
         Ok(Some(seq))
     } else {
         Ok(None)
@@ -79,14 +79,14 @@ fn other_file_at(part: &FilePart, own: u32, at: usize) -> Result<Option<FileSeq>
 /// items. A signature is the low 32 bits of a file's number. Returns `None` if no header stands there, the
 /// bytes end before its batch does, or the batch has no items.
 #[inline(always)]
-fn signer_in(bytes: &[u8]) -> Option<u32>
+fn batch_signature(bytes: &[u8]) -> Option<u32>
     ensures { IsSigner bytes.now result }
 {
-    match header_in(bytes) {
+    match read_header(bytes) {
         Some((offset, len)) if len <= bytes.len() => {
             let (batch, _) = bytes.split_at(len);
             let (_, item_bytes) = batch.split_at(offset);
-            signer_of(item_bytes)
+            item_batch_signature(item_bytes)
         }
         _ => None,
     }
@@ -97,7 +97,7 @@ fn signer_in(bytes: &[u8]) -> Option<u32>
 /// checksum that stands there. Whether the items can be read isn't tested. Returns `None` if there are no
 /// bytes before a checksum.
 #[inline(never)]
-fn signer_of(bytes: &[u8]) -> Option<u32>
+fn item_batch_signature(bytes: &[u8]) -> Option<u32>
     ensures { IsItemSigner bytes.now result }
 {
     if bytes.len() <= LOG_BATCH_CHECKSUM_LEN {
@@ -116,7 +116,7 @@ fn signer_of(bytes: &[u8]) -> Option<u32>
 /// # Errors
 ///
 /// `Memory` alone.
-fn is_readable_in(part: &FilePart, seq: FileSeq, at: usize) -> Result<bool>
+fn can_read_batch_in_file(part: &FilePart, seq: FileSeq, at: usize) -> Result<bool>
     requires { at < length part.now.bytes }
     ensures ok { IfOk result (λ readable. IsTrue readable ↔ IsSoundAt (in_file seq part.now) at) }
     ensures memory { IfErr result (λ e. e ≡ Error.Memory) }
@@ -126,7 +126,7 @@ fn is_readable_in(part: &FilePart, seq: FileSeq, at: usize) -> Result<bool>
     match next_in(part.allocator(), &file, part.offset(), part.bytes(), at) {
         Ok(next) => Ok(next.is_some()),
         Err(error) => {
-            unless_memory(error)?;
+            check_not_memory(error)?;
             Ok(false)
         }
     }

@@ -10,7 +10,7 @@ use raft_base::{Error, Result};
 /// # Errors
 ///
 /// `Memory`, if `error` is that.
-pub(crate) fn unless_memory(error: Error) -> Result<()>
+pub(crate) fn check_not_memory(error: Error) -> Result<()>
     ensures ok { OnOk result (error ≢ Error.Memory) }
     ensures memory { IfErr result (λ e. e ≡ Error.Memory) }
 {

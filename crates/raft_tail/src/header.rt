@@ -16,7 +16,7 @@ pub(crate) const LOG_BATCH_HEADER_LEN: usize = 16;
 /// `LogBatch::decode_header` it makes no error value, which would cost too much in a search that looks at
 /// each byte of a file.
 #[inline(always)]
-pub(crate) fn header_in(bytes: &[u8]) -> Option<(usize, usize)>
+pub(crate) fn read_header(bytes: &[u8]) -> Option<(usize, usize)>
     ensures some { IfSome result (λ header. HasHeader bytes.now header.0 header.1) }
     ensures none { IfNone result (HasNoFront IsHeader bytes.now) }
 {

@@ -3,8 +3,8 @@
 ghost use Rattle.std.specs.Prelude.{◌≡◌, ◌↔◌, ◌<◌, length, IfErr, IfOk, IsTrue};
 ghost use Rattle.raft_tail.specs.Tails.{IsNextSound, IsSoundAt};
 
-use crate::errors::unless_memory;
-use crate::header::header_in;
+use crate::errors::check_not_memory;
+use crate::header::read_header;
 use raft_base::{Error, Result};
 use raft_records::{FilePart, next_batch};
 
@@ -22,7 +22,7 @@ pub fn next_sound(part: &FilePart, from: usize) -> Result<Option<usize>>
     ensures memory { IfErr result (λ e. e ≡ Error.Memory) }
 {
     for at in from..part.bytes().len() {
-        if is_sound(part, at)? {
+        if has_sound_batch_at(part, at)? {
             return Ok(Some(at));
         }
     }
@@ -36,14 +36,14 @@ pub fn next_sound(part: &FilePart, from: usize) -> Result<Option<usize>>
 ///
 /// `Memory` alone.
 #[inline(always)]
-fn is_sound(part: &FilePart, at: usize) -> Result<bool>
+fn has_sound_batch_at(part: &FilePart, at: usize) -> Result<bool>
     requires { at < length part.now.bytes }
     ensures ok { IfOk result (λ sound. IsTrue sound ↔ IsSoundAt part.now at) }
     ensures memory { IfErr result (λ e. e ≡ Error.Memory) }
 {
     let (_, rest) = part.bytes().split_at(at);
-    match header_in(rest) {
-        Some((_, len)) if len <= rest.len() => is_readable(part, at),
+    match read_header(rest) {
+        Some((_, len)) if len <= rest.len() => can_read_batch_at(part, at),
         _ => Ok(false),
     }
 }
@@ -54,7 +54,7 @@ fn is_sound(part: &FilePart, at: usize) -> Result<bool>
 ///
 /// `Memory` alone.
 #[inline(never)]
-fn is_readable(part: &FilePart, at: usize) -> Result<bool>
+fn can_read_batch_at(part: &FilePart, at: usize) -> Result<bool>
     requires { at < length part.now.bytes }
     ensures ok { IfOk result (λ sound. IsTrue sound ↔ IsSoundAt part.now at) }
     ensures memory { IfErr result (λ e. e ≡ Error.Memory) }
@@ -62,7 +62,7 @@ fn is_readable(part: &FilePart, at: usize) -> Result<bool>
     match next_batch(part, at) {
         Ok(next) => Ok(next.is_some()),
         Err(error) => {
-            unless_memory(error)?;
+            check_not_memory(error)?;
             Ok(false)
         }
     }

@@ -1,6 +1,0 @@
-use Rattle.raft_tail.proofs.SearchLemmas.{never, unreadable_unsound}
-use Rattle.raft_tail.proofs.sound.is_readable.Goals as goal
-
-pub returns-in_ok-unless_memory-in-Err-clause-ok : goal.returns-in_ok-unless_memory-in-Err-clause-ok
-returns-in_ok-unless_memory-in-Err-clause-ok c =
-    never (unreadable_unsound {part = c.args.part.now} {at = c.args.at} (c.in-Err.ensures.refused c.in_ok-unless_memory-in-Err.ensures.ok))

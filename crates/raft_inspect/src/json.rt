@@ -10,7 +10,7 @@ use crate::findings::Findings;
 use crate::opening::Opening;
 use raft_base::{AllocResult, Error, LogQueue};
 use raft_engine::CutTail;
-use raft_report::{QueueName, append_json_no_files, quoted_reason};
+use raft_report::{QueueName, append_json_no_files, reason_as_json};
 use std::alloc::Global;
 
 /// Appends what an opening would do: a line if it refuses the files, else a line for each queue.
@@ -38,7 +38,7 @@ pub(crate) fn append_json_opening(
 fn append_json_refused(alloc: Global, error: &Error, text: &mut String) -> AllocResult<()>
     ensures { OnOk result (string_bytes text.new ≡ string_bytes text.old ++ json_line (refused_data error.now)) }
 {
-    let why = quoted_reason(alloc, error)?;
+    let why = reason_as_json(alloc, error)?;
     writeln!(text, "{{\"opening\":\"refused\",\"why\":{why}}}")
 }
 
@@ -77,7 +77,7 @@ fn append_json_tail(
 ) -> AllocResult<()>
     ensures { OnOk result (string_bytes text.new ≡ string_bytes text.old ++ json_line (cut_data queue (Some tail.now))) }
 {
-    let why = quoted_reason(alloc, &tail.error)?;
+    let why = reason_as_json(alloc, &tail.error)?;
     writeln!(
         text,
         "{{\"cut\":{},\"file\":{},\"offset\":{},\"opening\":\"opens\",\"queue\":{},\"why\":{why}}}",

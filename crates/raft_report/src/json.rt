@@ -20,7 +20,7 @@ use std::fmt;
 /// # Errors
 ///
 /// Fails only if there is no memory.
-pub fn quoted(alloc: Global, shown: &str) -> AllocResult<String>
+pub fn text_as_json(alloc: Global, shown: &str) -> AllocResult<String>
     ensures { IfOk result (λ text. string_bytes text ≡ compact_text (string shown.now)) }
 {
     let value = Value::try_from_str(alloc, shown)?;
@@ -32,12 +32,12 @@ pub fn quoted(alloc: Global, shown: &str) -> AllocResult<String>
 /// # Errors
 ///
 /// Fails only if there is no memory.
-pub fn quoted_reason(alloc: Global, reason: &Error) -> AllocResult<String>
+pub fn reason_as_json(alloc: Global, reason: &Error) -> AllocResult<String>
     ensures { IfOk result (λ text. string_bytes text ≡ compact_text (string (reason_text reason.now))) }
 {
     let mut words = String::new(alloc);
     append_reason(reason, &mut words)?;
-    quoted(alloc, words.as_str())
+    text_as_json(alloc, words.as_str())
 }
 
 /// Returns bytes as a string of JSON, in quotes: two lower-case hex digits for each byte.
@@ -45,15 +45,15 @@ pub fn quoted_reason(alloc: Global, reason: &Error) -> AllocResult<String>
 /// # Errors
 ///
 /// Fails only if there is no memory.
-pub(crate) fn quoted_hex(alloc: Global, bytes: &[u8]) -> AllocResult<String>
+pub(crate) fn hex_as_json(alloc: Global, bytes: &[u8]) -> AllocResult<String>
     ensures { IfOk result (λ text. string_bytes text ≡ compact_text (string (encode_lower bytes.now))) }
 {
     let digits = hex::encode(alloc, bytes)?;
-    quoted(alloc, digits.as_str())
+    text_as_json(alloc, digits.as_str())
 }
 
 /// Returns the name of a queue as a string of JSON, in quotes.
-fn quoted_name(queue: LogQueue) -> &'static str
+fn queue_name_as_json(queue: LogQueue) -> &'static str
     ensures { result.now ≡ compact_text (queue_data queue) }
 {
     match queue {
@@ -75,7 +75,7 @@ impl fmt::Display for QueueName {
 
     /// Writes the name of the queue, in quotes.
     fn fmt<W: fmt::Write>(&self, f: &mut fmt::Formatter<W>) -> fmt::Result {
-        f.write_str(quoted_name(self.0))
+        f.write_str(queue_name_as_json(self.0))
     }
 }
 
@@ -107,7 +107,7 @@ pub(crate) fn append_numbers(numbers: &[u64], text: &mut String) -> AllocResult<
     text.push('[')?;
     let mut later = false;
     for number in numbers {
-        append_comma(later, text)?;
+        append_comma_if(later, text)?;
         write!(text, "{number}")?;
         later = true;
     }
@@ -115,7 +115,7 @@ pub(crate) fn append_numbers(numbers: &[u64], text: &mut String) -> AllocResult<
 }
 
 /// Appends a comma if `later` is set: there is an element of the list before the next one.
-pub(crate) fn append_comma(later: bool, text: &mut String) -> AllocResult<()>
+pub(crate) fn append_comma_if(later: bool, text: &mut String) -> AllocResult<()>
     ensures { OnOk result (string_bytes text.new ≡ string_bytes text.old ++ comma_if later) }
 {
     if later {

@@ -5,7 +5,7 @@ ghost use Rattle.raft_report.specs.JsonData.{json_line};
 ghost use Rattle.raft_report.specs.JsonItems.{place_data};
 ghost use Rattle.raft_report.specs.JsonPieces.{place_front};
 
-use crate::json::{QueueName, quoted_reason};
+use crate::json::{QueueName, reason_as_json};
 use crate::json_items::append_json_items;
 use raft_base::{AllocResult, Error, Result};
 use raft_listing::{DumpForm, Selection};
@@ -52,12 +52,12 @@ impl DumpForm for JsonDump {
         _selection: &Selection,
         text: &mut String,
     ) -> AllocResult<()> {
-        append_json_place(part, at, reason, text)
+        append_json_damage_line(part, at, reason, text)
     }
 }
 
 /// Appends the line of a byte at which no batch can be read: position `at` of the part's bytes, and `reason`.
-fn append_json_place(
+fn append_json_damage_line(
     part: &FilePart,
     at: usize,
     reason: &Error,
@@ -66,14 +66,14 @@ fn append_json_place(
     requires { at ≤ length part.now.bytes }
     ensures { OnOk result (string_bytes text.new ≡ string_bytes text.old ++ json_line (place_data part.now at reason.now)) }
 {
-    append_place_front(part, at, text)?;
-    let why = quoted_reason(part.allocator(), reason)?;
+    append_place_members(part, at, text)?;
+    let why = reason_as_json(part.allocator(), reason)?;
     writeln!(text, ",\"what\":\"unreadable\",\"why\":{why}}}")
 }
 
 /// Appends the first members of the line of a byte, position `at` of the part's bytes: the number of the file, the offset in it, and the
 /// queue.
-fn append_place_front(part: &FilePart, at: usize, text: &mut String) -> AllocResult<()>
+fn append_place_members(part: &FilePart, at: usize, text: &mut String) -> AllocResult<()>
     requires { at ≤ length part.now.bytes }
     ensures { OnOk result (string_bytes text.new ≡ string_bytes text.old ++ place_front part.now at) }
 {

@@ -6,7 +6,7 @@ ghost use Rattle.raft_report.specs.JsonData.{json_line, list_of};
 ghost use Rattle.raft_report.specs.JsonLines.{damage_data, kept_data, lost_data, missing_data, missing_files_json, missing_json, no_files_data, scan_data, scan_json, unreadable_data};
 ghost use Rattle.serde_json.specs.Written.{compact_text};
 
-use crate::json::{QueueName, append_comma, quoted, quoted_reason};
+use crate::json::{QueueName, append_comma_if, reason_as_json, text_as_json};
 use raft_base::{AllocResult, Error, FileSeq, LogQueue};
 use raft_listing::{Damage, DamageKind, FileScan, Loss, missing_between};
 use raft_reading::FileSize;
@@ -27,7 +27,7 @@ pub fn append_json_scan(
 ) -> AllocResult<()>
     ensures { OnOk result (string_bytes text.new ≡ string_bytes text.old ++ scan_json queue last scan.now) }
 {
-    append_json_missing(queue, missing_between(last, scan.seq), text)?;
+    append_json_missing_if_any(queue, missing_between(last, scan.seq), text)?;
     append_json_file(alloc, queue, scan, text)
 }
 
@@ -46,7 +46,7 @@ fn append_json_file(
         text,
         "{{\"batches\":{batches},\"bytes\":{bytes},\"damage\":"
     )?;
-    append_damages(alloc, scan.damages.as_slice(), text)?;
+    append_damage_list(alloc, scan.damages.as_slice(), text)?;
     let (name, file, read, unseen) = (QueueName(queue), scan.seq, scan.read, scan.unseen);
     writeln!(
         text,
@@ -55,22 +55,22 @@ fn append_json_file(
 }
 
 /// Appends the list of the places in a file where something can't be read, in brackets.
-fn append_damages(alloc: Global, damages: &[Damage], text: &mut String) -> AllocResult<()>
+fn append_damage_list(alloc: Global, damages: &[Damage], text: &mut String) -> AllocResult<()>
     ensures { OnOk result (string_bytes text.new
         ≡ string_bytes text.old ++ compact_text (list_of (map damage_data damages.now))) }
 {
     text.push('[')?;
     let mut later = false;
     for damage in damages {
-        append_comma(later, text)?;
-        append_damage(alloc, damage, text)?;
+        append_comma_if(later, text)?;
+        append_damage_object(alloc, damage, text)?;
         later = true;
     }
     text.push(']')
 }
 
 /// Appends the object of one place where something can't be read.
-fn append_damage(alloc: Global, damage: &Damage, text: &mut String) -> AllocResult<()>
+fn append_damage_object(alloc: Global, damage: &Damage, text: &mut String) -> AllocResult<()>
     ensures { OnOk result (string_bytes text.new ≡ string_bytes text.old ++ compact_text (damage_data damage.now)) }
 {
     match &damage.kind {
@@ -94,7 +94,7 @@ fn append_unreadable_batch(
     ensures { OnOk result (string_bytes text.new
         ≡ string_bytes text.old ++ compact_text (unreadable_data offset reason.now)) }
 {
-    let why = quoted_reason(alloc, reason)?;
+    let why = reason_as_json(alloc, reason)?;
     write!(
         text,
         "{{\"kind\":\"batch\",\"offset\":{offset},\"why\":{why}}}"
@@ -114,7 +114,7 @@ fn append_lost_entries(
     ensures { OnOk result (string_bytes text.new
         ≡ string_bytes text.old ++ compact_text (lost_data offset region entries loss)) }
 {
-    let why = quoted(alloc, loss.words())?;
+    let why = text_as_json(alloc, loss.words())?;
     let (first, last) = entries;
     write!(
         text,
@@ -138,7 +138,7 @@ pub fn append_json_missing_files(
 {
     let mut last = None;
     for size in sizes {
-        append_json_missing(queue, missing_between(last, size.seq), text)?;
+        append_json_missing_if_any(queue, missing_between(last, size.seq), text)?;
         last = Some(size.seq);
     }
     Ok(())
@@ -146,7 +146,7 @@ pub fn append_json_missing_files(
 
 /// Appends a line for the files that are missing in a gap. `numbers` are the first and the last number missing there; for `None` nothing is
 /// appended.
-fn append_json_missing(
+fn append_json_missing_if_any(
     queue: LogQueue,
     numbers: Option<(FileSeq, FileSeq)>,
     text: &mut String,
@@ -154,13 +154,13 @@ fn append_json_missing(
     ensures { OnOk result (string_bytes text.new ≡ string_bytes text.old ++ missing_json queue numbers) }
 {
     match numbers {
-        Some(numbers) => append_json_numbers(queue, numbers, text),
+        Some(numbers) => append_json_missing_line(queue, numbers, text),
         None => Ok(()),
     }
 }
 
 /// Appends the line for the files that are missing, from the first of `numbers` to the last, both included.
-fn append_json_numbers(
+fn append_json_missing_line(
     queue: LogQueue,
     numbers: (FileSeq, FileSeq),
     text: &mut String,
@@ -194,6 +194,6 @@ pub fn append_json_no_files(queue: LogQueue, text: &mut String) -> AllocResult<(
 pub fn append_json_kept(alloc: Global, len: usize, path: &str, text: &mut String) -> AllocResult<()>
     ensures { OnOk result (string_bytes text.new ≡ string_bytes text.old ++ json_line (kept_data len path.now)) }
 {
-    let path = quoted(alloc, path)?;
+    let path = text_as_json(alloc, path)?;
     writeln!(text, "{{\"bytes\":{len},\"kept\":{path}}}")
 }

@@ -11,7 +11,7 @@ ghost use Rattle.raft_report.specs.JsonItems.{AreEntryData, AreItemLines, IsChan
 ghost use Rattle.raft_report.specs.JsonPieces.{AreJoined, AreTrailed, IsTextOf, item_back, item_front, member_text, trailed};
 ghost use Rattle.serde_json.specs.Written.{comma_if, compact_text};
 
-use crate::json::{QueueName, append_comma, quoted, quoted_hex};
+use crate::json::{QueueName, append_comma_if, hex_as_json, text_as_json};
 use raft_base::{AllocResult, EntryIndex, Error, FileBlockHandle, Result};
 use raft_listing::{
     BytesOfEntry, Loss, ReadBlock, Selection, bytes_of_entry, group_status_of, needed_block,
@@ -82,14 +82,14 @@ fn append_json_item(
         (string_bytes text.old) (string_bytes text.new)) }
     ensures memory { IfErr result (λ e. e ≡ Error.Memory) }
 {
-    append_item_front(part, text)?;
-    append_content(part, item, selection, known, text)?;
-    append_item_back(part, at, item.raft_group_id, text)?;
+    append_item_line_start(part, text)?;
+    append_item_content(part, item, selection, known, text)?;
+    append_item_line_end(part, at, item.raft_group_id, text)?;
     Ok(())
 }
 
 /// Appends the start of an item's line, up to the object that says what the item says: the number of the file.
-fn append_item_front(part: &FilePart, text: &mut String) -> AllocResult<()>
+fn append_item_line_start(part: &FilePart, text: &mut String) -> AllocResult<()>
     ensures { OnOk result (string_bytes text.new ≡ string_bytes text.old ++ item_front part.now) }
 {
     write!(text, "{{\"file\":{},\"item\":", part.id().seq)
@@ -97,7 +97,12 @@ fn append_item_front(part: &FilePart, text: &mut String) -> AllocResult<()>
 
 /// Appends the rest of an item's line, after the object that says what the item says: the offset of its batch in the file, the queue and
 /// the region. Ends the line.
-fn append_item_back(part: &FilePart, at: usize, region: u64, text: &mut String) -> AllocResult<()>
+fn append_item_line_end(
+    part: &FilePart,
+    at: usize,
+    region: u64,
+    text: &mut String,
+) -> AllocResult<()>
     requires { at ≤ length part.now.bytes }
     ensures { OnOk result (string_bytes text.new ≡ string_bytes text.old ++ item_back part.now at region) }
 {
@@ -109,7 +114,7 @@ fn append_item_back(part: &FilePart, at: usize, region: u64, text: &mut String) 
 }
 
 /// Appends the object that says what an item says: entries, a command, or the change of a key.
-fn append_content(
+fn append_item_content(
     part: &FilePart,
     item: &LogItem,
     selection: &Selection,
@@ -126,7 +131,7 @@ fn append_content(
             append_entries(part, entries.0.as_slice(), selection, known, text)
         }
         LogItemContent::Command(command) => Ok(append_command(command, text)?),
-        LogItemContent::Kv(change) => append_change(part, item, change, selection, text),
+        LogItemContent::Kv(change) => append_key_change(part, item, change, selection, text),
     }
 }
 
@@ -143,7 +148,7 @@ fn append_command(command: &Command, text: &mut String) -> AllocResult<()>
 
 /// Appends the object of a change of a key: the length of its value, the key, the value if values are selected, and what is done to the
 /// key. If the key value marks a batch of an atomic group, it says whether the group begins, goes on or ends there.
-fn append_change(
+fn append_key_change(
     part: &FilePart,
     item: &LogItem,
     change: &KeyValue,
@@ -156,17 +161,17 @@ fn append_change(
     ensures memory { IfErr result (λ e. e ≡ Error.Memory) }
 {
     let alloc = part.allocator();
-    append_value_len(&change.value, text)?;
+    append_value_length(&change.value, text)?;
     let status = group_status_of(part, item)?;
-    append_group(status, text)?;
-    append_key(alloc, change.key.as_slice(), text)?;
-    append_value(alloc, &change.value, selection, text)?;
-    append_op(change.op_type, text)?;
+    append_group_member(status, text)?;
+    append_key_member(alloc, change.key.as_slice(), text)?;
+    append_value_if_asked(alloc, &change.value, selection, text)?;
+    append_op_type(change.op_type, text)?;
     Ok(())
 }
 
 /// Appends the brace that opens an object, and the number of bytes of a value as its first member, if there is a value.
-fn append_value_len(value: &Option<Vec<u8>>, text: &mut String) -> AllocResult<()>
+fn append_value_length(value: &Option<Vec<u8>>, text: &mut String) -> AllocResult<()>
     ensures { OnOk result (string_bytes text.new
         ≡ string_bytes text.old ++ (codes "{" ++ trailed (bytes_member (option_map (λ v. v.items) value.now)))) }
 {
@@ -177,7 +182,7 @@ fn append_value_len(value: &Option<Vec<u8>>, text: &mut String) -> AllocResult<(
 }
 
 /// Appends a member which says that an atomic group begins, goes on or ends; nothing for `None`.
-fn append_group(status: Option<AtomicGroupStatus>, text: &mut String) -> AllocResult<()>
+fn append_group_member(status: Option<AtomicGroupStatus>, text: &mut String) -> AllocResult<()>
     ensures { OnOk result (string_bytes text.new ≡ string_bytes text.old ++ trailed (group_member status)) }
 {
     match status {
@@ -189,15 +194,15 @@ fn append_group(status: Option<AtomicGroupStatus>, text: &mut String) -> AllocRe
 }
 
 /// Appends a key as a member, in hex.
-fn append_key(alloc: Global, key: &[u8], text: &mut String) -> AllocResult<()>
+fn append_key_member(alloc: Global, key: &[u8], text: &mut String) -> AllocResult<()>
     ensures { OnOk result (string_bytes text.new ≡ string_bytes text.old ++ trailed (key_member key.now)) }
 {
-    let key = quoted_hex(alloc, key)?;
+    let key = hex_as_json(alloc, key)?;
     write!(text, "\"key\":{key},")
 }
 
 /// Appends a value as a member, in hex, if there is one and values are selected; else nothing.
-fn append_value(
+fn append_value_if_asked(
     alloc: Global,
     value: &Option<Vec<u8>>,
     selection: &Selection,
@@ -207,22 +212,22 @@ fn append_value(
         ≡ string_bytes text.old ++ trailed (value_member selection.now (option_map (λ v. v.items) value.now))) }
 {
     match value {
-        Some(value) if selection.values => append_value_bytes(alloc, value.as_slice(), text),
+        Some(value) if selection.values => append_value_member(alloc, value.as_slice(), text),
         _ => Ok(()),
     }
 }
 
 /// Appends the bytes of a value as a member, in hex.
-fn append_value_bytes(alloc: Global, value: &[u8], text: &mut String) -> AllocResult<()>
+fn append_value_member(alloc: Global, value: &[u8], text: &mut String) -> AllocResult<()>
     ensures { OnOk result (string_bytes text.new
         ≡ string_bytes text.old ++ trailed (shown_member value.now)) }
 {
-    let value = quoted_hex(alloc, value)?;
+    let value = hex_as_json(alloc, value)?;
     write!(text, "\"value\":{value},")
 }
 
 /// Appends what is done to a key as the last member, and the brace that closes the object.
-fn append_op(op_type: OpType, text: &mut String) -> AllocResult<()>
+fn append_op_type(op_type: OpType, text: &mut String) -> AllocResult<()>
     ensures { OnOk result (string_bytes text.new ≡ string_bytes text.old ++ (member_text (op_member op_type) ++ codes "}")) }
 {
     match op_type {
@@ -249,9 +254,9 @@ fn append_entries(
         text.push_str("{\"what\":\"entries\"}")?;
         return Ok(());
     };
-    append_block(&first.entries, text)?;
+    append_block_offset(&first.entries, text)?;
     append_entries_if_asked(part, entries, selection, known, text)?;
-    append_indexes(first.index, last_index(entries, first.index), text)?;
+    append_index_members(first.index, last_index(entries, first.index), text)?;
     append_block_length(&first.entries, text)?;
     append_entries_word(text)?;
     Ok(())
@@ -268,7 +273,7 @@ fn last_index(entries: &[EntryIndex], first: u64) -> u64
 }
 
 /// Appends the brace that opens an object, and the offset of an entry block as its first member; no member for `None`.
-fn append_block(place: &Option<FileBlockHandle>, text: &mut String) -> AllocResult<()>
+fn append_block_offset(place: &Option<FileBlockHandle>, text: &mut String) -> AllocResult<()>
     ensures { OnOk result (string_bytes text.new ≡ string_bytes text.old ++ (codes "{" ++ trailed (block_member place.now))) }
 {
     match place {
@@ -278,7 +283,7 @@ fn append_block(place: &Option<FileBlockHandle>, text: &mut String) -> AllocResu
 }
 
 /// Appends the first and the last index of entries, both included, as two members.
-fn append_indexes(first: u64, last: u64, text: &mut String) -> AllocResult<()>
+fn append_index_members(first: u64, last: u64, text: &mut String) -> AllocResult<()>
     ensures { OnOk result (string_bytes text.new ≡ string_bytes text.old ++ trailed (index_members first last)) }
 {
     write!(text, "\"first\":{first},\"last\":{last},")
@@ -362,14 +367,14 @@ fn append_entry_if_selected(
     if !selection.has_entry(entry) {
         return Ok(later);
     }
-    append_comma(later, text)?;
+    append_comma_if(later, text)?;
     let read = bytes_of_entry(part, entry, known)?;
-    append_entry(part.allocator(), entry.index, read, text)?;
+    append_entry_object(part.allocator(), entry.index, read, text)?;
     Ok(true)
 }
 
 /// Appends the object of the entry with the index `index`: its bytes in hex, or `null` and the reason why they can't be read.
-fn append_entry(
+fn append_entry_object(
     alloc: Global,
     index: u64,
     read: BytesOfEntry<'_>,
@@ -378,23 +383,23 @@ fn append_entry(
     ensures { OnOk result (string_bytes text.new ≡ string_bytes text.old ++ compact_text (entry_data index read.entry)) }
 {
     match read {
-        BytesOfEntry::Read(bytes) => append_entry_bytes(alloc, index, bytes, text),
-        BytesOfEntry::Lost(loss) => append_entry_loss(alloc, index, loss, text),
+        BytesOfEntry::Read(bytes) => append_read_entry(alloc, index, bytes, text),
+        BytesOfEntry::Lost(loss) => append_lost_entry(alloc, index, loss, text),
     }
 }
 
 /// Appends the object of the entry with the index `index`, whose bytes could be read; they are in hex.
-fn append_entry_bytes(alloc: Global, index: u64, bytes: &[u8], text: &mut String) -> AllocResult<()>
+fn append_read_entry(alloc: Global, index: u64, bytes: &[u8], text: &mut String) -> AllocResult<()>
     ensures { OnOk result (string_bytes text.new ≡ string_bytes text.old ++ compact_text (read_data index bytes.now)) }
 {
-    let bytes = quoted_hex(alloc, bytes)?;
+    let bytes = hex_as_json(alloc, bytes)?;
     write!(text, "{{\"bytes\":{bytes},\"index\":{index}}}")
 }
 
 /// Appends the object of the entry with the index `index`, whose bytes can't be read: `null` in place of them, and the reason.
-fn append_entry_loss(alloc: Global, index: u64, loss: Loss, text: &mut String) -> AllocResult<()>
+fn append_lost_entry(alloc: Global, index: u64, loss: Loss, text: &mut String) -> AllocResult<()>
     ensures { OnOk result (string_bytes text.new ≡ string_bytes text.old ++ compact_text (lost_entry_data index loss)) }
 {
-    let why = quoted(alloc, loss.words())?;
+    let why = text_as_json(alloc, loss.words())?;
     write!(text, "{{\"bytes\":null,\"index\":{index},\"why\":{why}}}")
 }

@@ -6,9 +6,9 @@ ghost use Rattle.raft_report.specs.JsonData.{count, json_line, list_of};
 ghost use Rattle.raft_report.specs.JsonLines.{IsJsonOfTables, IsRegionAdded, first_of, key_value_data, last_of, live_in, region_json, regions_of, table_back, table_front, table_json, totals_data, use_data, uses_json};
 ghost use Rattle.serde_json.specs.Written.{comma_if, compact_text};
 
-use crate::json::{Nullable, QueueName, append_comma, append_numbers, quoted_hex};
+use crate::json::{Nullable, QueueName, append_comma_if, append_numbers, hex_as_json};
 use crate::region_order::sort_by_region;
-use crate::uses::{FileUse, FileUses, live_in};
+use crate::uses::{FileUse, FileUses, live_bytes_in};
 use raft_base::{AllocResult, Error, LogQueue, Result};
 use raft_reading::FileSize;
 use raft_recover::{MemTable, MemTableAccessor};
@@ -29,35 +29,38 @@ pub fn append_json_region(
     ensures memory { IfErr result (λ e. e ≡ Error.Memory) }
 {
     if !keys {
-        return Ok(append_bare_table(table, text)?);
+        return Ok(append_table_without_pairs(table, text)?);
     }
-    let pairs = pairs_text(alloc, table)?;
-    Ok(append_table(table, pairs.as_str(), text)?)
+    let pairs = pairs_as_json(alloc, table)?;
+    Ok(append_table_line(table, pairs.as_str(), text)?)
 }
 
 /// Appends the line of a table, with `null` in place of its keys and values.
-fn append_bare_table(table: &MemTable, text: &mut String) -> AllocResult<()>
+fn append_table_without_pairs(table: &MemTable, text: &mut String) -> AllocResult<()>
     ensures { OnOk result (string_bytes text.new ≡ string_bytes text.old ++ table_json table.now) }
 {
-    append_table(table, "null", text)
+    append_table_line(table, "null", text)
 }
 
 /// Appends the line of a table, with the text `pairs` for the list of its keys and values.
-fn append_table(table: &MemTable, pairs: &str, text: &mut String) -> AllocResult<()>
+fn append_table_line(table: &MemTable, pairs: &str, text: &mut String) -> AllocResult<()>
     ensures { OnOk result (string_bytes text.new ≡ string_bytes text.old ++ region_json table.now pairs.now) }
 {
-    append_table_front(table, text)?;
+    append_members_before_pairs(table, text)?;
     text.push_str(pairs)?;
-    append_table_back(table, text)
+    append_members_after_pairs(table, text)
 }
 
 /// Appends the members of a table's line up to its pairs: its oldest append file, the first index, the number of keys, and the last index.
 /// What there is none of is `null`.
-fn append_table_front(table: &MemTable, text: &mut String) -> AllocResult<()>
+fn append_members_before_pairs(table: &MemTable, text: &mut String) -> AllocResult<()>
     ensures { OnOk result (string_bytes text.new ≡ string_bytes text.old ++ table_front table.now) }
 {
     let append = Nullable(table.min_file_seq(LogQueue::Append));
-    let (first, last) = (Nullable(first_of(table)), Nullable(last_of(table)));
+    let (first, last) = (
+        Nullable(first_index_of(table)),
+        Nullable(last_index_of(table)),
+    );
     let keys = table.key_count();
     write!(
         text,
@@ -66,7 +69,7 @@ fn append_table_front(table: &MemTable, text: &mut String) -> AllocResult<()>
 }
 
 /// Appends the members of a table's line after its pairs: the region, and its oldest rewrite file, `null` if there is none. Ends the line.
-fn append_table_back(table: &MemTable, text: &mut String) -> AllocResult<()>
+fn append_members_after_pairs(table: &MemTable, text: &mut String) -> AllocResult<()>
     ensures { OnOk result (string_bytes text.new ≡ string_bytes text.old ++ table_back table.now) }
 {
     let rewrite = Nullable(table.min_file_seq(LogQueue::Rewrite));
@@ -75,14 +78,14 @@ fn append_table_back(table: &MemTable, text: &mut String) -> AllocResult<()>
 }
 
 /// Returns the first index of a table; `None` if it has no entries.
-fn first_of(table: &MemTable) -> Option<u64>
+fn first_index_of(table: &MemTable) -> Option<u64>
     ensures { result ≡ first_of table.now.entries }
 {
     table.first_index()
 }
 
 /// Returns the last index of a table; `None` if it has no entries.
-fn last_of(table: &MemTable) -> Option<u64>
+fn last_index_of(table: &MemTable) -> Option<u64>
     ensures { result ≡ last_of table.now.entries }
 {
     table.last_index()
@@ -93,7 +96,7 @@ fn last_of(table: &MemTable) -> Option<u64>
 /// # Errors
 ///
 /// `Memory` alone.
-fn pairs_text(alloc: Global, table: &MemTable) -> Result<String>
+fn pairs_as_json(alloc: Global, table: &MemTable) -> Result<String>
     ensures memory { IfErr result (λ e. e ≡ Error.Memory) }
 {
     let mut text = String::new(alloc);
@@ -124,8 +127,8 @@ fn append_pair(
     ensures { OnOk result (string_bytes text.new
         ≡ string_bytes text.old ++ (comma_if later ++ compact_text (key_value_data (key.now, value.now)))) }
 {
-    append_comma(later, text)?;
-    let (key, value) = (quoted_hex(alloc, key)?, quoted_hex(alloc, value)?);
+    append_comma_if(later, text)?;
+    let (key, value) = (hex_as_json(alloc, key)?, hex_as_json(alloc, value)?);
     write!(text, "{{\"key\":{key},\"value\":{value}}}")
 }
 
@@ -153,7 +156,7 @@ fn append_json_tables(tables: &[&MemTable], text: &mut String) -> AllocResult<()
         ≡ string_bytes text.old ++ flat_map table_json (map (λ t. t.now) tables.now)) }
 {
     for table in tables {
-        append_bare_table(table, text)?;
+        append_table_without_pairs(table, text)?;
     }
     Ok(())
 }
@@ -201,7 +204,12 @@ fn append_json_file_use(
 ) -> AllocResult<()>
     ensures { OnOk result (string_bytes text.new ≡ string_bytes text.old ++ json_line (use_data queue size.now (option_copied file_use.entry))) }
 {
-    let (name, bytes, file, live) = (QueueName(queue), size.len, size.seq, live_in(file_use));
+    let (name, bytes, file, live) = (
+        QueueName(queue),
+        size.len,
+        size.seq,
+        live_bytes_in(file_use),
+    );
     write!(
         text,
         "{{\"bytes\":{bytes},\"file\":{file},\"live\":{live},\"queue\":{name},\"regions\":"

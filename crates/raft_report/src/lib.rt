@@ -14,7 +14,7 @@ pub mod regions;
 pub mod uses;
 
 pub use form::Form;
-pub use json::{QueueName, quoted, quoted_reason};
+pub use json::{QueueName, reason_as_json, text_as_json};
 pub use json_dump::JsonDump;
 pub use json_files::{
     append_json_kept, append_json_missing_files, append_json_no_files, append_json_scan,

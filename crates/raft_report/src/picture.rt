@@ -1,7 +1,7 @@
 //! The files of both queues as a picture in SVG. Each call that appends fails for want of memory alone, and some of its text may then be
 //! appended.
 
-use crate::uses::{FileUse, FileUses, append_regions_of, live_in, share_of};
+use crate::uses::{FileUse, FileUses, append_regions_of, filled_parts, live_bytes_in};
 use raft_base::{AllocResult, LogQueue};
 use raft_reading::FileSize;
 use raft_replay::segment::queue_name;
@@ -45,15 +45,15 @@ pub fn append_picture(
         text,
         "<text x=\"10\" y=\"17\">Each bar is a file; its filled part are the bytes of live entries.</text>"
     )?;
-    let largest = largest_of(append.0).max(largest_of(rewrite.0));
-    append_files(LogQueue::Append, append, largest, 1, text)?;
+    let largest = largest_length(append.0).max(largest_length(rewrite.0));
+    append_queue_files(LogQueue::Append, append, largest, 1, text)?;
     let below = (append.0.len() as u64).saturating_add(1);
-    append_files(LogQueue::Rewrite, rewrite, largest, below, text)?;
+    append_queue_files(LogQueue::Rewrite, rewrite, largest, below, text)?;
     text.push_str("</svg>\n")
 }
 
 /// Returns the length in bytes of the largest file; 0 if there are no files.
-fn largest_of(sizes: &[FileSize]) -> u64 {
+fn largest_length(sizes: &[FileSize]) -> u64 {
     let mut largest = 0;
     for size in sizes {
         largest = size.len.max(largest);
@@ -63,7 +63,7 @@ fn largest_of(sizes: &[FileSize]) -> u64 {
 
 /// Appends the files of a queue, one a line. The first of them goes to the line `first_line`, counted from 0. `largest` is the length in
 /// bytes to which bars are compared.
-fn append_files(
+fn append_queue_files(
     queue: LogQueue,
     files: (&[FileSize], &FileUses),
     largest: u64,
@@ -72,7 +72,7 @@ fn append_files(
 ) -> AllocResult<()> {
     let mut line = first_line;
     for size in files.0 {
-        append_file(queue, size, files.1.get(&size.seq), largest, line, text)?;
+        append_file_line(queue, size, files.1.get(&size.seq), largest, line, text)?;
         line = line.saturating_add(1);
     }
     Ok(())
@@ -80,7 +80,7 @@ fn append_files(
 
 /// Appends the line of one file: its name, its bar, and to the right of it how much of the file is live and which regions have it as their
 /// oldest. `file_use` is `None` if no table needs the file.
-fn append_file(
+fn append_file_line(
     queue: LogQueue,
     size: &FileSize,
     file_use: Option<&FileUse>,
@@ -88,11 +88,11 @@ fn append_file(
     line: u64,
     text: &mut String,
 ) -> AllocResult<()> {
-    let (live, y) = (live_in(file_use), line.saturating_mul(LINE));
+    let (live, y) = (live_bytes_in(file_use), line.saturating_mul(LINE));
     append_bar(queue, (size.len, live), largest, y.saturating_add(4), text)?;
     let (name, seq, text_y) = (queue_name(queue), size.seq, y.saturating_add(17));
     writeln!(text, "<text x=\"10\" y=\"{text_y}\">{name} {seq}</text>")?;
-    let (percent, len) = (share_of(live, size.len, 100), size.len);
+    let (percent, len) = (filled_parts(live, size.len, 100), size.len);
     write!(
         text,
         "<text x=\"{BEHIND}\" y=\"{text_y}\">{percent} % of {len} bytes are live"
@@ -111,8 +111,8 @@ fn append_bar(
     text: &mut String,
 ) -> AllocResult<()> {
     let (whole, full) = (
-        share_of(len, largest, WIDTH),
-        share_of(live, largest, WIDTH),
+        filled_parts(len, largest, WIDTH),
+        filled_parts(live, largest, WIDTH),
     );
     let colour = match queue {
         LogQueue::Append => "#2b6cb0",

@@ -41,7 +41,7 @@ pub fn uses_of(alloc: Global, tables: &MemTableAccessor, queue: LogQueue) -> Res
     let mut tables = tables.tables()?;
     sort_by_region(&mut tables);
     for table in tables {
-        add_table(alloc, table, queue, &mut uses)?;
+        add_table_uses(alloc, table, queue, &mut uses)?;
     }
     Ok(uses)
 }
@@ -51,18 +51,23 @@ pub fn uses_of(alloc: Global, tables: &MemTableAccessor, queue: LogQueue) -> Res
 /// # Errors
 ///
 /// `Memory` alone. Some of it may have been added then.
-fn add_table(alloc: Global, table: &MemTable, queue: LogQueue, uses: &mut FileUses) -> Result<()> {
+fn add_table_uses(
+    alloc: Global,
+    table: &MemTable,
+    queue: LogQueue,
+    uses: &mut FileUses,
+) -> Result<()> {
     for block in table.blocks() {
         if block.handle.id.queue == queue {
             let mut live: u64 = 0;
             for span in &block.spans {
                 live = live.saturating_add(u64::from(span.1));
             }
-            add_live(alloc, block.handle.id, live, uses)?;
+            add_live_bytes(alloc, block.handle.id, live, uses)?;
         }
     }
     if let Some(oldest) = table.min_file_seq(queue) {
-        add_live(alloc, FileId::new(queue, oldest), 0, uses)?;
+        add_live_bytes(alloc, FileId::new(queue, oldest), 0, uses)?;
         if let Some(file_use) = uses.get_mut(&oldest) {
             file_use.regions.push(table.region_id())?;
         }
@@ -71,7 +76,7 @@ fn add_table(alloc: Global, table: &MemTable, queue: LogQueue, uses: &mut FileUs
 }
 
 /// Adds `live` to the bytes of live entries in the file `id`, which gets an element of `uses` if it has none. The queue of `id` is ignored.
-fn add_live(alloc: Global, id: FileId, live: u64, uses: &mut FileUses) -> Result<()> {
+fn add_live_bytes(alloc: Global, id: FileId, live: u64, uses: &mut FileUses) -> Result<()> {
     match uses.get_mut(&id.seq) {
         Some(file_use) => file_use.live = file_use.live.saturating_add(live),
         None => {
@@ -95,25 +100,25 @@ pub fn append_uses(
     text: &mut String,
 ) -> AllocResult<()> {
     for size in sizes {
-        append_use(queue, size, uses.get(&size.seq), text)?;
+        append_use_line(queue, size, uses.get(&size.seq), text)?;
     }
     Ok(())
 }
 
 /// Appends the line of one file. `file_use` is `None` if no table needs the file.
-fn append_use(
+fn append_use_line(
     queue: LogQueue,
     size: &FileSize,
     file_use: Option<&FileUse>,
     text: &mut String,
 ) -> AllocResult<()> {
-    append_bar(queue, size, live_in(file_use), text)?;
+    append_name_and_bar(queue, size, live_bytes_in(file_use), text)?;
     append_regions_of(file_use, text)?;
     text.push('\n')
 }
 
 /// Returns the number of bytes of live entries in a file; 0 for `None`.
-pub(crate) fn live_in(file_use: Option<&FileUse>) -> u64
+pub(crate) fn live_bytes_in(file_use: Option<&FileUse>) -> u64
     ensures { result ≡ live_in (option_copied file_use.entry) }
 {
     match file_use {
@@ -123,19 +128,24 @@ pub(crate) fn live_in(file_use: Option<&FileUse>) -> u64
 }
 
 /// Appends the start of a file's line: its name, its length, a bar, and how many of its bytes are those of live entries.
-fn append_bar(queue: LogQueue, size: &FileSize, live: u64, text: &mut String) -> AllocResult<()> {
+fn append_name_and_bar(
+    queue: LogQueue,
+    size: &FileSize,
+    live: u64,
+    text: &mut String,
+) -> AllocResult<()> {
     let name = queue_name(queue);
     write!(text, "{name:<7} {:>6} {:>12} B |", size.seq, size.len)?;
-    let full = share_of(live, size.len, BAR_LEN);
+    let full = filled_parts(live, size.len, BAR_LEN);
     for at in 0..BAR_LEN {
         text.push(if at < full { '#' } else { ' ' })?;
     }
-    let percent = share_of(live, size.len, 100);
+    let percent = filled_parts(live, size.len, 100);
     write!(text, "| {percent:>3} % live, {live} B of entries")
 }
 
 /// Returns how many of `parts` equal parts of `whole` are filled by `some`, rounded down and at most `parts`. Returns 0 if `whole` is 0.
-pub(crate) fn share_of(some: u64, whole: u64, parts: u64) -> u64 {
+pub(crate) fn filled_parts(some: u64, whole: u64, parts: u64) -> u64 {
     match some.saturating_mul(parts).checked_div(whole) {
         Some(share) => share.min(parts),
         None => 0,

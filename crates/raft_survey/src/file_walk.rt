@@ -160,7 +160,7 @@ fn take_whole_batches(piece: &mut Vec<u8>) -> Result<Vec<u8>>
     ensures memory { IfErr result (λ e. e ≡ Error.Memory) }
 {
     let alloc = *piece.allocator();
-    let whole = whole_batches(alloc, piece.as_slice());
+    let whole = whole_batches_length(alloc, piece.as_slice());
     let rest = piece.split_off(whole)?;
     Ok(mem::replace(piece, rest))
 }
@@ -186,7 +186,7 @@ fn walk_piece<V: PartVisitor>(
 
 /// Returns the length in bytes of the whole batches at the start of `bytes`: header after header is read until there is none, or its batch
 /// ends after `bytes`.
-fn whole_batches(alloc: Global, bytes: &[u8]) -> usize
+fn whole_batches_length(alloc: Global, bytes: &[u8]) -> usize
     ensures inside { result ≤ length bytes.now }
     ensures whole { AreBatchesByHeader (take result bytes.now) }
     ensures none { HasNoWhole (drop result bytes.now) }

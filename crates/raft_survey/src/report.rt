@@ -28,9 +28,9 @@ pub fn append_scan(
 ) -> AllocResult<()>
     ensures { OnOk result (string_bytes text.new ≡ string_bytes text.old ++ scan_text queue last scan.now) }
 {
-    append_missing(queue, missing_between(last, scan.seq), text)?;
+    append_missing_if_any(queue, missing_between(last, scan.seq), text)?;
     append_file_line(queue, scan, text)?;
-    append_damages(queue, scan.seq, scan.len, scan.damages.as_slice(), text)?;
+    append_damage_lines(queue, scan.seq, scan.len, scan.damages.as_slice(), text)?;
     append_unsearched_if_any(queue, scan, text)
 }
 
@@ -48,7 +48,7 @@ fn append_unsearched_if_any(queue: LogQueue, scan: &FileScan, text: &mut String)
 fn append_unsearched_line(queue: LogQueue, scan: &FileScan, text: &mut String) -> AllocResult<()>
     ensures { OnOk result (string_bytes text.new ≡ string_bytes text.old ++ unsearched_line queue scan.now) }
 {
-    append_place(queue, scan.seq, scan.len.saturating_sub(scan.unseen), text)?;
+    append_file_and_offset(queue, scan.seq, scan.len.saturating_sub(scan.unseen), text)?;
     append_unsearched_words(scan.unseen, text)
 }
 
@@ -97,7 +97,7 @@ fn append_batch_count(count: u64, text: &mut String) -> AllocResult<()>
 }
 
 /// Appends a line for each place in a file where something can't be read. `len` is the length of the file in bytes.
-fn append_damages(
+fn append_damage_lines(
     queue: LogQueue,
     seq: FileSeq,
     len: u64,
@@ -123,13 +123,18 @@ fn append_damage_line(
 ) -> AllocResult<()>
     ensures { OnOk result (string_bytes text.new ≡ string_bytes text.old ++ damage_line queue seq len damage.now) }
 {
-    append_place(queue, seq, damage.offset, text)?;
+    append_file_and_offset(queue, seq, damage.offset, text)?;
     append_damage_words(len, damage, text)?;
     text.push_str("\n")
 }
 
 /// Appends the words with which the line of a place in a file begins: two spaces, the queue, the number of the file, and the offset.
-fn append_place(queue: LogQueue, seq: FileSeq, offset: u64, text: &mut String) -> AllocResult<()>
+fn append_file_and_offset(
+    queue: LogQueue,
+    seq: FileSeq,
+    offset: u64,
+    text: &mut String,
+) -> AllocResult<()>
     ensures { OnOk result (string_bytes text.new ≡ string_bytes text.old ++ place_words queue seq offset) }
 {
     let name = queue_name(queue);
@@ -144,7 +149,7 @@ fn append_damage_words(len: u64, damage: &Damage, text: &mut String) -> AllocRes
 {
     match &damage.kind {
         DamageKind::Batch(reason) => {
-            append_unreadable(len.saturating_sub(damage.offset), reason, text)
+            append_unreadable_batch(len.saturating_sub(damage.offset), reason, text)
         }
         DamageKind::Entries {
             region,
@@ -156,7 +161,7 @@ fn append_damage_words(len: u64, damage: &Damage, text: &mut String) -> AllocRes
 }
 
 /// Appends that no batch can be read at a place `left` bytes before the end of its file, and the reason.
-fn append_unreadable(left: u64, reason: &Error, text: &mut String) -> AllocResult<()>
+fn append_unreadable_batch(left: u64, reason: &Error, text: &mut String) -> AllocResult<()>
     ensures { OnOk result (string_bytes text.new ≡ string_bytes text.old ++ unreadable_words left reason.now) }
 {
     write!(
@@ -176,13 +181,13 @@ fn append_lost_entries(
 ) -> AllocResult<()>
     ensures { OnOk result (string_bytes text.new ≡ string_bytes text.old ++ lost_words region first last loss) }
 {
-    append_entries(first, last, text)?;
+    append_entry_indexes(first, last, text)?;
     let why = loss.words();
-    append_of_region(region, why, text)
+    append_region_and_reason(region, why, text)
 }
 
 /// Appends the end of a sentence about entries: that they are of `region` and can't be read, and the reason `why`.
-fn append_of_region(region: u64, why: &str, text: &mut String) -> AllocResult<()>
+fn append_region_and_reason(region: u64, why: &str, text: &mut String) -> AllocResult<()>
     ensures { OnOk result (string_bytes text.new
         ≡ string_bytes text.old ++ (codes " of region " ++ (decimal region ++ (codes " can't be read: " ++ why.now)))) }
 {
@@ -190,7 +195,7 @@ fn append_of_region(region: u64, why: &str, text: &mut String) -> AllocResult<()
 }
 
 /// Appends the indexes `first` to `last` of entries, both included; one index if they are the same.
-fn append_entries(first: u64, last: u64, text: &mut String) -> AllocResult<()>
+fn append_entry_indexes(first: u64, last: u64, text: &mut String) -> AllocResult<()>
     ensures { OnOk result (string_bytes text.new ≡ string_bytes text.old ++ entries_words first last) }
 {
     if first == last {
@@ -201,7 +206,7 @@ fn append_entries(first: u64, last: u64, text: &mut String) -> AllocResult<()>
 
 /// Appends a line for the files that are missing in a gap. `numbers` are the first and the last number missing there; for `None` nothing is
 /// appended.
-fn append_missing(
+fn append_missing_if_any(
     queue: LogQueue,
     numbers: Option<(FileSeq, FileSeq)>,
     text: &mut String,
@@ -241,7 +246,7 @@ pub fn append_missing_files(
 {
     let mut last = None;
     for size in sizes {
-        append_missing(queue, missing_between(last, size.seq), text)?;
+        append_missing_if_any(queue, missing_between(last, size.seq), text)?;
         last = Some(size.seq);
     }
     Ok(())

@@ -15,8 +15,8 @@ pub struct BothSizes {
 }
 
 impl BothSizes {
-    /// Returns the files of one queue, oldest first.
-    pub fn of(&self, queue: LogQueue) -> &[FileSize]
+    /// Returns the files of `queue`, oldest first.
+    pub fn files_of(&self, queue: LogQueue) -> &[FileSize]
         ensures append { queue ≡ LogQueue.Append → result.now ≡ self.now.append.items }
         ensures rewrite { queue ≡ LogQueue.Rewrite → result.now ≡ self.now.rewrite.items }
     {

@@ -92,8 +92,8 @@ fn append_missing(
     text: &mut String,
 ) -> AllocResult<()> {
     match form {
-        Form::Text => append_missing_files(queue, sizes.of(queue), text),
-        Form::Json => append_json_missing_files(queue, sizes.of(queue), text),
+        Form::Text => append_missing_files(queue, sizes.files_of(queue), text),
+        Form::Json => append_json_missing_files(queue, sizes.files_of(queue), text),
     }
 }
 

@@ -8,7 +8,7 @@ loop-table-preserved c =
     let before = string_bytes c.loop-table.text in
     let rest = flat_map table_json (map (λ t. t.now) next) in
     let left : drop c.loop-table.table-index tables ≡ c.table-item.result ∷ next = drop_more tables c.loop-table.table-index c.table-item.result c.loop-table-test.true ∙ ap (λ s. s ∷ next) (sym c.table-item.is) in
-    ap (λ (t : List ℕ). t ++ rest) c.in_ok-append_bare_table.ensures
+    ap (λ (t : List ℕ). t ++ rest) c.in_ok-append_table_without_pairs.ensures
     ∙ append_assoc before (table_json c.table-item.result.now) rest
     ∙ ap (λ (l : List _). before ++ flat_map table_json (map (λ t. t.now) l)) (sym left)
     ∙ c.loop-table.invariant

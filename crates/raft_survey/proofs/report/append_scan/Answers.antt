@@ -7,8 +7,8 @@ returns c =
     let line = damage_line c.args.queue scan.seq scan.len in
     on_ok_weaker c.append_unsearched_if_any.result
     (λ ended. four_added (string_bytes c.args.text.now) (missing_line c.args.queue (missing_between c.args.last scan.seq)) (file_line c.args.queue scan) (flat_map line scan.damages.items) (unseen_line c.args.queue scan)
-    (string_bytes c.append_missing.new.text) (string_bytes c.append_file_line.new.text) (string_bytes c.append_damages.new.text) (string_bytes c.append_unsearched_if_any.new.text)
-    (c.in_ok-append_missing.ensures ∙ ap (λ (numbers : Option (ℕ × ℕ)). string_bytes c.args.text.now ++ missing_line c.args.queue numbers) c.missing_between.ensures)
+    (string_bytes c.append_missing_if_any.new.text) (string_bytes c.append_file_line.new.text) (string_bytes c.append_damage_lines.new.text) (string_bytes c.append_unsearched_if_any.new.text)
+    (c.in_ok-append_missing_if_any.ensures ∙ ap (λ (numbers : Option (ℕ × ℕ)). string_bytes c.args.text.now ++ missing_line c.args.queue numbers) c.missing_between.ensures)
     c.in_ok-append_file_line.ensures
-    (c.in_ok-append_damages.ensures ∙ ap (λ (ds : List Damage). string_bytes c.append_file_line.new.text ++ flat_map line ds) c.as_slice.ensures.value) ended)
+    (c.in_ok-append_damage_lines.ensures ∙ ap (λ (ds : List Damage). string_bytes c.append_file_line.new.text ++ flat_map line ds) c.as_slice.ensures.value) ended)
     c.append_unsearched_if_any.ensures

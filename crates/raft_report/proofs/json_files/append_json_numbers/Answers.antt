@@ -1,6 +1,0 @@
-use Rattle.raft_report.proofs.Common.{rules}
-use Rattle.raft_report.proofs.LineLemmas.{missing_is}
-use Rattle.raft_report.proofs.json_files.append_json_numbers.Goals as goal
-
-pub returns : goal.returns
-returns c = rw (missing_is c.args.queue c.args.numbers) (search rules)

@@ -1,6 +1,0 @@
-use Rattle.raft_report.proofs.Common.{rules, serde_json_on_literals}
-use Rattle.raft_report.proofs.json_items.append_indexes.Goals as goal
-
-pub returns : goal.returns
-unfolding serde_json_on_literals
-returns c = search rules

@@ -71,13 +71,13 @@ impl GlobalStats {
     {
         match queue {
             LogQueue::Append => {
-                self.live_append_entries = sum(self.live_append_entries, count)?;
+                self.live_append_entries = add_counts(self.live_append_entries, count)?;
             }
             LogQueue::Rewrite => {
                 if usize::MAX - self.rewrite_entries < count {
                     self.reset_rewrite_counters();
                 }
-                self.rewrite_entries = sum(self.rewrite_entries, count)?;
+                self.rewrite_entries = add_counts(self.rewrite_entries, count)?;
             }
         }
         Ok(())
@@ -246,7 +246,7 @@ impl GlobalStats {
 /// # Errors
 ///
 /// `Full` if it is more than 2^64 - 1.
-fn sum(a: usize, b: usize) -> Result<usize>
+fn add_counts(a: usize, b: usize) -> Result<usize>
     ensures ok { IfOk result (λ s. s ≡ a + b) }
     ensures accepted { a + b < 2 ^ 64 → IsOk result }
     ensures full { IfErr result (λ e. (e ≡ Error.Full) × (2 ^ 64 ≤ a + b)) }

@@ -273,10 +273,12 @@ impl MemTable {
         let Some(first) = run.first_index() else {
             return true;
         };
-        let Some(keep) = self.entries.kept_under(queue, first) else {
+        let Some(keep) = self.entries.count_kept_by_rule(queue, first) else {
             return false;
         };
-        self.entries.put_run_behind(keep, run, queue, stats).is_ok()
+        self.entries
+            .put_and_count_run(keep, run, queue, stats)
+            .is_ok()
     }
 
     /// Moves entries to the places of `run`, which was written to the rewrite queue with copies of entries of

@@ -90,9 +90,9 @@ impl DeletedKeys {
     {
         if self.len() < rhs.len() {
             mem::swap(self, rhs);
-            return self.take_each(rhs);
+            return self.move_each_from(rhs);
         }
-        self.take_each(rhs)
+        self.move_each_from(rhs)
     }
 
     /// Moves the keys of `rhs` into this set one by one, and leaves `rhs` empty.
@@ -101,7 +101,7 @@ impl DeletedKeys {
     ///
     /// `AllocError` if there is no memory for a key. That key is lost then; those before it, by their bytes,
     /// have been moved, and those after it are left in `rhs`.
-    fn take_each(&mut self, rhs: &mut DeletedKeys) -> AllocResult<()>
+    fn move_each_from(&mut self, rhs: &mut DeletedKeys) -> AllocResult<()>
         ensures ok { OnOk result (self.new ≡ finset.union self.old rhs.old) }
         ensures emptied { OnOk result (rhs.new ≡ finset.empty) }
     {
@@ -127,12 +127,12 @@ impl DeletedKeys {
         ensures after { keys.new ≡ without self.now keys.old }
         ensures fewer { (q : LogQueue) → pair_count q keys.new ≤ pair_count q keys.old }
     {
-        delete_all(&self.keys, keys);
+        remove_keys_from(&self.keys, keys);
     }
 }
 
 /// Removes the keys of `deleted`, with their values, from `keys`: the loop of [`DeletedKeys::delete_from`].
-fn delete_all(deleted: &BTreeMap<Vec<u8>, ()>, keys: &mut KeyValues)
+fn remove_keys_from(deleted: &BTreeMap<Vec<u8>, ()>, keys: &mut KeyValues)
     ensures after { keys.new
         ≡ without (finset.from_list (map (λ e. e.0.items) deleted.now.entries)) keys.old }
     ensures fewer { (q : LogQueue) → pair_count q keys.new ≤ pair_count q keys.old }

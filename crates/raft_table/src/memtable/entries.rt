@@ -13,7 +13,7 @@ mod put_runs;
 mod runs;
 
 use crate::memtable::block::Block;
-use crate::memtable::entries::block_deques::spot_of;
+use crate::memtable::entries::block_deques::spot_at_position;
 use raft_base::{CompressionType, EntryIndex, LogQueue};
 use std::alloc::Global;
 use std::collections::VecDeque;
@@ -174,7 +174,7 @@ impl Entries {
         if at >= self.len {
             return None;
         }
-        let (nth, below) = spot_of(&self.blocks, &self.starts, self.first, self.len, at);
+        let (nth, below) = spot_at_position(&self.blocks, &self.starts, self.first, self.len, at);
         let block = &self.blocks[nth];
         let span = block.spans[below];
         Some(EntryIndex {

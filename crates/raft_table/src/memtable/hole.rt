@@ -11,7 +11,7 @@ use std::alloc::Global;
 pub fn hole_error(alloc: Global, region_id: u64, start: u64, end: u64) -> Error
     ensures { IsCorruption (hole_text region_id start end) result }
 {
-    hole_error_from(alloc, region_id, "index ", start, end)
+    format_hole_error(alloc, region_id, "index ", start, end)
 }
 
 /// Returns the `Corruption` for a run of the region `region_id` that leaves a hole after entries that end
@@ -20,13 +20,13 @@ pub fn hole_error(alloc: Global, region_id: u64, start: u64, end: u64) -> Error
 pub fn hole_error_above(alloc: Global, region_id: u64, below: u64, end: u64) -> Error
     ensures { IsCorruption (hole_text_above region_id below end) result }
 {
-    hole_error_from(alloc, region_id, "above index ", below, end)
+    format_hole_error(alloc, region_id, "above index ", below, end)
 }
 
 /// Returns the `Corruption` with the text
 /// `region R: a run from WORDS INDEX on leaves a hole behind the entries, which end before index END`.
 /// `words` is `index ` or `above index `. Returns `Memory` if there is none for the text.
-fn hole_error_from(alloc: Global, region_id: u64, words: &str, index: u64, end: u64) -> Error
+fn format_hole_error(alloc: Global, region_id: u64, words: &str, index: u64, end: u64) -> Error
     ensures { IsCorruption (hole_text_from region_id words.now index end) result }
 {
     match format!(in alloc;

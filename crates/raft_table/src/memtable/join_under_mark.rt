@@ -75,7 +75,7 @@ impl MemTable {
             return Err(Error::Full);
         }
         self.check_newer_mark(queue, mark, end)?;
-        self.drop_older(mark.misses(end), mark, stats);
+        self.drop_by_mark(mark.leaves_hole_after(end), mark, stats);
         self.merge_by_rule(queue, rhs, queue, stats)?;
         self.take_atomic_group(rhs);
         Ok(end)
@@ -118,7 +118,7 @@ impl MemTable {
         if !stats.has_room(rhs) {
             return Err(Error::Full);
         }
-        self.drop_older(self.is_unjoined(rhs, mark), mark, stats);
+        self.drop_by_mark(self.fails_to_reach(rhs, mark), mark, stats);
         self.merge_by_rule(LogQueue::Rewrite, rhs, LogQueue::Append, stats)?;
         self.take_appended_group(rhs, mark);
         Ok(())
@@ -138,7 +138,7 @@ impl MemTable {
     /// Tests whether all entries of this rewritten table are dropped because they don't reach those of the
     /// appended table `rhs`: the entries of `rhs` don't begin at the mark's cut, or those of this table end
     /// below it. Returns false if there is no cut, or `rhs` has no entries.
-    fn is_unjoined(&self, rhs: &MemTable, mark: &Mark) -> bool
+    fn fails_to_reach(&self, rhs: &MemTable, mark: &Mark) -> bool
         ensures { result ≡ is_unjoined mark.now.cut (end_of self.now.entries) rhs.now.entries }
     {
         match (mark.cut(), rhs.entries.first_index()) {
@@ -206,7 +206,7 @@ impl MemTable {
         match queue {
             LogQueue::Append => {
                 self.check_first_run(mark, end)?;
-                self.check_barred(mark)
+                self.check_barred_indexes(mark)
             }
             LogQueue::Rewrite => Ok(()),
         }
@@ -228,19 +228,19 @@ impl MemTable {
         let Some(start) = mark.reach() else {
             return Ok(());
         };
-        if !mark.misses(end) {
+        if !mark.leaves_hole_after(end) {
             return Ok(());
         }
         Err(hole_error(self.entries.allocator(), self.region_id, start, end))
     }
 
-    /// Checks that no entry has an index that a newer region mark bars ([`Mark::barred`]).
+    /// Checks that no entry has an index that a newer region mark bars ([`Mark::barred_indexes`]).
     ///
     /// # Errors
     ///
     /// `Corruption` if one has, since a run of the mark's steps then leaves a hole; `Memory` if there is none
     /// for its text.
-    fn check_barred(&self, mark: &Mark) -> Result<()>
+    fn check_barred_indexes(&self, mark: &Mark) -> Result<()>
         ensures ok { OnOk result (is_barred mark.now.barred self.now.entries ≡ false) }
         ensures fault { IfErr result (IsMarkFault
             (is_barred mark.now.barred self.now.entries)) }
@@ -248,7 +248,7 @@ impl MemTable {
             × IsCorruption (hole_text_above self.now.region_id below
             (end_of (entries_within from (Some below) self.now.entries))) e) }
     {
-        let Some((from, below)) = mark.barred() else {
+        let Some((from, below)) = mark.barred_indexes() else {
             return Ok(());
         };
         let end = self.entries.end_within(from, Some(below));
@@ -261,7 +261,7 @@ impl MemTable {
     /// Drops what the steps of a newer region mark take away, and subtracts it from the live counts: after a
     /// clean everything; else the deleted keys, and the entries below the mark's floor or at or above its
     /// cut, or all entries if `gone`.
-    fn drop_older(&mut self, gone: bool, mark: &Mark, stats: &mut GlobalStats)
+    fn drop_by_mark(&mut self, gone: bool, mark: &Mark, stats: &mut GlobalStats)
         requires counted { IsCounted self.old stats.old }
         ensures left { self.new ≡ left_by gone mark.now self.old }
         ensures fewer { (q : LogQueue) → live_of q self.new ≤ live_of q self.old }
@@ -270,17 +270,17 @@ impl MemTable {
     {
         if mark.is_cleaned() {
             self.entries.truncate_from(0, stats);
-            self.drop_keys(stats);
+            self.drop_all_keys(stats);
             self.atomic_group = None;
             return;
         }
-        self.drop_entries(gone, mark, stats);
-        self.drop_deleted(mark.deleted(), stats);
+        self.drop_entries_by_mark(gone, mark, stats);
+        self.drop_deleted_keys(mark.deleted_keys(), stats);
     }
 
     /// Drops the entries below the mark's floor or at or above its cut, or all of them if `gone`, and
     /// subtracts them from the live counts.
-    fn drop_entries(&mut self, gone: bool, mark: &Mark, stats: &mut GlobalStats)
+    fn drop_entries_by_mark(&mut self, gone: bool, mark: &Mark, stats: &mut GlobalStats)
         requires counted { IsCounted self.old stats.old }
         ensures left { self.new ≡ record self.old {
           entries = (if gone then []
@@ -296,7 +296,7 @@ impl MemTable {
     }
 
     /// Drops all key values, and subtracts them from the live counts.
-    fn drop_keys(&mut self, stats: &mut GlobalStats)
+    fn drop_all_keys(&mut self, stats: &mut GlobalStats)
         requires counted { IsCounted self.old stats.old }
         ensures dropped { self.new ≡ record self.old { keys = finite.empty } }
         ensures recounted { IsRecounted self.old self.new stats.old stats.new }
@@ -307,7 +307,7 @@ impl MemTable {
     }
 
     /// Removes the keys in `deleted` with their values, and subtracts them from the live counts.
-    fn drop_deleted(&mut self, deleted: &DeletedKeys, stats: &mut GlobalStats)
+    fn drop_deleted_keys(&mut self, deleted: &DeletedKeys, stats: &mut GlobalStats)
         requires counted { IsCounted self.old stats.old }
         ensures dropped { self.new ≡ record self.old { keys = without deleted.now self.old.keys } }
         ensures fewer { (q : LogQueue) → pair_count q self.new.keys ≤ pair_count q self.old.keys }

@@ -9,9 +9,9 @@ ghost use Rattle.std.specs.FinSet as finset;
 mod scan;
 
 use crate::memtable::deleted_keys::DeletedKeys;
-use crate::memtable::mark::lesser;
+use crate::memtable::mark::lesser_or_only;
 use raft_base::{AllocResult, FileId, FileSeq, LogQueue};
-use scan::{divided, is_forward, sought, visit, visit_back};
+use scan::{copy_or_keep_bound, is_forward, pairs_in_range, visit_backward, visit_forward};
 use std::alloc::Global;
 use std::collections::BTreeMap;
 use std::marker::Model;
@@ -112,7 +112,7 @@ impl KeyValues {
         ensures { IfOk result (λ keys. map (λ k. k.items) keys.items
             ≡ filter (finset.contains set.now) (finite.keys self.now)) }
     {
-        copied_keys(self.alloc, &self.pairs, set)
+        copy_keys_in(self.alloc, &self.pairs, set)
     }
 
     /// Returns the file that the value of `key` is in, or `None` if the key has no value.
@@ -145,8 +145,8 @@ impl KeyValues {
         ensures err { OnErr result (self.new ≡ self.old) }
     {
         prove!(self.rewritten <= self.pairs.len());
-        let replaced = file_in(self.pairs.insert(key, StoredValue { value, file })?);
-        self.rewritten = self.rewritten - rewritten(replaced) + rewritten(Some(file));
+        let replaced = file_of_pair(self.pairs.insert(key, StoredValue { value, file })?);
+        self.rewritten = self.rewritten - one_if_rewritten(replaced) + one_if_rewritten(Some(file));
         Ok(replaced)
     }
 
@@ -159,7 +159,7 @@ impl KeyValues {
             → pair_count queue self.new + file_weight queue result ≡ pair_count queue self.old }
     {
         let removed = self.pairs.remove(key)?;
-        self.rewritten -= rewritten(Some(removed.file));
+        self.rewritten -= one_if_rewritten(Some(removed.file));
         Some(removed.file)
     }
 
@@ -176,7 +176,8 @@ impl KeyValues {
         let pair = self.pairs.get_mut(key)?;
         let left = pair.file;
         pair.file = file;
-        self.rewritten = self.rewritten - rewritten(Some(left)) + rewritten(Some(file));
+        self.rewritten = self.rewritten - one_if_rewritten(Some(left))
+            + one_if_rewritten(Some(file));
         Some(left)
     }
 
@@ -188,7 +189,7 @@ impl KeyValues {
         let mut least: Option<FileSeq> = None;
         for pair in self.pairs.values() {
             if pair.file.queue == queue {
-                least = lesser(least, Some(pair.file.seq));
+                least = lesser_or_only(least, Some(pair.file.seq));
             }
         }
         least
@@ -211,7 +212,7 @@ impl KeyValues {
         ensures err { OnErr result (vec.new.items ≡ vec.old.items) }
     {
         let len = vec.len();
-        let pushed = push_fetched(&self.pairs, queue, gate, vec);
+        let pushed = push_copied_pairs(&self.pairs, queue, gate, vec);
         if pushed.is_err() {
             vec.truncate(len);
         }
@@ -236,13 +237,13 @@ impl KeyValues {
         if !is_forward(start, end) {
             return;
         }
-        let (first, start) = divided(self.alloc, start);
-        let (past, end) = divided(self.alloc, end);
-        let pairs = sought(&self.pairs, &first, &past);
+        let (first, start) = copy_or_keep_bound(self.alloc, start);
+        let (past, end) = copy_or_keep_bound(self.alloc, end);
+        let pairs = pairs_in_range(&self.pairs, &first, &past);
         if reverse {
-            visit_back(pairs, start, end, f);
+            visit_backward(pairs, start, end, f);
         } else {
-            visit(pairs, start, end, f);
+            visit_forward(pairs, start, end, f);
         }
     }
 
@@ -280,7 +281,7 @@ impl KeyValues {
         ensures unchanged { IfNone result (self.new ≡ self.old) }
     {
         let (key, pair) = self.pairs.pop_first()?;
-        self.rewritten -= rewritten(Some(pair.file));
+        self.rewritten -= one_if_rewritten(Some(pair.file));
         Some((key, pair))
     }
 }
@@ -291,7 +292,7 @@ impl KeyValues {
 ///
 /// `AllocError` if there is no memory for one of them. Those before it have then been appended; `fetch`
 /// removes them again.
-fn push_fetched(
+fn push_copied_pairs(
     pairs: &BTreeMap<Vec<u8>, StoredValue>,
     queue: LogQueue,
     gate: Option<FileSeq>,
@@ -303,8 +304,8 @@ fn push_fetched(
     ensures kept { take (length vec.old.items) vec.new.items ≡ vec.old.items }
 {
     for (key, pair) in pairs {
-        if is_up_to(pair.file, queue, gate) {
-            vec.push((copied(key)?, copied(&pair.value)?))?;
+        if is_in_queue_up_to(pair.file, queue, gate) {
+            vec.push((copy_bytes(key)?, copy_bytes(&pair.value)?))?;
         }
     }
     Ok(())
@@ -315,7 +316,7 @@ fn push_fetched(
 /// # Errors
 ///
 /// `AllocError` if there is no memory for them.
-fn copied_keys(
+fn copy_keys_in(
     alloc: Global,
     pairs: &BTreeMap<Vec<u8>, StoredValue>,
     set: &DeletedKeys,
@@ -326,7 +327,7 @@ fn copied_keys(
     let mut keys = Vec::new(alloc);
     for (key, _) in pairs {
         if set.contains(key) {
-            keys.push(copied(key)?)?;
+            keys.push(copy_bytes(key)?)?;
         }
     }
     Ok(keys)
@@ -337,21 +338,21 @@ fn copied_keys(
 /// # Errors
 ///
 /// `AllocError` if there is no memory for it.
-fn copied(bytes: &Vec<u8>) -> AllocResult<Vec<u8>>
+fn copy_bytes(bytes: &Vec<u8>) -> AllocResult<Vec<u8>>
     ensures { IfOk result (λ copy. copy.items ≡ bytes.now.items) }
 {
     bytes.clone()
 }
 
 /// Tests whether `file` is in `queue` and, with a `gate`, has a number of at most `gate`.
-fn is_up_to(file: FileId, queue: LogQueue, gate: Option<FileSeq>) -> bool
+fn is_in_queue_up_to(file: FileId, queue: LogQueue, gate: Option<FileSeq>) -> bool
     ensures { result ≡ is_up_to queue gate file }
 {
     file.queue == queue && gate.is_none_or(|gate| file.seq <= gate)
 }
 
 /// Returns the file of `pair`, or `None` if there is no pair.
-fn file_in(pair: Option<StoredValue>) -> Option<FileId>
+fn file_of_pair(pair: Option<StoredValue>) -> Option<FileId>
     ensures { result ≡ option_map (λ s. s.file) pair }
 {
     pair.map(|pair| pair.file)
@@ -359,7 +360,7 @@ fn file_in(pair: Option<StoredValue>) -> Option<FileId>
 
 /// Returns how many of the values in the rewrite queue a value in `file` is: 1 if `file` is in that queue,
 /// and 0 if it isn't or is `None`.
-fn rewritten(file: Option<FileId>) -> usize
+fn one_if_rewritten(file: Option<FileId>) -> usize
     ensures { result ≡ file_weight LogQueue.Rewrite file }
 {
     match file {

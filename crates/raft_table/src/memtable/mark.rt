@@ -59,7 +59,7 @@ impl Bounds {
     {
         match step {
             Step::Run(run) => match run.first() {
-                Some(first) => Bounds::of_start(first.index),
+                Some(first) => Bounds::of_run_from(first.index),
                 None => Bounds::default(),
             },
             Step::Compact { index } => Bounds {
@@ -80,7 +80,7 @@ impl Bounds {
 
     /// Returns the bounds of a run with the first index `start`: it drops older entries from there on, and
     /// the others have to reach it.
-    fn of_start(start: u64) -> Bounds
+    fn of_run_from(start: u64) -> Bounds
         ensures { with_bounds result ≡ record fresh { reach = Some start; cut = Some start } }
     {
         Bounds {
@@ -121,7 +121,7 @@ impl Mark {
         ensures { result ≡ record fresh { reach = Some start; cut = Some start } }
     {
         Mark {
-            bounds: Bounds::of_start(start),
+            bounds: Bounds::of_run_from(start),
             deleted: DeletedKeys::new(alloc),
         }
     }
@@ -153,7 +153,7 @@ impl Mark {
     /// Returns the indexes at which an older table may have no entry, from the first number on and below the
     /// second one; or `None` if there are none. In the append queue the steps are refused over an older table
     /// with an entry there.
-    pub fn barred(&self) -> Option<(u64, u64)>
+    pub fn barred_indexes(&self) -> Option<(u64, u64)>
         ensures { result ≡ self.now.barred }
     {
         self.bounds.barred
@@ -184,7 +184,7 @@ impl Mark {
     /// Returns the keys whose older values are dropped, because the steps deleted them. After a clean it
     /// doesn't matter, since then everything older is dropped.
     #[doc(hidden)]
-    pub fn deleted(&self) -> &DeletedKeys
+    pub fn deleted_keys(&self) -> &DeletedKeys
         ensures { result.now ≡ self.now.deleted }
     {
         &self.deleted
@@ -192,10 +192,10 @@ impl Mark {
 
     /// Tests whether the first run leaves a hole after older entries that end before index `end`. Returns
     /// false if there is no run, or `end` is 0, which stands for no older entries.
-    pub fn misses(&self, end: u64) -> bool
+    pub fn leaves_hole_after(&self, end: u64) -> bool
         ensures { result ≡ misses self.now.reach end }
     {
-        misses(self.bounds.reach, end)
+        run_leaves_hole(self.bounds.reach, end)
     }
 
     /// Joins the mark of newer steps to this one, which then stands for the steps of both. `end_at_reach` is
@@ -228,10 +228,10 @@ impl Mark {
         ensures { self.new
             ≡ joined_at queue end self.old (record fresh { reach = Some start; cut = Some start }) }
     {
-        if self.covers(end, start) {
+        if self.covers_run(end, start) {
             return;
         }
-        self.join_bounds(queue, end, Bounds::of_start(start));
+        self.join_bounds(queue, end, Bounds::of_run_from(start));
     }
 
     /// Joins the mark of one newer step. If it is a run, `end` is the end of this mark's own entries before
@@ -279,7 +279,7 @@ impl Mark {
     /// Tests whether it is plain that a newer run with the first index `start` leaves the mark as it is, if
     /// own entries end at `end`: there was a run before, `start` isn't below the cut, and own entries reach
     /// up to it. A false result says nothing. It spares [`Mark::add_run`] the work for most runs.
-    fn covers(&self, end: u64, start: u64) -> bool
+    fn covers_run(&self, end: u64, start: u64) -> bool
         ensures { MatchBool result ((queue : LogQueue) → joined_at queue end self.now
             (record fresh { reach = Some start; cut = Some start }) ≡ self.now) (Unit {0}) }
     {
@@ -312,27 +312,27 @@ impl Mark {
         }
         let older = self.bounds;
         let floor = older.floor.max(newer.floor);
-        let newer_barred = narrowed(older.floor, older.cut, newer.barred);
+        let newer_barred = narrow_bars(older.floor, older.cut, newer.barred);
         match (older.reach, older.cut) {
             (Some(_), Some(cut)) => {
-                let bound = capped(cut, newer.reach_cut);
+                let bound = cap_at_cut(cut, newer.reach_cut);
                 let detached = is_detached(newer.reach, end, bound);
                 let met = (older.floor.max(newer.reach_floor), bound);
                 self.bounds.barred = joined_bars(queue, detached, older.barred, met, newer_barred);
-                let dropped = drops_below(newer.reach, end, bound);
+                let dropped = drops_all_below(newer.reach, end, bound);
                 self.bounds.floor = joined_floor(queue, dropped, floor, cut);
             }
             (_, _) => {
                 self.bounds.reach = newer.reach;
                 if newer.reach.is_some() {
                     self.bounds.reach_floor = older.floor.max(newer.reach_floor);
-                    self.bounds.reach_cut = lesser(older.cut, newer.reach_cut);
+                    self.bounds.reach_cut = lesser_or_only(older.cut, newer.reach_cut);
                 }
                 self.bounds.barred = older.barred.or(newer_barred);
                 self.bounds.floor = floor;
             }
         }
-        self.bounds.cut = lesser(older.cut, newer.cut);
+        self.bounds.cut = lesser_or_only(older.cut, newer.cut);
         self.bounds.cleaned = newer.cleaned;
     }
 
@@ -359,7 +359,7 @@ impl Mark {
 
 /// Tests whether a run with the first index `reach` leaves a hole after entries that end before index `end`.
 /// Returns false if there is no run, or `end` is 0, which stands for no entries.
-fn misses(reach: Option<u64>, end: u64) -> bool
+fn run_leaves_hole(reach: Option<u64>, end: u64) -> bool
     ensures { result ≡ misses reach end }
 {
     reach.is_some_and(|start| end > 0 && end < start)
@@ -367,11 +367,11 @@ fn misses(reach: Option<u64>, end: u64) -> bool
 
 /// Returns the part of `barred`, the barred indexes of newer steps, at which older steps leave still older
 /// entries: from `floor` on and, with a `cut`, below it.
-fn narrowed(floor: u64, cut: Option<u64>, barred: Bars) -> Bars
+fn narrow_bars(floor: u64, cut: Option<u64>, barred: Bars) -> Bars
     ensures { result ≡ narrowed_bars floor cut barred }
 {
     let (from, below) = barred?;
-    Some((floor.max(from), capped(below, cut)))
+    Some((floor.max(from), cap_at_cut(below, cut)))
 }
 
 /// Tests whether the first newer run, with the first index `reach`, meets no own entries (`end` is 0) and
@@ -384,10 +384,10 @@ fn is_detached(reach: Option<u64>, end: u64, bound: u64) -> bool
 
 /// Tests whether, in the rewrite queue, the first newer run drops all entries below it: it leaves a hole
 /// after the own entries, which end at `end`, or it is detached from `bound` ([`is_detached`]).
-fn drops_below(reach: Option<u64>, end: u64, bound: u64) -> bool
+fn drops_all_below(reach: Option<u64>, end: u64, bound: u64) -> bool
     ensures { result ≡ is_detached reach end bound || misses reach end }
 {
-    is_detached(reach, end, bound) || misses(reach, end)
+    is_detached(reach, end, bound) || run_leaves_hole(reach, end)
 }
 
 /// Returns the barred indexes of joined steps. In the append queue these are the `older` ones if there are
@@ -414,7 +414,7 @@ fn joined_floor(queue: LogQueue, dropped: bool, floor: u64, cut: u64) -> u64
 }
 
 /// Returns the lesser one of the bounds `a` and `b`. If one is `None`, it returns the other.
-pub(super) fn lesser(a: Option<u64>, b: Option<u64>) -> Option<u64>
+pub(super) fn lesser_or_only(a: Option<u64>, b: Option<u64>) -> Option<u64>
     ensures { result ≡ lesser a b }
 {
     match (a, b) {
@@ -424,7 +424,7 @@ pub(super) fn lesser(a: Option<u64>, b: Option<u64>) -> Option<u64>
 }
 
 /// Returns the lesser one of `bound` and `other`, or `bound` if `other` is `None`.
-pub(super) fn capped(bound: u64, other: Option<u64>) -> u64
+pub(super) fn cap_at_cut(bound: u64, other: Option<u64>) -> u64
     ensures { result ≡ at_most_bound bound other }
 {
     other.map_or(bound, |other| bound.min(other))

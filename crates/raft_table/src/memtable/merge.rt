@@ -46,7 +46,7 @@ impl MemTable {
         ensures regions { (self.new.region_id ≡ self.old.region_id) ×
             (rhs.new.region_id ≡ rhs.old.region_id) }
     {
-        let Some(queue) = self.joint_queue(rhs) else {
+        let Some(queue) = self.queue_of_all_records(rhs) else {
             return Err(Error::invalid_argument(
                 self.entries.allocator(),
                 "tables of two queues are no neighbors",
@@ -87,7 +87,7 @@ impl MemTable {
         ensures regions { (self.new.region_id ≡ self.old.region_id) ×
             (rhs.new.region_id ≡ rhs.old.region_id) }
     {
-        let Some(rule) = self.append_rule(rhs) else {
+        let Some(rule) = self.start_rule_for_append(rhs) else {
             return Err(Error::invalid_argument(
                 self.entries.allocator(),
                 "only an appended table without atomic group merges into a rewritten one",
@@ -101,7 +101,7 @@ impl MemTable {
 
     /// Returns the queue that all records of this table and of `rhs` are in, or the append queue if there are
     /// none. Returns `None` if both queues have some.
-    fn joint_queue(&self, rhs: &MemTable) -> Option<LogQueue>
+    fn queue_of_all_records(&self, rhs: &MemTable) -> Option<LogQueue>
         ensures { result ≡ joint_queue self.now rhs.now }
     {
         if self.records(LogQueue::Rewrite) > 0 || rhs.records(LogQueue::Rewrite) > 0 {
@@ -116,7 +116,7 @@ impl MemTable {
     /// Returns the queue whose start rule applies when `rhs`, an appended table, is merged into this
     /// rewritten one: the rewrite queue, so that a hole drops the old entries. Returns `None` if this table
     /// has appended records, or `rhs` has rewritten ones or an atomic group.
-    fn append_rule(&self, rhs: &MemTable) -> Option<LogQueue>
+    fn start_rule_for_append(&self, rhs: &MemTable) -> Option<LogQueue>
         ensures { result ≡ append_rule self.now rhs.now }
     {
         if self.records(LogQueue::Append) > 0
@@ -186,15 +186,15 @@ fn absorb_keys(keys: &mut KeyValues, newer: &mut KeyValues, stats: &mut GlobalSt
     let appended = keys.count_in(LogQueue::Append);
     let rewritten = keys.count_in(LogQueue::Rewrite);
     let absorbed = keys.absorb(newer);
-    recount(stats, LogQueue::Append, appended, keys);
-    recount(stats, LogQueue::Rewrite, rewritten, keys);
+    update_live_count(stats, LogQueue::Append, appended, keys);
+    update_live_count(stats, LogQueue::Rewrite, rewritten, keys);
     absorbed?;
     Ok(())
 }
 
 /// Changes the live count of `queue` from the `before` key values that were counted to those that `keys` has
 /// there now.
-fn recount(stats: &mut GlobalStats, queue: LogQueue, before: usize, keys: &KeyValues)
+fn update_live_count(stats: &mut GlobalStats, queue: LogQueue, before: usize, keys: &KeyValues)
     requires counted { before ≤ live queue stats.old }
     requires room { live queue stats.old + pair_count queue keys.now < 2 ^ 64 + before }
     ensures counts { stats.new

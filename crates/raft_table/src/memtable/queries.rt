@@ -9,7 +9,7 @@ ghost use Rattle.std.specs.FinMap as finite;
 ghost use Rattle.std.specs.FinSet as finset;
 
 use crate::memtable::MemTable;
-use crate::memtable::mark::{Mark, lesser};
+use crate::memtable::mark::{Mark, lesser_or_only};
 use raft_base::{AllocResult, EntryIndex, Error, FileId, FileSeq, LogQueue, Result};
 
 impl MemTable {
@@ -70,7 +70,7 @@ impl MemTable {
         ensures err { OnErr result (vec.new.items ≡ vec.old.items) }
         ensures memory { IfErr result (λ e. e ≡ Error.Memory) }
     {
-        self.entries.fetch_before(gate, vec)
+        self.entries.fetch_appended_up_to(gate, vec)
     }
 
     /// Appends all entries whose place is in the rewrite queue to `vec`, in order.
@@ -129,7 +129,7 @@ impl MemTable {
         ensures { IfOk result (λ keys. map (λ k. k.items) keys.items
             ≡ filter (finset.contains mark.now.deleted) (finite.keys self.now.keys)) }
     {
-        self.keys.keys_in(mark.deleted())
+        self.keys.keys_in(mark.deleted_keys())
     }
 
     /// Calls `f` with each key that is at least `start` and below `end`, and its value, until `f` returns
@@ -165,13 +165,13 @@ impl MemTable {
     pub fn min_file_seq(&self, queue: LogQueue) -> Option<FileSeq>
         ensures { result ≡ least_of queue self.now }
     {
-        let least = lesser(
+        let least = lesser_or_only(
             self.entries.first_entry_seq_in(queue),
             self.keys.least_seq_in(queue),
         );
         match queue {
             LogQueue::Append => least,
-            LogQueue::Rewrite => lowered(self.atomic_group, least),
+            LogQueue::Rewrite => lower_to_group_start(self.atomic_group, least),
         }
     }
 
@@ -190,7 +190,10 @@ impl MemTable {
 
 /// Returns `seq`, lowered to the first file of `atomic_group` if it is at most the group's last file. Returns
 /// `None` if `seq` is `None`.
-fn lowered(atomic_group: Option<(FileSeq, FileSeq)>, seq: Option<FileSeq>) -> Option<FileSeq>
+fn lower_to_group_start(
+    atomic_group: Option<(FileSeq, FileSeq)>,
+    seq: Option<FileSeq>,
+) -> Option<FileSeq>
     ensures { result ≡ at_most_group_seq atomic_group seq }
 {
     match (atomic_group, seq) {

@@ -18,22 +18,28 @@ use std::mem::swap;
 pub(super) const FEW: usize = 3;
 
 /// Returns the spot of the entry at position `at` of the entries, counted from 0. If `starts` has the first
-/// indexes, the block is found by them ([`find`]); else the blocks are walked. `first` is the index of the
-/// first entry, and `len` the number of all entries; they are for a good guess of the block.
-pub(super) fn spot_of(blocks: &Blocks, starts: &Starts, first: u64, len: usize, at: usize) -> Spot
+/// indexes, the block is found by them ([`find_spot`]); else the blocks are walked. `first` is the index of
+/// the first entry, and `len` the number of all entries; they are for a good guess of the block.
+pub(super) fn spot_at_position(
+    blocks: &Blocks,
+    starts: &Starts,
+    first: u64,
+    len: usize,
+    at: usize,
+) -> Spot
     requires starts { AreStarts first (shown blocks.now) starts.now.items }
     requires within { (at < count (shown blocks.now))
         × (first + count (shown blocks.now) < 2 ^ 64) }
     ensures { IsAt at (shown blocks.now) result.0 result.1 }
 {
     if starts.is_empty() {
-        return spot_among(blocks, at);
+        return walk_to_spot(blocks, at);
     }
-    find(starts, first, len, first + at as u64)
+    find_spot(starts, first, len, first + at as u64)
 }
 
 /// Returns the spot of the entry that has `behind` entries before it, by a walk over the blocks.
-fn spot_among(blocks: &Blocks, behind: usize) -> Spot
+fn walk_to_spot(blocks: &Blocks, behind: usize) -> Spot
     requires { behind < count (shown blocks.now) }
     ensures { IsAt behind (shown blocks.now) result.0 result.1 }
 {
@@ -46,10 +52,11 @@ fn spot_among(blocks: &Blocks, behind: usize) -> Spot
     (nth, rest)
 }
 
-/// Returns the spot of the entry at `index`. Its block is guessed from the index of the first entry, `first`,
-/// and the number of entries, `len`, as if all blocks were equally long; a wrong guess is found out, and the
-/// block searched ([`search`]). Wrong numbers make a wrong guess, never a wrong spot.
-pub(super) fn find(starts: &Starts, first: u64, len: usize, index: u64) -> Spot
+/// Returns the spot of the entry at `index`. Its block is guessed from the index of the first entry,
+/// `first`, and the number of entries, `len`, as if all blocks were equally long; a wrong guess is found
+/// out, and the block searched ([`binary_search_spot`]). Wrong numbers make a wrong guess, never a wrong
+/// spot.
+pub(super) fn find_spot(starts: &Starts, first: u64, len: usize, index: u64) -> Spot
     requires { IsIndexOf starts.now.items index }
     ensures { (i : ℕ) (bs : List BlockSpans) → starts.now.items ≡ starts_of i bs → i ≤ index →
         index < i + count bs → IsAt (index - i) bs result.0 result.1 }
@@ -61,11 +68,11 @@ pub(super) fn find(starts: &Starts, first: u64, len: usize, index: u64) -> Spot
     if low <= index && (guess == last || index < starts[guess + 1]) {
         return (guess, (index - low) as usize);
     }
-    search(starts, index)
+    binary_search_spot(starts, index)
 }
 
 /// Returns the spot of the entry at `index`, by a binary search in the first indexes.
-pub(super) fn search(starts: &Starts, index: u64) -> Spot
+pub(super) fn binary_search_spot(starts: &Starts, index: u64) -> Spot
     requires { IsIndexOf starts.now.items index }
     ensures { (i : ℕ) (bs : List BlockSpans) → starts.now.items ≡ starts_of i bs → i ≤ index →
         index < i + count bs → IsAt (index - i) bs result.0 result.1 }
@@ -82,7 +89,7 @@ pub(super) fn search(starts: &Starts, index: u64) -> Spot
 
 /// Returns where the first `kept` entries end: in how many blocks they are, and how many of them are in the
 /// last of these blocks. Both are 0 if `kept` is 0. `first` is the index of the first entry.
-pub(super) fn spot_behind(starts: &Starts, first: u64, kept: usize) -> Spot
+pub(super) fn spot_after_kept(starts: &Starts, first: u64, kept: usize) -> Spot
     requires bounded { first + kept < 2 ^ 64 }
     requires within { 0 < kept → IsIndexOf starts.now.items (first + (kept - 1)) }
     ensures none { kept ≡ 0 → (result.0 ≡ 0) × (result.1 ≡ 0) }
@@ -93,7 +100,7 @@ pub(super) fn spot_behind(starts: &Starts, first: u64, kept: usize) -> Spot
     if kept == 0 {
         return (0, 0);
     }
-    let (nth, last) = search(starts, first + (kept - 1) as u64);
+    let (nth, last) = binary_search_spot(starts, first + (kept - 1) as u64);
     (nth + 1, last + 1)
 }
 
@@ -102,7 +109,7 @@ pub(super) fn spot_behind(starts: &Starts, first: u64, kept: usize) -> Spot
 /// # Errors
 ///
 /// `AllocError` if there is no memory for the copy.
-pub(super) fn spans_behind(alloc: Global, spans: &Spans, dropped: usize) -> AllocResult<Spans>
+pub(super) fn copy_spans_after(alloc: Global, spans: &Spans, dropped: usize) -> AllocResult<Spans>
     requires { dropped ≤ length spans.now.items }
     ensures ok { IfOk result (λ behind. behind.items ≡ drop dropped spans.now.items) }
 {
@@ -115,7 +122,7 @@ pub(super) fn spans_behind(alloc: Global, spans: &Spans, dropped: usize) -> Allo
 
 /// Tests whether the places `a` and `b` have the same file, offset and length.
 #[inline(always)]
-pub(super) fn is_same(a: &FileBlockHandle, b: &FileBlockHandle) -> bool
+pub(super) fn is_same_place(a: &FileBlockHandle, b: &FileBlockHandle) -> bool
     ensures { MatchBool result (a.now ≡ b.now) (a.now ≢ b.now) }
 {
     a == b
@@ -129,7 +136,7 @@ pub(super) fn is_same(a: &FileBlockHandle, b: &FileBlockHandle) -> bool
 /// # Errors
 ///
 /// `AllocError` if there is no memory for the blocks. All four deques are unchanged then.
-pub(super) fn put_blocks(
+pub(super) fn replace_blocks(
     blocks: &mut Blocks,
     starts: &mut Starts,
     spot: Spot,
@@ -155,21 +162,25 @@ pub(super) fn put_blocks(
         × (starts.new.items ≡ starts.old.items) × (shown more.new ≡ shown more.old)
         × (more_starts.new.items ≡ more_starts.old.items)) }
 {
-    make_room(blocks, more)?;
-    make_room(starts, more_starts)?;
-    meet(blocks, spot, more, more_starts)?;
+    reserve_in_either(blocks, more)?;
+    reserve_in_either(starts, more_starts)?;
+    join_at_seam(blocks, spot, more, more_starts)?;
     splice(blocks, spot.0, rest, more);
     splice(starts, spot.0, rest, more_starts);
     Ok(())
 }
 
-/// Replaces the blocks from `spot` on by those of `more`, as [`put_blocks`] does, without first indexes, and
-/// leaves `more` empty: the first `spot.0` blocks stay, the last of them with its first `spot.1` spans.
+/// Replaces the blocks from `spot` on by those of `more`, as [`replace_blocks`] does, without first indexes,
+/// and leaves `more` empty: the first `spot.0` blocks stay, the last of them with its first `spot.1` spans.
 ///
 /// # Errors
 ///
 /// `AllocError` if there is no memory for the blocks. Both deques are unchanged then.
-pub(super) fn put_few_blocks(blocks: &mut Blocks, spot: Spot, more: &mut Blocks) -> AllocResult<()>
+pub(super) fn replace_blocks_without_starts(
+    blocks: &mut Blocks,
+    spot: Spot,
+    more: &mut Blocks,
+) -> AllocResult<()>
     requires within { (0 < spot.0) × (spot.0 ≤ length blocks.old.items) }
     requires kept { (d : Block) → 0 < spot.0
         → spot.1 ≤ length (slice_index_or blocks.old.items (spot.0 - 1) d).spans.items }
@@ -182,9 +193,9 @@ pub(super) fn put_few_blocks(blocks: &mut Blocks, spot: Spot, more: &mut Blocks)
 {
     blocks.reserve(more.len())?;
     let mut no_starts = VecDeque::new(*blocks.allocator());
-    meet(blocks, spot, more, &mut no_starts)?;
+    join_at_seam(blocks, spot, more, &mut no_starts)?;
     blocks.truncate(spot.0);
-    append(blocks, more);
+    append_within_capacity(blocks, more);
     Ok(())
 }
 
@@ -194,7 +205,7 @@ pub(super) fn put_few_blocks(blocks: &mut Blocks, spot: Spot, more: &mut Blocks)
 /// # Errors
 ///
 /// `AllocError` if there is no memory for it. The items of both are unchanged then.
-fn make_room<T>(deque: &mut VecDeque<T>, more: &mut VecDeque<T>) -> AllocResult<()>
+fn reserve_in_either<T>(deque: &mut VecDeque<T>, more: &mut VecDeque<T>) -> AllocResult<()>
     ensures items { (deque.new.items ≡ deque.old.items) × (more.new.items ≡ more.old.items) }
     ensures len { (deque_len deque.new ≡ deque_len deque.old) ×
         (deque_len more.new ≡ deque_len more.old) }
@@ -208,15 +219,15 @@ fn make_room<T>(deque: &mut VecDeque<T>, more: &mut VecDeque<T>) -> AllocResult<
     deque.reserve(more.len())
 }
 
-/// Joins two lists of blocks where they meet, as the first half of [`put_blocks`]. The last of the first
-/// `spot.0` blocks keeps its first `spot.1` spans. If the first block of `more` has the same place, its spans
-/// are moved to the end of those, and it is removed from `more`, and its first index from `more_starts`.
-/// Without such a block (`spot.0` is 0) nothing changes.
+/// Joins two lists of blocks where they meet, as the first half of [`replace_blocks`]. The last of the first
+/// `spot.0` blocks keeps its first `spot.1` spans. If the first block of `more` has the same place, its
+/// spans are moved to the end of those, and it is removed from `more`, and its first index from
+/// `more_starts`. Without such a block (`spot.0` is 0) nothing changes.
 ///
 /// # Errors
 ///
 /// `AllocError` if there is no memory for the spans. All deques are unchanged then.
-fn meet(
+fn join_at_seam(
     blocks: &mut Blocks,
     spot: Spot,
     more: &mut Blocks,
@@ -246,18 +257,18 @@ fn meet(
         return Ok(());
     }
     let last = nth - 1;
-    if !is_same(&blocks[last].handle, &more[0].handle) {
+    if !is_same_place(&blocks[last].handle, &more[0].handle) {
         blocks[last].spans.truncate(kept);
         return Ok(());
     }
-    lengthen(&mut blocks[last], kept, &mut more[0].spans)?;
-    drop_front(more);
-    drop_front(more_starts);
+    lengthen_block(&mut blocks[last], kept, &mut more[0].spans)?;
+    drop_first_item(more);
+    drop_first_item(more_starts);
     Ok(())
 }
 
 /// Removes the first item of `deque`, if there is one.
-fn drop_front<T: Drop>(deque: &mut VecDeque<T>)
+fn drop_first_item<T: Drop>(deque: &mut VecDeque<T>)
     ensures items { deque.new.items ≡ drop 1 deque.old.items }
     ensures fewer { deque_len deque.new ≤ deque_len deque.old }
     ensures capacity { deque_capacity deque.new ≡ deque_capacity deque.old }
@@ -272,7 +283,7 @@ fn drop_front<T: Drop>(deque: &mut VecDeque<T>)
 ///
 /// `AllocError` if there is no memory for them. `starts` is unchanged then.
 #[inline(always)]
-pub(super) fn keep_starts(blocks: &Blocks, starts: &mut Starts, first: u64) -> AllocResult<()>
+pub(super) fn ensure_starts(blocks: &Blocks, starts: &mut Starts, first: u64) -> AllocResult<()>
     requires starts { AreStarts first (shown blocks.now) starts.old.items }
     requires bounded { 0 < length blocks.now.items → first + count (shown blocks.now) < 2 ^ 64 }
     ensures ok { OnOk result (starts.new.items ≡ starts_of first (shown blocks.now)) }
@@ -310,7 +321,7 @@ fn push_starts(blocks: &Blocks, starts: &mut Starts, first: u64)
 /// `AllocError` if there is no memory for it. The items of both deques are unchanged then, and `block` is
 /// dropped.
 #[inline(always)]
-pub(super) fn push_with_start(
+pub(super) fn push_block_with_start(
     blocks: &mut Blocks,
     starts: &mut Starts,
     index: u64,
@@ -348,9 +359,9 @@ pub(super) fn push_block(blocks: &mut Blocks, mut block: Block) -> AllocResult<(
     let len = blocks.len();
     if len > 0 {
         let last = len - 1;
-        if is_same(&blocks[last].handle, &block.handle) {
+        if is_same_place(&blocks[last].handle, &block.handle) {
             let kept = blocks[last].spans.len();
-            return lengthen(&mut blocks[last], kept, &mut block.spans);
+            return lengthen_block(&mut blocks[last], kept, &mut block.spans);
         }
     }
     if blocks.capacity() == 0 {
@@ -366,7 +377,7 @@ pub(super) fn push_block(blocks: &mut Blocks, mut block: Block) -> AllocResult<(
 ///
 /// `AllocError` if there is no memory for them. `block` and `more` are unchanged then.
 #[inline(never)]
-fn lengthen(block: &mut Block, kept: usize, more: &mut Spans) -> AllocResult<()>
+fn lengthen_block(block: &mut Block, kept: usize, more: &mut Spans) -> AllocResult<()>
     requires { kept ≤ length block.old.spans.items }
     ensures handle { block.new.handle ≡ block.old.handle }
     ensures ok { OnOk result (block.new.spans.items
@@ -385,7 +396,7 @@ fn lengthen(block: &mut Block, kept: usize, more: &mut Spans) -> AllocResult<()>
 
 /// Replaces the items of `deque` from position `kept` up to position `rest` by those of `more`, and leaves
 /// `more` empty. If both are equally many, the new ones are put at the positions of the old ones. Otherwise
-/// one of the deques must have room for all items ([`make_room`]), and `deque` then has its memory.
+/// one of the deques must have room for all items ([`reserve_in_either`]), and `deque` then has its memory.
 fn splice<T: Drop>(deque: &mut VecDeque<T>, kept: usize, rest: usize, more: &mut VecDeque<T>)
     requires order { kept ≤ rest }
     requires within { rest ≤ deque_len deque.old }
@@ -397,25 +408,25 @@ fn splice<T: Drop>(deque: &mut VecDeque<T>, kept: usize, rest: usize, more: &mut
 {
     let as_many = more.len() == rest - kept;
     if as_many {
-        return replace(deque, kept, more);
+        return overwrite_items(deque, kept, more);
     }
     let behind = deque.len() - rest;
     let has_room = more.len() <= deque.capacity() - deque.len();
     deque.rotate_left(rest);
     deque.truncate(behind + kept);
     if has_room {
-        append(deque, more);
+        append_within_capacity(deque, more);
         deque.rotate_left(behind);
         return;
     }
-    append(more, deque);
+    append_within_capacity(more, deque);
     more.rotate_right(kept);
     swap(deque, more);
 }
 
 /// Puts the items of `more` in place of as many items of `deque`, from position `at` on, and leaves `more`
 /// empty.
-fn replace<T: Drop>(deque: &mut VecDeque<T>, at: usize, more: &mut VecDeque<T>)
+fn overwrite_items<T: Drop>(deque: &mut VecDeque<T>, at: usize, more: &mut VecDeque<T>)
     requires within { at + deque_len more.old ≤ deque_len deque.old }
     ensures items { deque.new.items ≡ take at deque.old.items ++ more.old.items
         ++ drop (at + deque_len more.old) deque.old.items }
@@ -429,7 +440,7 @@ fn replace<T: Drop>(deque: &mut VecDeque<T>, at: usize, more: &mut VecDeque<T>)
 }
 
 /// Moves the items of `more` to the end of `deque`, which has room for them, so that it can't fail.
-fn append<T>(deque: &mut VecDeque<T>, more: &mut VecDeque<T>)
+fn append_within_capacity<T>(deque: &mut VecDeque<T>, more: &mut VecDeque<T>)
     requires room { deque_len deque.old + deque_len more.old ≤ deque_capacity deque.old }
     ensures items { deque.new.items ≡ deque.old.items ++ more.old.items }
     ensures len { deque_len deque.new ≡ deque_len deque.old + deque_len more.old }

@@ -57,7 +57,7 @@ fn push_without_spans(
     while done < end {
         let block = &blocks[nth];
         let count = (block.spans.len() - at).min(end - done);
-        push_without_spans_of(vec, first + done as u64, block, at, count);
+        push_block_without_spans(vec, first + done as u64, block, at, count);
         done += count;
         nth += 1;
         at = 0;
@@ -66,7 +66,7 @@ fn push_without_spans(
 
 /// Appends `count` entries of `block`, from position `at` in it on, to `vec`, with offset and length 0. The
 /// first has the index `first`.
-fn push_without_spans_of(
+fn push_block_without_spans(
     vec: &mut Vec<EntryIndex>,
     first: u64,
     block: &Block,
@@ -116,7 +116,7 @@ fn set_spans(
     while done < end {
         let block = &blocks[nth];
         let count = (block.spans.len() - at).min(end - done);
-        set_spans_of(vec, len + (done - start), block, at, count);
+        set_spans_of_block(vec, len + (done - start), block, at, count);
         done += count;
         nth += 1;
         at = 0;
@@ -125,7 +125,7 @@ fn set_spans(
 
 /// Sets the offsets and lengths of `count` entries of `vec`, from position `len` on, to the spans of `block`
 /// from position `at` in it on.
-fn set_spans_of(vec: &mut Vec<EntryIndex>, len: usize, block: &Block, at: usize, count: usize)
+fn set_spans_of_block(vec: &mut Vec<EntryIndex>, len: usize, block: &Block, at: usize, count: usize)
     requires within { at + count ≤ length block.now.spans.items }
     requires there { len + count ≤ length vec.old.items }
     ensures items { vec.new.items ≡ take len vec.old.items
@@ -144,7 +144,7 @@ fn set_spans_of(vec: &mut Vec<EntryIndex>, len: usize, block: &Block, at: usize,
 /// Returns how many of the entries at the positions `start..end` come before the first one that a rewriting
 /// with this `gate` may not move ([`is_movable`]). `spot` is the spot of the entry at `start`. The entries of
 /// a block have one place, so it looks at each block once.
-pub(super) fn movable_from(
+pub(super) fn count_movable_from(
     blocks: &Blocks,
     spot: Spot,
     start: usize,
@@ -184,7 +184,7 @@ fn is_movable(handle: &FileBlockHandle, gate: Option<FileSeq>) -> bool
 /// Returns how many of the entries at the positions `start..end` a fetch with this `limit` in bytes returns:
 /// those before the first one with which the total length exceeds `limit`, unless no entry before that one
 /// has any bytes. `spot` is the spot of the entry at `start`.
-pub(super) fn count_from(
+pub(super) fn count_within_limit_from(
     blocks: &Blocks,
     mut spot: Spot,
     start: usize,
@@ -203,14 +203,14 @@ pub(super) fn count_from(
             return i - start;
         }
         total = sum;
-        spot = next(block, spot);
+        spot = next_spot(block, spot);
     }
     end - start
 }
 
 /// Returns the spot after `spot`: the next one in `block`, which is the block of `spot`, or the first one of
 /// the next block.
-fn next(block: &Block, spot: Spot) -> Spot
+fn next_spot(block: &Block, spot: Spot) -> Spot
     requires within { spot.0 + 1 < 2 ^ 64 }
     requires inside { spot.1 < length block.now.spans.items }
     ensures { (p : ℕ) (bs : List BlockSpans) → IsAt p bs spot.0 spot.1 → AreDistinctBlocks bs

@@ -4,9 +4,9 @@ ghost use Rattle.std.specs.Prelude.{◌≡◌, ◌≢◌, ◌+◌, ◌≤◌, �
 ghost use Rattle.raft_table.specs.Common.{Block, shown, first_of_last, without_first_of_first, end_of, below, from, AreCounted, AreRecounted, counts_without, entries_within};
 
 use crate::global_stats::GlobalStats;
-use crate::memtable::entries::block_deques::spot_of;
+use crate::memtable::entries::block_deques::spot_at_position;
 use crate::memtable::entries::{Blocks, Entries, Starts};
-use crate::memtable::mark::capped;
+use crate::memtable::mark::cap_at_cut;
 use raft_base::LogQueue;
 use std::collections::VecDeque;
 
@@ -44,7 +44,7 @@ impl Entries {
         }
         let keep = index.saturating_sub(self.first).min(self.len as u64) as usize;
         let dropped = self.len - keep;
-        let (rewritten, appended) = self.count_behind(keep);
+        let (rewritten, appended) = self.count_after(keep);
         self.keep_front(keep);
         stats.delete(LogQueue::Rewrite, rewritten);
         stats.delete(LogQueue::Append, appended);
@@ -81,7 +81,7 @@ impl Entries {
     pub fn end_within(&self, index: u64, cut: Option<u64>) -> u64
         ensures { result ≡ end_of (entries_within index cut self.now) }
     {
-        let end = capped(self.end(), cut);
+        let end = cap_at_cut(self.end(), cut);
         if self.first.max(index) < end {
             return end;
         }
@@ -98,7 +98,13 @@ impl Entries {
             return;
         }
         let index = self.first + count as u64;
-        let (nth, dropped) = spot_of(&self.blocks, &self.starts, self.first, self.len, count);
+        let (nth, dropped) = spot_at_position(
+            &self.blocks,
+            &self.starts,
+            self.first,
+            self.len,
+            count,
+        );
         drop_front_blocks(&mut self.blocks, nth, dropped);
         drop_front_starts(&mut self.starts, nth, index);
         self.first = index;
@@ -115,7 +121,13 @@ impl Entries {
             self.clear();
             return;
         }
-        let (nth, last) = spot_of(&self.blocks, &self.starts, self.first, self.len, count - 1);
+        let (nth, last) = spot_at_position(
+            &self.blocks,
+            &self.starts,
+            self.first,
+            self.len,
+            count - 1,
+        );
         keep_front_blocks(&mut self.blocks, nth, last + 1);
         self.starts.truncate(nth + 1);
         self.len = count;
@@ -149,8 +161,8 @@ fn drop_front_blocks(blocks: &mut Blocks, nth: usize, dropped: usize)
         ≤ length (slice_index_or blocks.old.items nth d).spans.items }
     ensures { shown blocks.new ≡ without_first_of_first dropped (drop nth (shown blocks.old)) }
 {
-    drop_first(blocks, nth);
-    drop_first(&mut blocks[0].spans, dropped);
+    drop_first_items(blocks, nth);
+    drop_first_items(&mut blocks[0].spans, dropped);
 }
 
 /// Drops the first indexes of the blocks before the one at position `nth`, and sets that block's first index
@@ -164,12 +176,12 @@ fn drop_front_starts(starts: &mut Starts, nth: usize, index: u64)
     if starts.is_empty() {
         return;
     }
-    drop_first(starts, nth);
+    drop_first_items(starts, nth);
     starts[0] = index;
 }
 
 /// Drops the first `count` items of `deque`, which has as many.
-fn drop_first<T: Drop>(deque: &mut VecDeque<T>, count: usize)
+fn drop_first_items<T: Drop>(deque: &mut VecDeque<T>, count: usize)
     requires { count ≤ length deque.old.items }
     ensures { deque.new.items ≡ drop count deque.old.items }
 {

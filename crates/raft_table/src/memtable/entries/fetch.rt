@@ -4,8 +4,10 @@ ghost use Rattle.std.specs.Prelude.{◌≡◌, ◌+◌, ◌-◌, ◌≤◌, ◌<
 ghost use Rattle.raft_table.specs.Common.{prefix_len, slice_get, Append, Rewrite, placed_in, Fetches, IsFetchFault, IsLimitCount, range_answer, appended_before, entry_seq, first_entry_seq, may_move};
 
 use crate::memtable::entries::Entries;
-use crate::memtable::entries::block_deques::spot_of;
-use crate::memtable::entries::block_walks::{count_from, movable_from, push_entries};
+use crate::memtable::entries::block_deques::spot_at_position;
+use crate::memtable::entries::block_walks::{
+    count_movable_from, count_within_limit_from, push_entries,
+};
 use raft_base::{EntryIndex, Error, FileSeq, LogQueue, Result};
 
 impl Entries {
@@ -44,8 +46,8 @@ impl Entries {
             return Err(Error::EntryNotFound);
         }
         let start = (begin - self.first) as usize;
-        let count = self.count_within(start, (end - self.first) as usize, limit);
-        self.extend(vec, start, start + count)
+        let count = self.count_within_limit(start, (end - self.first) as usize, limit);
+        self.push_range_into(vec, start, start + count)
     }
 
     /// Appends all entries whose place is in the rewrite queue to `vec`, in order.
@@ -58,7 +60,7 @@ impl Entries {
         ensures err { OnErr result (vec.new.items ≡ vec.old.items) }
         ensures memory { IfErr result (λ e. e ≡ Error.Memory) }
     {
-        self.extend(vec, 0, self.rewritten)
+        self.push_range_into(vec, 0, self.rewritten)
     }
 
     /// Appends entries whose place is in the append queue to `vec`, from the first such entry on, as long as
@@ -67,14 +69,14 @@ impl Entries {
     /// # Errors
     ///
     /// `Memory` alone. `vec` is unchanged then.
-    pub fn fetch_before(&self, gate: FileSeq, vec: &mut Vec<EntryIndex>) -> Result<()>
+    pub fn fetch_appended_up_to(&self, gate: FileSeq, vec: &mut Vec<EntryIndex>) -> Result<()>
         ensures ok { OnOk result (vec.new.items ≡ vec.old.items ++ appended_before gate self.now) }
         ensures err { OnErr result (vec.new.items ≡ vec.old.items) }
         ensures memory { IfErr result (λ e. e ≡ Error.Memory) }
     {
         let start = self.rewritten;
-        let count = self.movable(start, self.len, Some(gate));
-        self.extend(vec, start, start + count)
+        let count = self.count_movable(start, self.len, Some(gate));
+        self.push_range_into(vec, start, start + count)
     }
 
     /// Returns the number of the file of the entry at position `at`, counted from 0, or `None` if there are
@@ -85,7 +87,7 @@ impl Entries {
         if at >= self.len {
             return None;
         }
-        let (nth, _) = spot_of(&self.blocks, &self.starts, self.first, self.len, at);
+        let (nth, _) = spot_at_position(&self.blocks, &self.starts, self.first, self.len, at);
         Some(self.blocks[nth].handle.id.seq)
     }
 
@@ -104,7 +106,7 @@ impl Entries {
     /// Returns how many of the entries at the positions `at..end` come before the first one that a rewriting
     /// with this `gate` may not move: one whose file number is above `gate` or, without a gate, one that
     /// isn't rewritten already.
-    pub(super) fn movable(&self, at: usize, end: usize, gate: Option<FileSeq>) -> usize
+    pub(super) fn count_movable(&self, at: usize, end: usize, gate: Option<FileSeq>) -> usize
         requires order { at ≤ end }
         requires within { end ≤ length self.now }
         ensures { result ≡ prefix_len (may_move gate) (drop at (take end self.now)) }
@@ -112,13 +114,13 @@ impl Entries {
         if at == end {
             return 0;
         }
-        let spot = spot_of(&self.blocks, &self.starts, self.first, self.len, at);
-        movable_from(&self.blocks, spot, at, end, gate)
+        let spot = spot_at_position(&self.blocks, &self.starts, self.first, self.len, at);
+        count_movable_from(&self.blocks, spot, at, end, gate)
     }
 
     /// Returns how many of the entries at the positions `start..end` a fetch with this `limit` in bytes
     /// returns ([`Entries::fetch_to`]): all of them without a limit.
-    fn count_within(&self, start: usize, end: usize, limit: Option<usize>) -> usize
+    fn count_within_limit(&self, start: usize, end: usize, limit: Option<usize>) -> usize
         requires order { start ≤ end }
         requires within { end ≤ length self.now }
         ensures { IsLimitCount limit (drop start (take end self.now)) result }
@@ -129,8 +131,8 @@ impl Entries {
         if start == end {
             return 0;
         }
-        let spot = spot_of(&self.blocks, &self.starts, self.first, self.len, start);
-        count_from(&self.blocks, spot, start, end, limit)
+        let spot = spot_at_position(&self.blocks, &self.starts, self.first, self.len, start);
+        count_within_limit_from(&self.blocks, spot, start, end, limit)
     }
 
     /// Appends the entries at the positions `start..end` to `vec`.
@@ -138,7 +140,7 @@ impl Entries {
     /// # Errors
     ///
     /// `Memory` alone. `vec` is unchanged then.
-    fn extend(&self, vec: &mut Vec<EntryIndex>, start: usize, end: usize) -> Result<()>
+    fn push_range_into(&self, vec: &mut Vec<EntryIndex>, start: usize, end: usize) -> Result<()>
         requires order { start ≤ end }
         requires within { end ≤ length self.now }
         ensures ok { OnOk result (vec.new.items ≡ vec.old.items ++ drop start (take end self.now)) }
@@ -147,7 +149,7 @@ impl Entries {
     {
         vec.reserve(end - start)?;
         if start < end {
-            let spot = spot_of(&self.blocks, &self.starts, self.first, self.len, start);
+            let spot = spot_at_position(&self.blocks, &self.starts, self.first, self.len, start);
             push_entries(vec, self.first, &self.blocks, spot, start, end);
         }
         Ok(())

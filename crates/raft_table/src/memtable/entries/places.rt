@@ -40,22 +40,22 @@ impl Entries {
         let Some(head) = run.first() else {
             return Ok(());
         };
-        let Some(overlap) = self.overlap(head.index, run.len()) else {
+        let Some(overlap) = self.find_overlap(head.index, run.len()) else {
             return stats.add_unmoved(run.len());
         };
-        if self.is_misplaced(overlap.at, gate) {
+        if self.refuses_rewrite_at(overlap.at, gate) {
             return Err(Error::corruption(
                 self.allocator(),
                 "a rewriting doesn't start where the rewritten entries end",
             ));
         }
         let places = &run[overlap.skipped..overlap.skipped + overlap.count];
-        self.move_places(overlap.at, places, gate, run.len(), stats)
+        self.move_to_places(overlap.at, places, gate, run.len(), stats)
     }
 
     /// Returns which indexes a run of `len` entries with the first index `start` shares with these entries,
     /// or `None` if it shares none.
-    fn overlap(&self, start: u64, len: usize) -> Option<Overlap>
+    fn find_overlap(&self, start: u64, len: usize) -> Option<Overlap>
         requires { start + len < 2 ^ 64 }
         ensures meets { MatchOption result
             (AreDisjoint (start_of self.now) (length self.now) start len)
@@ -81,7 +81,7 @@ impl Entries {
 
     /// Tests whether a rewriting may not begin at position `at` of the entries: if appended entries come
     /// before that position or, with a `gate`, the entry there is rewritten already.
-    fn is_misplaced(&self, at: usize, gate: Option<FileSeq>) -> bool
+    fn refuses_rewrite_at(&self, at: usize, gate: Option<FileSeq>) -> bool
         ensures { result ≡ is_misplaced gate at (entry_count Rewrite self.now) }
     {
         self.rewritten < at || gate.is_some() && at < self.rewritten
@@ -96,7 +96,7 @@ impl Entries {
     ///
     /// `Full` if the live records of the rewrite queue and `written` together would be more than 2^64 - 1;
     /// `Memory`. Entries and counts are unchanged then.
-    fn move_places(
+    fn move_to_places(
         &mut self,
         at: usize,
         places: &[EntryIndex],
@@ -124,9 +124,9 @@ impl Entries {
             return Err(Error::Full);
         }
         self.holds_one_run();
-        let moved = self.movable(at, at + places.len(), gate);
+        let moved = self.count_movable(at, at + places.len(), gate);
         self.set_places(at, &places[..moved])?;
-        count_moved(gate, written, moved, stats);
+        count_rewriting(gate, written, moved, stats);
         Ok(())
     }
 
@@ -148,16 +148,16 @@ impl Entries {
         }
         let mut run = Entries::from_run(*self.blocks.allocator(), places)?;
         if at + places.len() < self.len {
-            return self.put_between(at, run);
+            return self.replace_entries_at(at, run);
         }
-        self.put_run(at, &mut run)
+        self.move_run_after(at, &mut run)
     }
 }
 
 /// Counts a rewriting: `written` records of the rewrite queue, to `moved` of which an entry moved. With a
 /// `gate` these entries come from the append queue, without one from older places in the rewrite queue. Old
 /// places, and records to which nothing moved, are counted as no longer live.
-fn count_moved(gate: Option<FileSeq>, written: usize, moved: usize, stats: &mut GlobalStats)
+fn count_rewriting(gate: Option<FileSeq>, written: usize, moved: usize, stats: &mut GlobalStats)
     requires room { live Rewrite stats.old + written < 2 ^ 64 }
     requires moved { moved ≤ written }
     requires appended { newly_rewritten gate moved ≤ live Append stats.old }

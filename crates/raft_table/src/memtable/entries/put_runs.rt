@@ -5,8 +5,9 @@ ghost use Rattle.raft_table.specs.Common.{Rewrite, EntryIndex, entries_of_block,
 
 use crate::memtable::block::Block;
 use crate::memtable::entries::block_deques::{
-    FEW, find, is_same, keep_starts, push_block, push_with_start, put_blocks, put_few_blocks,
-    search, spans_behind, spot_behind, spot_of,
+    FEW, binary_search_spot, copy_spans_after, ensure_starts, find_spot, is_same_place, push_block,
+    push_block_with_start, replace_blocks, replace_blocks_without_starts, spot_after_kept,
+    spot_at_position,
 };
 use crate::memtable::entries::{Entries, Spans};
 use crate::memtable::run::Run;
@@ -31,9 +32,9 @@ impl Entries {
             let Some(handle) = run[at].entries else {
                 unreachable!()
             };
-            let end = at + count_of(&handle, run, at);
-            let spans = spans_of(alloc, &run[at..end])?;
-            entries.push(run[at].index, handle, spans)?;
+            let end = at + count_at_place(&handle, run, at);
+            let spans = collect_spans(alloc, &run[at..end])?;
+            entries.push_entry_block(run[at].index, handle, spans)?;
             at = end;
         }
         Ok(entries)
@@ -46,7 +47,12 @@ impl Entries {
     ///
     /// `AllocError` if there is no memory for them. The entries are unchanged then.
     #[inline(always)]
-    fn push(&mut self, index: u64, handle: FileBlockHandle, spans: Spans) -> AllocResult<()>
+    fn push_entry_block(
+        &mut self,
+        index: u64,
+        handle: FileBlockHandle,
+        spans: Spans,
+    ) -> AllocResult<()>
         requires filled { 0 < length spans.items }
         requires table_entries { AreTableEntries
             (self.old ++ entries_of_block index handle spans.items) }
@@ -55,15 +61,15 @@ impl Entries {
         ensures err { OnErr result (self.new ≡ self.old) }
     {
         let count = spans.len();
-        let first = first_of(self.len, self.first, index);
+        let first = first_index_after_push(self.len, self.first, index);
         let len = self.len + count;
-        let rewritten = self.rewritten + rewritten_in(handle.id.queue, count);
+        let rewritten = self.rewritten + count_if_rewritten(handle.id.queue, count);
         let block = Block { handle, spans };
         if self.starts.is_empty() && self.blocks.len() < FEW {
             push_block(&mut self.blocks, block)?;
         } else {
-            keep_starts(&self.blocks, &mut self.starts, self.first)?;
-            push_with_start(&mut self.blocks, &mut self.starts, index, block)?;
+            ensure_starts(&self.blocks, &mut self.starts, self.first)?;
+            push_block_with_start(&mut self.blocks, &mut self.starts, index, block)?;
         }
         self.first = first;
         self.len = len;
@@ -78,7 +84,7 @@ impl Entries {
     ///
     /// `AllocError` if there is no memory for it. The entries are unchanged then.
     #[inline(always)]
-    pub(super) fn lay(&mut self, keep: usize, run: &Run<'_>) -> AllocResult<()>
+    pub(super) fn put_run_after(&mut self, keep: usize, run: &Run<'_>) -> AllocResult<()>
         requires keep { keep ≤ length self.old }
         requires run { 0 < length (run_shown run.now) }
         requires table_entries { AreTableEntries (take keep self.old ++ run_shown run.now) }
@@ -86,14 +92,14 @@ impl Entries {
         ensures err { OnErr result (self.new ≡ self.old) }
     {
         match *run {
-            Run::Entries(run) => self.lay_entries(keep, run),
+            Run::Entries(run) => self.put_entries_after(keep, run),
             Run::Block {
                 first,
                 handle,
                 spans,
             } => {
                 let spans = Vec::from_slice(self.allocator(), spans)?;
-                self.lay_block(keep, first, handle, VecDeque::from_vec(spans))
+                self.put_block_after(keep, first, handle, VecDeque::from_vec(spans))
             }
         }
     }
@@ -105,7 +111,7 @@ impl Entries {
     ///
     /// `AllocError` if there is no memory for them. The entries are unchanged then.
     #[inline(never)]
-    fn lay_entries(&mut self, keep: usize, run: &[EntryIndex]) -> AllocResult<()>
+    fn put_entries_after(&mut self, keep: usize, run: &[EntryIndex]) -> AllocResult<()>
         requires keep { keep ≤ length self.old }
         requires run { 0 < length run.now }
         requires table_entries { AreTableEntries (take keep self.old ++ run.now) }
@@ -115,13 +121,13 @@ impl Entries {
         let alloc = self.allocator();
         let first = run[0];
         if let Some(handle) = first.entries
-            && count_of(&handle, run, 0) == run.len()
+            && count_at_place(&handle, run, 0) == run.len()
         {
-            let spans = spans_of(alloc, run)?;
-            return self.lay_block(keep, first.index, handle, spans);
+            let spans = collect_spans(alloc, run)?;
+            return self.put_block_after(keep, first.index, handle, spans);
         }
         let mut entries = Entries::from_run(alloc, run)?;
-        self.put_run(keep, &mut entries)
+        self.move_run_after(keep, &mut entries)
     }
 
     /// Keeps the first `keep` entries, and puts those of one entry block, at the place `handle`, after them,
@@ -131,7 +137,7 @@ impl Entries {
     ///
     /// `AllocError` if there is no memory for them. The entries are unchanged then.
     #[inline(always)]
-    fn lay_block(
+    fn put_block_after(
         &mut self,
         keep: usize,
         index: u64,
@@ -147,11 +153,11 @@ impl Entries {
         ensures err { OnErr result (self.new ≡ self.old) }
     {
         if keep == self.len {
-            return self.push(index, handle, spans);
+            return self.push_entry_block(index, handle, spans);
         }
         let mut run = Entries::new(self.allocator());
-        run.push(index, handle, spans)?;
-        self.put_run(keep, &mut run)
+        run.push_entry_block(index, handle, spans)?;
+        self.move_run_after(keep, &mut run)
     }
 
     /// Keeps the first `keep` entries, and moves those of `run` after them, in place of the others. Leaves
@@ -160,7 +166,7 @@ impl Entries {
     /// # Errors
     ///
     /// `AllocError` if there is no memory for them. Both are unchanged then.
-    pub(super) fn put_run(&mut self, keep: usize, run: &mut Entries) -> AllocResult<()>
+    pub(super) fn move_run_after(&mut self, keep: usize, run: &mut Entries) -> AllocResult<()>
         requires keep { keep ≤ length self.old }
         requires run { 0 < length run.old }
         requires table_entries { AreTableEntries (take keep self.old ++ run.old) }
@@ -172,33 +178,40 @@ impl Entries {
             run.clear();
             return Ok(());
         }
-        if self.are_few_with(run) {
-            return self.join_few(keep, run);
+        if self.has_few_blocks_with(run) {
+            return self.move_run_without_starts(keep, run);
         }
-        self.join(keep, run)
+        self.move_run_with_starts(keep, run)
     }
 
     /// Tests whether these entries and those of `run` have at most `FEW` blocks together, so that first
     /// indexes of blocks needn't be kept.
-    fn are_few_with(&self, run: &Entries) -> bool {
+    fn has_few_blocks_with(&self, run: &Entries) -> bool {
         self.blocks.len() <= FEW && run.blocks.len() <= FEW - self.blocks.len()
     }
 
-    /// Does what [`Entries::put_run`] does, if both have few blocks and some of these entries stay (`keep` is
-    /// above 0): moves the entries of `run` after the first `keep`. The first indexes of blocks aren't kept.
+    /// Does what [`Entries::move_run_after`] does, if both have few blocks and some of these entries stay
+    /// (`keep` is above 0): moves the entries of `run` after the first `keep`. The first indexes of blocks
+    /// aren't kept.
     ///
     /// # Errors
     ///
     /// `AllocError` if there is no memory for them. Both are unchanged then.
-    fn join_few(&mut self, keep: usize, run: &mut Entries) -> AllocResult<()>
+    fn move_run_without_starts(&mut self, keep: usize, run: &mut Entries) -> AllocResult<()>
         requires keep { (0 < keep) × (keep ≤ length self.old) }
         requires run { 0 < length run.old }
         requires table_entries { AreTableEntries (take keep self.old ++ run.old) }
         ensures ok { OnOk result ((self.new ≡ take keep self.old ++ run.old) × (run.new ≡ [])) }
         ensures err { OnErr result ((self.new ≡ self.old) × (run.new ≡ run.old)) }
     {
-        let (nth, last) = spot_of(&self.blocks, &self.starts, self.first, self.len, keep - 1);
-        put_few_blocks(&mut self.blocks, (nth + 1, last + 1), &mut run.blocks)?;
+        let (nth, last) = spot_at_position(
+            &self.blocks,
+            &self.starts,
+            self.first,
+            self.len,
+            keep - 1,
+        );
+        replace_blocks_without_starts(&mut self.blocks, (nth + 1, last + 1), &mut run.blocks)?;
         self.starts.clear();
         run.starts.clear();
         self.len = keep + run.len;
@@ -208,24 +221,24 @@ impl Entries {
         Ok(())
     }
 
-    /// Does what [`Entries::put_run`] does, if some of these entries stay (`keep` is above 0): moves the
-    /// entries of `run` after the first `keep`. The first indexes of blocks are kept.
+    /// Does what [`Entries::move_run_after`] does, if some of these entries stay (`keep` is above 0): moves
+    /// the entries of `run` after the first `keep`. The first indexes of blocks are kept.
     ///
     /// # Errors
     ///
     /// `AllocError` if there is no memory for them. Both are unchanged then.
-    fn join(&mut self, keep: usize, run: &mut Entries) -> AllocResult<()>
+    fn move_run_with_starts(&mut self, keep: usize, run: &mut Entries) -> AllocResult<()>
         requires keep { (0 < keep) × (keep ≤ length self.old) }
         requires run { 0 < length run.old }
         requires table_entries { AreTableEntries (take keep self.old ++ run.old) }
         ensures ok { OnOk result ((self.new ≡ take keep self.old ++ run.old) × (run.new ≡ [])) }
         ensures err { OnErr result ((self.new ≡ self.old) × (run.new ≡ run.old)) }
     {
-        keep_starts(&self.blocks, &mut self.starts, self.first)?;
-        keep_starts(&run.blocks, &mut run.starts, run.first)?;
-        let (nth, last) = search(&self.starts, self.first + (keep - 1) as u64);
+        ensure_starts(&self.blocks, &mut self.starts, self.first)?;
+        ensure_starts(&run.blocks, &mut run.starts, run.first)?;
+        let (nth, last) = binary_search_spot(&self.starts, self.first + (keep - 1) as u64);
         let rest = self.blocks.len();
-        put_blocks(
+        replace_blocks(
             &mut self.blocks,
             &mut self.starts,
             (nth + 1, last + 1),
@@ -246,7 +259,7 @@ impl Entries {
     /// # Errors
     ///
     /// `AllocError` if there is no memory for them. The entries are unchanged then, and `run` is dropped.
-    pub(super) fn put_between(&mut self, at: usize, run: Entries) -> AllocResult<()>
+    pub(super) fn replace_entries_at(&mut self, at: usize, run: Entries) -> AllocResult<()>
         requires run { 0 < length run }
         requires behind { at + length run < length self.old }
         requires table_entries { AreTableEntries
@@ -255,23 +268,23 @@ impl Entries {
             ≡ take at self.old ++ run ++ drop (at + length run) self.old) }
         ensures err { OnErr result (self.new ≡ self.old) }
     {
-        keep_starts(&self.blocks, &mut self.starts, self.first)?;
+        ensure_starts(&self.blocks, &mut self.starts, self.first)?;
         let kept = self.rewritten.min(at);
         let end = at + run.len;
         let passed = self.rewritten.min(end);
         let moved = kept + run.rewritten;
         let rewritten = moved + (self.rewritten - passed);
         let index = self.first + end as u64;
-        let (nth, dropped) = find(&self.starts, self.first, self.len, index);
+        let (nth, dropped) = find_spot(&self.starts, self.first, self.len, index);
         let block = &self.blocks[nth];
         let handle = block.handle;
-        let spans = spans_behind(*self.blocks.allocator(), &block.spans, dropped)?;
-        let spot = spot_behind(&self.starts, self.first, at);
+        let spans = copy_spans_after(*self.blocks.allocator(), &block.spans, dropped)?;
+        let spot = spot_after_kept(&self.starts, self.first, at);
         let mut blocks = run.blocks;
         let mut starts = run.starts;
-        keep_starts(&blocks, &mut starts, run.first)?;
-        push_with_start(&mut blocks, &mut starts, index, Block { handle, spans })?;
-        put_blocks(
+        ensure_starts(&blocks, &mut starts, run.first)?;
+        push_block_with_start(&mut blocks, &mut starts, index, Block { handle, spans })?;
+        replace_blocks(
             &mut self.blocks,
             &mut self.starts,
             spot,
@@ -286,14 +299,14 @@ impl Entries {
 
 /// Returns the index of the first entry once others, from `index` on, are put after `len` entries from
 /// `first` on: `first`, or `index` if there are none before.
-fn first_of(len: usize, first: u64, index: u64) -> u64
+fn first_index_after_push(len: usize, first: u64, index: u64) -> u64
     ensures { (len ≡ 0 → result ≡ index) × (0 < len → result ≡ first) }
 {
     if len == 0 { index } else { first }
 }
 
 /// Returns how many of `count` entries in a file of `queue` are in the rewrite queue: all or none.
-fn rewritten_in(queue: LogQueue, count: usize) -> usize
+fn count_if_rewritten(queue: LogQueue, count: usize) -> usize
     ensures { result ≡ count_in Rewrite queue count }
 {
     match queue {
@@ -303,7 +316,7 @@ fn rewritten_in(queue: LogQueue, count: usize) -> usize
 }
 
 /// Returns how many entries of `run`, from position `at` on, one after the other, have the place `handle`.
-fn count_of(handle: &FileBlockHandle, run: &[EntryIndex], at: usize) -> usize
+fn count_at_place(handle: &FileBlockHandle, run: &[EntryIndex], at: usize) -> usize
     requires { at ≤ length run.now }
     ensures within { at + result ≤ length run.now }
     ensures all { (j : ℕ) (d : EntryIndex) → at ≤ j → j < at + result
@@ -312,7 +325,7 @@ fn count_of(handle: &FileBlockHandle, run: &[EntryIndex], at: usize) -> usize
         (slice_index_or run.now at d).entries ≡ Some handle.now → 0 < result }
 {
     for i in at..run.len() {
-        if !has_place(&run[i], handle) {
+        if !is_at_place(&run[i], handle) {
             return i - at;
         }
     }
@@ -320,11 +333,11 @@ fn count_of(handle: &FileBlockHandle, run: &[EntryIndex], at: usize) -> usize
 }
 
 /// Tests whether the place of `entry` is `handle`.
-fn has_place(entry: &EntryIndex, handle: &FileBlockHandle) -> bool
+fn is_at_place(entry: &EntryIndex, handle: &FileBlockHandle) -> bool
     ensures { MatchBool result (entry.now.entries ≡ Some handle.now)
         (entry.now.entries ≢ Some handle.now) }
 {
-    entry.entries.is_some_and(|own| is_same(&own, handle))
+    entry.entries.is_some_and(|own| is_same_place(&own, handle))
 }
 
 /// Returns the offset and the length of each entry of `run`, as the spans of a block.
@@ -332,7 +345,7 @@ fn has_place(entry: &EntryIndex, handle: &FileBlockHandle) -> bool
 /// # Errors
 ///
 /// `AllocError` if there is no memory for them.
-fn spans_of(alloc: Global, run: &[EntryIndex]) -> AllocResult<Spans>
+fn collect_spans(alloc: Global, run: &[EntryIndex]) -> AllocResult<Spans>
     ensures ok { IfOk result (λ spans. spans.items ≡ spans_of run.now) }
 {
     let mut spans = Vec::with_capacity(alloc, run.len())?;

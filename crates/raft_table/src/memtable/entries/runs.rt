@@ -40,8 +40,8 @@ impl Entries {
             return Ok(());
         };
         let entries = Run::Entries(&run);
-        match self.start(first.index) {
-            Start::Joins(keep) => self.put_run_behind(keep, &entries, LogQueue::Append, stats),
+        match self.classify_start(first.index) {
+            Start::Joins(keep) => self.put_and_count_run(keep, &entries, LogQueue::Append, stats),
             Start::InFront => Err(Error::corruption(
                 self.allocator(),
                 "a run starts below the first entry",
@@ -51,8 +51,9 @@ impl Entries {
     }
 
     /// Moves the entries of `rhs`, which are all in `queue` and not counted yet, after the entries below
-    /// their first index, drops all others, and counts the change. Leaves `rhs` empty. `rule` is the queue by
-    /// whose start rule old entries stay ([`Entries::kept_under`]); `region_id` is for the text of an error.
+    /// their first index, drops all others, and counts the change. Leaves `rhs` empty. `rule` is the queue
+    /// by whose start rule old entries stay ([`Entries::count_kept_by_rule`]); `region_id` is for the text
+    /// of an error.
     ///
     /// # Errors
     ///
@@ -84,16 +85,16 @@ impl Entries {
         let Some(first) = rhs.first_index() else {
             return Ok(());
         };
-        let Some(keep) = self.kept_under(rule, first) else {
+        let Some(keep) = self.count_kept_by_rule(rule, first) else {
             return Err(self.hole_error(region_id, first));
         };
-        let gone = self.count_behind(keep);
+        let gone = self.count_after(keep);
         let added = rhs.len();
-        if !has_room(stats, gone, queue, added) {
+        if !can_exchange_counts(stats, gone, queue, added) {
             return Err(Error::Full);
         }
-        self.put_run(keep, rhs)?;
-        exchange(stats, gone, queue, added);
+        self.move_run_after(keep, rhs)?;
+        exchange_counts(stats, gone, queue, added);
         Ok(())
     }
 
@@ -127,10 +128,10 @@ impl Entries {
         let Some(first) = run.first() else {
             return Ok(());
         };
-        let Some(keep) = self.kept_under(queue, first.index) else {
+        let Some(keep) = self.count_kept_by_rule(queue, first.index) else {
             return Err(self.hole_error(region_id, first.index));
         };
-        self.put_run_behind(keep, &Run::Entries(run), queue, stats)
+        self.put_and_count_run(keep, &Run::Entries(run), queue, stats)
     }
 
     /// Returns the `Corruption` for a run with the first index `start` that leaves a hole after these
@@ -145,12 +146,12 @@ impl Entries {
     /// of the queue `rule`: those below `index`, or none if the run starts below the first entry or, in the
     /// rewrite queue, leaves a hole after the last one. Returns `None` if it leaves a hole in the append
     /// queue, which refuses that.
-    pub fn kept_under(&self, rule: LogQueue, index: u64) -> Option<usize>
+    pub fn count_kept_by_rule(&self, rule: LogQueue, index: u64) -> Option<usize>
         ensures kept { MatchOption result (IsStart self.now index Start.BehindHole ×
             (rule ≡ Append)) (IsKeptUnder rule self.now index) }
         ensures table_entries { AreTableEntries self.now }
     {
-        match self.start(index) {
+        match self.classify_start(index) {
             Start::Joins(keep) => Some(keep),
             Start::InFront => Some(0),
             Start::BehindHole => match rule {
@@ -168,7 +169,7 @@ impl Entries {
     /// `Full` if more than 2^64 - 1 records would be live in `queue`; `Memory`. Entries and counts are
     /// unchanged then.
     #[inline(always)]
-    pub fn put_run_behind(
+    pub fn put_and_count_run(
         &mut self,
         keep: usize,
         run: &Run<'_>,
@@ -188,19 +189,19 @@ impl Entries {
         ensures fault { IfErr result (IsTableRunFault queue stats.old self.old
             (Some (take keep self.old ++ run_shown run.now))) }
     {
-        let gone = self.count_behind(keep);
+        let gone = self.count_after(keep);
         let added = run.len();
-        if !has_room(stats, gone, queue, added) {
+        if !can_exchange_counts(stats, gone, queue, added) {
             return Err(Error::Full);
         }
-        self.lay(keep, run)?;
-        exchange(stats, gone, queue, added);
+        self.put_run_after(keep, run)?;
+        exchange_counts(stats, gone, queue, added);
         Ok(())
     }
 
     /// Returns how many of the entries after the first `keep` are in the rewrite queue, and how many are in
     /// the append queue.
-    pub(super) fn count_behind(&self, keep: usize) -> (usize, usize)
+    pub(super) fn count_after(&self, keep: usize) -> (usize, usize)
         requires { keep ≤ length self.now }
         ensures rewritten { result.0 ≡ entry_count Rewrite (drop keep self.now) }
         ensures appended { result.1 ≡ entry_count Append (drop keep self.now) }
@@ -212,7 +213,7 @@ impl Entries {
 
     /// Returns where a run with the first index `index` begins, compared with these entries. If there are
     /// none, it joins them.
-    fn start(&self, index: u64) -> Start
+    fn classify_start(&self, index: u64) -> Start
         ensures meets { IsStart self.now index result }
         ensures table_entries { AreTableEntries self.now }
     {
@@ -233,7 +234,12 @@ impl Entries {
 /// Tests whether `added` more records of `queue` can be counted as live, once `gone` records are no longer
 /// live: no more than 2^64 - 1 may be live in a queue. `gone` is a number of rewritten and a number of
 /// appended records.
-fn has_room(stats: &GlobalStats, gone: (usize, usize), queue: LogQueue, added: usize) -> bool
+fn can_exchange_counts(
+    stats: &GlobalStats,
+    gone: (usize, usize),
+    queue: LogQueue,
+    added: usize,
+) -> bool
     requires rewritten { gone.0 ≤ live Rewrite stats.now }
     requires appended { gone.1 ≤ live Append stats.now }
     ensures { MatchBool result (live queue stats.now + added < 2 ^ 64 + of_queue queue gone.1 gone.0)
@@ -247,8 +253,9 @@ fn has_room(stats: &GlobalStats, gone: (usize, usize), queue: LogQueue, added: u
 }
 
 /// Counts `gone` records as no longer live, and then `added` records of `queue` as live. `gone` is a number
-/// of rewritten and a number of appended records. There must be room for the added ones ([`has_room`]).
-fn exchange(stats: &mut GlobalStats, gone: (usize, usize), queue: LogQueue, added: usize)
+/// of rewritten and a number of appended records. There must be room for the added ones
+/// ([`can_exchange_counts`]).
+fn exchange_counts(stats: &mut GlobalStats, gone: (usize, usize), queue: LogQueue, added: usize)
     requires rewritten { gone.0 ≤ live Rewrite stats.old }
     requires appended { gone.1 ≤ live Append stats.old }
     requires room { live queue stats.old + added < 2 ^ 64 + of_queue queue gone.1 gone.0 }

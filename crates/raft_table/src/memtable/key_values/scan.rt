@@ -11,10 +11,13 @@ use std::alloc::{AllocError, Global};
 use std::collections::BTreeMap;
 use std::collections::btree_map::Range;
 
-/// Returns `bound` in one of two forms, with `None` for the other one: as a copy, by which [`sought`] looks
-/// pairs up, or, if there is no memory for a copy, as it is, which [`visit`] compares with each key. Returns
-/// `None` for both if there is no bound.
-pub(super) fn divided(alloc: Global, bound: Option<&[u8]>) -> (Option<Vec<u8>>, Option<&[u8]>)
+/// Returns `bound` in one of two forms, with `None` for the other one: as a copy, by which
+/// [`pairs_in_range`] looks pairs up, or, if there is no memory for a copy, as it is, which
+/// [`visit_forward`] compares with each key. Returns `None` for both if there is no bound.
+pub(super) fn copy_or_keep_bound(
+    alloc: Global,
+    bound: Option<&[u8]>,
+) -> (Option<Vec<u8>>, Option<&[u8]>)
     ensures { IsDivided (option_copied bound.entry) (option_map (λ k. k.items) result.0)
         (option_copied result.1) }
 {
@@ -29,7 +32,7 @@ pub(super) fn divided(alloc: Global, bound: Option<&[u8]>) -> (Option<Vec<u8>>, 
 
 /// Returns the pairs whose key is at least `start` and below `end`, in the order of the keys. A bound that is
 /// `None` doesn't limit its side. `start` must not be above `end`: the map refuses such a range.
-pub(super) fn sought<'a>(
+pub(super) fn pairs_in_range<'a>(
     pairs: &'a BTreeMap<Vec<u8>, StoredValue>,
     start: &Option<Vec<u8>>,
     end: &Option<Vec<u8>>,
@@ -49,7 +52,8 @@ pub(super) fn sought<'a>(
     }
 }
 
-/// Tests whether `start` is at most `end`, as [`sought`] requires. Returns true if one of them is `None`.
+/// Tests whether `start` is at most `end`, as [`pairs_in_range`] requires. Returns true if one of them is
+/// `None`.
 pub(super) fn is_forward(start: Option<&[u8]>, end: Option<&[u8]>) -> bool
     ensures { result ≡ is_forward (option_copied start.entry) (option_copied end.entry) }
 {
@@ -61,7 +65,7 @@ pub(super) fn is_forward(start: Option<&[u8]>, end: Option<&[u8]>) -> bool
 
 /// Calls `f` with each of `pairs` whose key is at least `start` and below `end`, in order, until `f` returns
 /// false.
-pub(super) fn visit<F: FnMut(&[u8], &[u8]) -> bool>(
+pub(super) fn visit_forward<F: FnMut(&[u8], &[u8]) -> bool>(
     mut pairs: Range<'_, Vec<u8>, StoredValue>,
     start: Option<&[u8]>,
     end: Option<&[u8]>,
@@ -82,7 +86,7 @@ pub(super) fn visit<F: FnMut(&[u8], &[u8]) -> bool>(
 
 /// Calls `f` with each of `pairs` whose key is at least `start` and below `end`, from the last one back to
 /// the first, until `f` returns false.
-pub(super) fn visit_back<F: FnMut(&[u8], &[u8]) -> bool>(
+pub(super) fn visit_backward<F: FnMut(&[u8], &[u8]) -> bool>(
     mut pairs: Range<'_, Vec<u8>, StoredValue>,
     start: Option<&[u8]>,
     end: Option<&[u8]>,

@@ -31,26 +31,26 @@ pub returns-in_err-merge_by_rule-clause-fault : goal.returns-in_err-merge_by_rul
 returns-in_err-merge_by_rule-clause-fault c = λ run.
     let p = err_from_is_err_and c.from_residual-in_err-merge_by_rule.result c.from_residual-in_err-merge_by_rule.ensures.1 in
     let ok = c.in_ok-check_newer_mark.ensures.ok in
-    let left = c.drop_older.ensures.left ∙ ap (λ g. left_by g c.args.mark.now c.args.self.now) (c.misses.ensures ∙ ap (misses c.args.mark.now.reach) c.end_at_reach-end.ensures) in
+    let left = c.drop_by_mark.ensures.left ∙ ap (λ g. left_by g c.args.mark.now c.args.self.now) (c.leaves_hole_after.ensures ∙ ap (misses c.args.mark.now.reach) c.end_at_reach-end.ensures) in
     let over = over_left c.args.queue c.args.mark.now c.args.rhs.now c.args.self.now ok run in
-    let room : (q : LogQueue) → live q c.drop_older.new.stats + live_of q c.args.rhs.now < 2 ^ 64 = λ q. omega (arith, c.if-not-has_room.ensures q, c.drop_older.ensures.fewer q, c.drop_older.ensures.recounted q) in
-    let memory = join_memory c.args.queue c.drop_older.new.stats c.drop_older.new.self c.args.rhs.now _ _ c.in_err-merge_by_rule.ensures.fault (ap (λ (t : Table). after_merge c.args.queue t c.args.rhs.now) left ∙ over.0) room in
+    let room : (q : LogQueue) → live q c.drop_by_mark.new.stats + live_of q c.args.rhs.now < 2 ^ 64 = λ q. omega (arith, c.if-not-has_room.ensures q, c.drop_by_mark.ensures.fewer q, c.drop_by_mark.ensures.recounted q) in
+    let memory = join_memory c.args.queue c.drop_by_mark.new.stats c.drop_by_mark.new.self c.args.rhs.now _ _ c.in_err-merge_by_rule.ensures.fault (ap (λ (t : Table). after_merge c.args.queue t c.args.rhs.now) left ∙ over.0) room in
     rw (p.1, p.2, memory) tt
 
 pub returns-in_err-merge_by_rule-clause-err : goal.returns-in_err-merge_by_rule-clause-err
 returns-in_err-merge_by_rule-clause-err c = λ run.
     let p = err_from_is_err_and c.from_residual-in_err-merge_by_rule.result c.from_residual-in_err-merge_by_rule.ensures.1 in
     let ok = c.in_ok-check_newer_mark.ensures.ok in
-    let left = c.drop_older.ensures.left ∙ ap (λ g. left_by g c.args.mark.now c.args.self.now) (c.misses.ensures ∙ ap (misses c.args.mark.now.reach) c.end_at_reach-end.ensures) in
+    let left = c.drop_by_mark.ensures.left ∙ ap (λ g. left_by g c.args.mark.now c.args.self.now) (c.leaves_hole_after.ensures ∙ ap (misses c.args.mark.now.reach) c.end_at_reach-end.ensures) in
     let over = over_left c.args.queue c.args.mark.now c.args.rhs.now c.args.self.now ok run in
-    let room : (q : LogQueue) → live q c.drop_older.new.stats + live_of q c.args.rhs.now < 2 ^ 64 = λ q. omega (arith, c.if-not-has_room.ensures q, c.drop_older.ensures.fewer q, c.drop_older.ensures.recounted q) in
-    let memory = join_memory c.args.queue c.drop_older.new.stats c.drop_older.new.self c.args.rhs.now _ _ c.in_err-merge_by_rule.ensures.fault (ap (λ (t : Table). after_merge c.args.queue t c.args.rhs.now) left ∙ over.0) room in
+    let room : (q : LogQueue) → live q c.drop_by_mark.new.stats + live_of q c.args.rhs.now < 2 ^ 64 = λ q. omega (arith, c.if-not-has_room.ensures q, c.drop_by_mark.ensures.fewer q, c.drop_by_mark.ensures.recounted q) in
+    let memory = join_memory c.args.queue c.drop_by_mark.new.stats c.drop_by_mark.new.self c.args.rhs.now _ _ c.in_err-merge_by_rule.ensures.fault (ap (λ (t : Table). after_merge c.args.queue t c.args.rhs.now) left ∙ over.0) room in
     rw (p.1, p.2, memory) (λ n. absurd (n refl))
 
 pub returns-clause-ok : goal.returns-clause-ok
 returns-clause-ok c = λ run.
     let ok = c.in_ok-check_newer_mark.ensures.ok in
-    let left = c.drop_older.ensures.left ∙ ap (λ g. left_by g c.args.mark.now c.args.self.now) (c.misses.ensures ∙ ap (misses c.args.mark.now.reach) c.end_at_reach-end.ensures) in
+    let left = c.drop_by_mark.ensures.left ∙ ap (λ g. left_by g c.args.mark.now c.args.self.now) (c.leaves_hole_after.ensures ∙ ap (misses c.args.mark.now.reach) c.end_at_reach-end.ensures) in
     let over = over_left c.args.queue c.args.mark.now c.args.rhs.now c.args.self.now ok run in
     let joined = same_some _ _ (sym over.0 ∙ ap (λ (t : Table). after_merge c.args.queue t c.args.rhs.now) (sym left) ∙ c.in_ok-merge_by_rule.ensures.ok) in
     let atomic_group = ap (λ (t : Table). t.atomic_group) c.in_ok-merge_by_rule.ensures.emptied in
@@ -59,4 +59,4 @@ returns-clause-ok c = λ run.
 
 pub returns-clause-few : goal.returns-clause-few
 returns-clause-few c = λ q.
-    omega (arith, c.drop_older.ensures.fewer q, joined_uncleaned c.args.queue q c.drop_older.new.self c.args.rhs.now _ c.in_ok-merge_by_rule.ensures.ok, ap (live_of q) c.take_atomic_group.ensures.atomic_group)
+    omega (arith, c.drop_by_mark.ensures.fewer q, joined_uncleaned c.args.queue q c.drop_by_mark.new.self c.args.rhs.now _ c.in_ok-merge_by_rule.ensures.ok, ap (live_of q) c.take_atomic_group.ensures.atomic_group)

@@ -4,5 +4,5 @@ use Rattle.raft_table.proofs.memtable.deleted_keys.DeletedKeys.absorb.Goals as g
 
 pub returns-then-len-clause-ok : goal.returns-then-len-clause-ok
 returns-then-len-clause-ok c =
-    on_ok_weaker c.take_each.result (λ h. h ∙ ap (λ s. finset.union s c.swap.new.y) c.swap.ensures.x_after ∙ ap (finset.union c.args.rhs.now) c.swap.ensures.y_after
-    ∙ union-swap c.args.rhs.now c.args.self.now) c.take_each.ensures.ok
+    on_ok_weaker c.move_each_from.result (λ h. h ∙ ap (λ s. finset.union s c.swap.new.y) c.swap.ensures.x_after ∙ ap (finset.union c.args.rhs.now) c.swap.ensures.y_after
+    ∙ union-swap c.args.rhs.now c.args.self.now) c.move_each_from.ensures.ok

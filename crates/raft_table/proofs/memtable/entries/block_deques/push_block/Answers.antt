@@ -1,6 +1,6 @@
 use Rattle.raft_table.proofs.Facts.{◌≡◌, ◌-◌, ◌<◌, List, [], ◌∷◌, ◌++◌, length, take, set, arith, refl, ap, ◌∙◌, take_all, on_ok_weaker, IfErr-weaker, block_spans, blocks_shown, joined_blocks, seam, Block, pushed_same, pushed_other}
 use Rattle.raft_table.proofs.Facts.{set_same, one_block}
-use Rattle.raft_table.proofs.memtable.entries.block_deques.push_block.Goals.{then-len-gt0+else-is_same, else-len-gt0, then-capacity-eq0+in_ok-reserve_exact, else-capacity-eq0}
+use Rattle.raft_table.proofs.memtable.entries.block_deques.push_block.Goals.{then-len-gt0+else-is_same_place, else-len-gt0, then-capacity-eq0+in_ok-reserve_exact, else-capacity-eq0}
 use Rattle.raft_table.proofs.memtable.entries.block_deques.push_block.Goals as goal
 
 last : (c : goal.After-drop-block) → c.len-len.result - 1 < length c.args.blocks.now.items
@@ -8,11 +8,11 @@ last c = omega (arith, c.args.blocks.now.ok)
 
 -- the last block, read three times
 same : (c : goal.After-drop-block) → c.index_mut.result.now.handle ≡ c.args.block.handle
-same c = ap (λ (y : Block). y.handle) (one_block c.args.blocks.now.items (c.len-len.result - 1) c.index_mut.result.now c.index.result.now (last c) c.index_mut.ensures.value c.index.ensures) ∙ c.if-is_same.ensures
+same c = ap (λ (y : Block). y.handle) (one_block c.args.blocks.now.items (c.len-len.result - 1) c.index_mut.result.now c.index.result.now (last c) c.index_mut.ensures.value c.index.ensures) ∙ c.if-is_same_place.ensures
 
 pushed : (c : goal.After-drop-block) →
-    c.lengthen.new.block.spans.items ≡ take c.len-kept.result c.index_mut.result.now.spans.items ++ c.args.block.spans.items →
-    (blocks_shown (set c.args.blocks.now.items (c.len-len.result - 1) c.lengthen.new.block) ≡ joined_blocks (blocks_shown c.args.blocks.now.items)
+    c.lengthen_block.new.block.spans.items ≡ take c.len-kept.result c.index_mut.result.now.spans.items ++ c.args.block.spans.items →
+    (blocks_shown (set c.args.blocks.now.items (c.len-len.result - 1) c.lengthen_block.new.block) ≡ joined_blocks (blocks_shown c.args.blocks.now.items)
     (block_spans c.args.block ∷ [])) × (seam (blocks_shown c.args.blocks.now.items) (block_spans c.args.block ∷ []) ≡ 1)
 pushed c h =
     let k = c.len-len.result - 1 in
@@ -20,18 +20,18 @@ pushed c h =
     let kept : c.len-kept.result ≡ length b.spans.items = omega (
       arith,
       ap (λ (y : Block). length y.spans.items)
-          (one_block c.args.blocks.now.items k b c.index-then-is_same.result.now (last c) c.index_mut.ensures.value c.index-then-is_same.ensures),
-      c.index-then-is_same.result.now.spans.ok,
+          (one_block c.args.blocks.now.items k b c.index-then-is_same_place.result.now (last c) c.index_mut.ensures.value c.index-then-is_same_place.ensures),
+      c.index-then-is_same_place.result.now.spans.ok,
     ) in
-    pushed_same k c.args.blocks.now.items b c.lengthen.new.block c.args.block (omega (arith, c.args.blocks.now.ok)) c.index_mut.ensures.value (same c) c.lengthen.ensures.handle
+    pushed_same k c.args.blocks.now.items b c.lengthen_block.new.block c.args.block (omega (arith, c.args.blocks.now.ok)) c.index_mut.ensures.value (same c) c.lengthen_block.ensures.handle
     (h ∙ ap (λ ys. ys ++ c.args.block.spans.items) (take_all c.len-kept.result b.spans.items (omega arith)))
 
-pub returns-then-is_same-clause-ok : goal.returns-then-is_same-clause-ok
-returns-then-is_same-clause-ok c = on_ok_weaker c.lengthen.result (λ h. (pushed c h).0) c.lengthen.ensures.ok
+pub returns-then-is_same_place-clause-ok : goal.returns-then-is_same_place-clause-ok
+returns-then-is_same_place-clause-ok c = on_ok_weaker c.lengthen_block.result (λ h. (pushed c h).0) c.lengthen_block.ensures.ok
 
-pub returns-then-is_same-clause-err : goal.returns-then-is_same-clause-err
-returns-then-is_same-clause-err c =
-    IfErr-weaker c.lengthen.result _ _ (λ e h. set_same c.args.blocks.now.items (c.len-len.result - 1) c.index_mut.result.now c.lengthen.new.block (last c) c.index_mut.ensures.value c.lengthen.ensures.handle h.0) c.lengthen.ensures.err
+pub returns-then-is_same_place-clause-err : goal.returns-then-is_same_place-clause-err
+returns-then-is_same_place-clause-err c =
+    IfErr-weaker c.lengthen_block.result _ _ (λ e h. set_same c.args.blocks.now.items (c.len-len.result - 1) c.index_mut.result.now c.lengthen_block.new.block (last c) c.index_mut.ensures.value c.lengthen_block.ensures.handle h.0) c.lengthen_block.ensures.err
 
 pub returns-clause-ok : goal.returns-clause-ok
 returns-clause-ok c =
@@ -40,7 +40,7 @@ returns-clause-ok c =
       | else-capacity-eq0 w ↦ rw w.blocks-is refl
     ]))
     ∙ elim c.if-len-gt0.branch [
-      | then-len-gt0+else-is_same w ↦ (pushed_other (c.len-len.result - 1) c.args.blocks.now.items w.index.result.now c.args.block (omega (arith, w.if-len-gt0.true, c.args.blocks.now.ok)) w.index.ensures w.if-is_same.ensures).0
+      | then-len-gt0+else-is_same_place w ↦ (pushed_other (c.len-len.result - 1) c.args.blocks.now.items w.index.result.now c.args.block (omega (arith, w.if-len-gt0.true, c.args.blocks.now.ok)) w.index.ensures w.if-is_same_place.ensures).0
       | else-len-gt0 w ↦ first c.args.blocks.now.items (omega (arith, w.if-len-gt0.false, c.args.blocks.now.ok))
     ]
   where

@@ -6,12 +6,12 @@ overflow_sub-len c =
     let b = block_at c.args.blocks.now.items c.index-block.result.now (c.loop-done.invariant.2 c.loop-done-test.true) c.index-block.ensures in
     let w = b.inside in omega (arith, c.index-block.result.now.spans.ok)
 
-pub push_without_spans_of-requires-clause-within : goal.push_without_spans_of-requires-clause-within
-push_without_spans_of-requires-clause-within c =
+pub push_block_without_spans-requires-clause-within : goal.push_block_without_spans-requires-clause-within
+push_block_without_spans-requires-clause-within c =
     let b = block_at c.args.blocks.now.items c.index-block.result.now (c.loop-done.invariant.2 c.loop-done-test.true) c.index-block.ensures in
     let w = b.inside in omega (arith, c.index-block.result.now.spans.ok)
 
-step : (c : goal.After-push_without_spans_of) → IsStep c.loop-done.done c.loop-done.nth c.loop-done.at c.min-count.result c.args.end (blocks_shown c.args.blocks.now.items) (block_spans c.index-block.result.now)
+step : (c : goal.After-push_block_without_spans) → IsStep c.loop-done.done c.loop-done.nth c.loop-done.at c.min-count.result c.args.end (blocks_shown c.args.blocks.now.items) (block_spans c.index-block.result.now)
 step c =
     let a = c.loop-done.invariant.2 c.loop-done-test.true in
     let b = block_at c.args.blocks.now.items c.index-block.result.now a c.index-block.ensures in
@@ -34,9 +34,9 @@ loop-done-preserved c =
       omega arith,
       order,
       s.next,
-      (let l = c.loop-done.invariant.3 in omega (arith, c.push_without_spans_of.ensures.len)),
-      c.push_without_spans_of.ensures.capacity ∙ c.loop-done.invariant.4,
-      c.push_without_spans_of.ensures.items ∙ ap (λ zs. zs ++ map without_span ys) c.loop-done.invariant.5 ∙ append_assoc c.args.vec.now.items (map without_span xs) (map without_span ys)
+      (let l = c.loop-done.invariant.3 in omega (arith, c.push_block_without_spans.ensures.len)),
+      c.push_block_without_spans.ensures.capacity ∙ c.loop-done.invariant.4,
+      c.push_block_without_spans.ensures.items ∙ ap (λ zs. zs ++ map without_span ys) c.loop-done.invariant.5 ∙ append_assoc c.args.vec.now.items (map without_span xs) (map without_span ys)
           ∙ ap (λ zs. c.args.vec.now.items ++ zs) (sym (map-append without_span xs ys)
           ∙ ap (map without_span) (sym (walk_more c.args.first c.args.start c.loop-done.done c.loop-done.nth c.loop-done.at c.min-count.result bs (block_spans c.index-block.result.now) low a b.same s.within (omega arith)))),
     )

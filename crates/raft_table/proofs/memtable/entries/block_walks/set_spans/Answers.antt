@@ -7,12 +7,12 @@ overflow_sub-len c =
     let b = block_at c.args.blocks.now.items c.index-block.result.now (c.loop-done.invariant.2 c.loop-done-test.true) c.index-block.ensures in
     let w = b.inside in omega (arith, c.index-block.result.now.spans.ok)
 
-pub set_spans_of-requires-clause-within : goal.set_spans_of-requires-clause-within
-set_spans_of-requires-clause-within c =
+pub set_spans_of_block-requires-clause-within : goal.set_spans_of_block-requires-clause-within
+set_spans_of_block-requires-clause-within c =
     let b = block_at c.args.blocks.now.items c.index-block.result.now (c.loop-done.invariant.2 c.loop-done-test.true) c.index-block.ensures in
     let w = b.inside in omega (arith, c.index-block.result.now.spans.ok)
 
-step : (c : goal.After-set_spans_of) → IsStep c.loop-done.done c.loop-done.nth c.loop-done.at c.min-count.result c.args.end (blocks_shown c.args.blocks.now.items) (block_spans c.index-block.result.now)
+step : (c : goal.After-set_spans_of_block) → IsStep c.loop-done.done c.loop-done.nth c.loop-done.at c.min-count.result c.args.end (blocks_shown c.args.blocks.now.items) (block_spans c.index-block.result.now)
 step c =
     let a = c.loop-done.invariant.2 c.loop-done-test.true in
     let b = block_at c.args.blocks.now.items c.index-block.result.now a c.index-block.ensures in
@@ -36,7 +36,7 @@ loop-done-preserved c =
       omega arith,
       order,
       s.next,
-      c.set_spans_of.ensures.len ∙ c.loop-done.invariant.3,
+      c.set_spans_of_block.ensures.len ∙ c.loop-done.invariant.3,
       λ i front m e.
           let es = entries_in_blocks i bs in
           let xs = drop c.args.start (take done es) in
@@ -51,7 +51,7 @@ loop-done-preserved c =
           c.loop-done.invariant.4 i front m e ∙ ap (λ zs. (front ++ xs) ++ map without_span zs) split in
           let t : length (take done es) ≡ done = length-take-le done es (rw (length-expanded i bs) (omega arith)) in
           let long : length (front ++ xs) ≡ c.args.len + (done - c.args.start) = length-append front xs ∙ omega (arith, length-drop c.args.start (take done es)) in
-          c.set_spans_of.ensures.items
+          c.set_spans_of_block.ensures.items
           ∙ ap (λ zs. take (c.args.len + (done - c.args.start)) zs ++ with_spans ss (drop (c.args.len + (done - c.args.start)) zs)) was
           ∙ part_set (front ++ xs) (c.args.len + (done - c.args.start)) (i + done) h ss rest long
           ∙ ap (λ zs. zs ++ map without_span rest) (append_assoc front xs (entries_of_block (i + done) h ss) ∙ ap (λ zs. front ++ zs) (sym more)),

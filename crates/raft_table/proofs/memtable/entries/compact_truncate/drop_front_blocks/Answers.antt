@@ -3,5 +3,5 @@ use Rattle.raft_table.proofs.memtable.entries.compact_truncate.drop_front_blocks
 
 pub returns : goal.returns
 returns c =
-    drop_front_blocks_shown c.args.nth c.args.dropped c.args.blocks.now.items c.drop_first.new.deque.items c.index_mut.result.now (record { handle = c.index_mut.result.now.handle; spans = c.drop_first-2.new.deque })
-    c.requires.nth c.drop_first.ensures c.index_mut.ensures.value refl c.drop_first-2.ensures
+    drop_front_blocks_shown c.args.nth c.args.dropped c.args.blocks.now.items c.drop_first_items.new.deque.items c.index_mut.result.now (record { handle = c.index_mut.result.now.handle; spans = c.drop_first_items-2.new.deque })
+    c.requires.nth c.drop_first_items.ensures c.index_mut.ensures.value refl c.drop_first_items-2.ensures

@@ -17,7 +17,7 @@ overflow_sub-self c =
     omega (arith, counted-shown c.self.inside c.args.self.now c.args.key.now _ c.self.invariant c.self.view_is removed)
 
 abbrev after : goal.After-drop-removed → Inside
-after c = record c.self.inside { pairs = c.remove.new.self; rewritten = c.self.inside.rewritten - c.rewritten.result }
+after c = record c.self.inside { pairs = c.remove.new.self; rewritten = c.self.inside.rewritten - c.one_if_rewritten.result }
 
 removed : (c : goal.After-drop-removed) → Some c.in_ok-removed.removed.file ≡ file_at c.args.self.now c.args.key.now
 removed c = sym (file-shown c.self.inside c.args.self.now c.args.key.now (Some c.in_ok-removed.removed) c.self.invariant c.self.view_is (sym (c.in_ok-removed.was) ∙ c.remove.ensures.value))

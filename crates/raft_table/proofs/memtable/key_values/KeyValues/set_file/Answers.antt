@@ -21,7 +21,7 @@ overflow_sub-self c =
     omega (arith, counted-shown c.self.inside c.args.self.now c.args.key.now _ c.self.invariant c.self.view_is left)
 
 abbrev after : goal.After-self-3-1 → Inside
-after c = record c.self.inside { pairs = c.get_mut.follows.lender (record { value = c.in_ok-pair.pair.now.value; file = c.args.file }); rewritten = c.self.inside.rewritten - c.rewritten.result + c.rewritten-2.result }
+after c = record c.self.inside { pairs = c.get_mut.follows.lender (record { value = c.in_ok-pair.pair.now.value; file = c.args.file }); rewritten = c.self.inside.rewritten - c.one_if_rewritten.result + c.one_if_rewritten-2.result }
 
 found : (c : goal.After-self-3-1) → Some c.in_ok-pair.pair.now ≡ lookup (has c.args.key.now) c.self.inside.pairs.entries
 found c = sym (ap option_copied_mut c.in_ok-pair.was) ∙ c.get_mut.ensures.value

@@ -42,7 +42,7 @@ pub use Rattle.raft_survey.proofs.SoundLemmas.{files_sound}
 pub use Rattle.raft_survey.specs.FileScans.{AreScansOf, IsScanOf}
 pub use Rattle.raft_survey.specs.FileWalks.{IsFileUnread, IsOneOfBothUnread, IsOneUnread}
 pub use Rattle.raft_inspect.specs.Checked.{IsChecked}
-pub use Rattle.raft_inspect.specs.CutShort.{AreScansCutShort, IsCheckCutShort, IsCutShort, IsOpeningCutShort, IsScanCutShort}
+pub use Rattle.raft_inspect.specs.CutShort.{AreScansCutShort, IsCheckCutShort, IsTextCutShort, IsOpeningCutShort, IsScanCutShort}
 pub use Rattle.raft_inspect.specs.Cuts.{IsCutFault, cut_asked}
 pub use Rattle.raft_inspect.specs.Faults.{IsUnchecked, IsUnprinted, IsUnprintedFor, IsUntried}
 pub use Rattle.raft_inspect.specs.Openings.{AreRefusedFor, AreTablesOf, CutsNothing, HoldsOfRead, IsAcceptedSo, IsOpenedSo, IsOpeningOf, is_refused_read}

@@ -1,5 +1,5 @@
 -- What a check has found and printed.
-use Rattle.raft_inspect.proofs.Common.{◌≡◌, ◌↔◌, ◌++◌, inl, inr, ℕ, List, Option, None, length, sym, subst, true, Appends, FileId, Append, Rewrite, Version, IoError, FileSize, files_sound, Form, AreBothScansPrinted, CutsNothing, IsCheckCutShort, IsChecked, IsCheckPrinted, IsCutShort, IsOpeningOf, IsNothingWrong, Findings, Opening}
+use Rattle.raft_inspect.proofs.Common.{◌≡◌, ◌↔◌, ◌++◌, inl, inr, ℕ, List, Option, None, length, sym, subst, true, Appends, FileId, Append, Rewrite, Version, IoError, FileSize, files_sound, Form, AreBothScansPrinted, CutsNothing, IsCheckCutShort, IsChecked, IsCheckPrinted, IsTextCutShort, IsOpeningOf, IsNothingWrong, Findings, Opening}
 use Rattle.raft_inspect.proofs.Common.{Keeps, UndamagedQueues, ending_lines, scans_lines}
 use Rattle.raft_inspect.proofs.OpeningLemmas.{opening_uncut}
 use Rattle.raft_inspect.proofs.PrintedLemmas.{appends_both, appends_front, nothing_behind}
@@ -58,7 +58,7 @@ module _ (Gives : FileId → ℕ → List ℕ → Type 0) (Fails : FileId → �
         }
 
     -- or not
-    pub ending_cut : (new : Option (List ℕ)) → IsCutShort now new (ending_lines form found) → IsCheckCutShort Gives Fails version workers append rewrite form old new
+    pub ending_cut : (new : Option (List ℕ)) → IsTextCutShort now new (ending_lines form found) → IsCheckCutShort Gives Fails version workers append rewrite form old new
     ending_cut new (inl kept) = ends_with_scans new kept
     ending_cut new (inr front) =
         let first = scans_lines form Append None scans.of_append.scans in

@@ -1,6 +1,6 @@
 -- Scans that are printed one behind another.
 use Rattle.raft_inspect.proofs.Common.{◌≡◌, ◌↔◌, inl, inr, ℕ, Bool, true, List, [], ◌∷◌, ◌++◌, Option, Some, None, refl, sym, ap, ◌∙◌, subst, append_assoc, append-nil, AllByRecursion, Appends, Keeps, AppendsFront, FileId, LogQueue, Version, FileSize, FileScan, AreScansOf, IsScanOf}
-use Rattle.raft_inspect.proofs.Common.{Form, IoError, AreScansCutShort, AreScansPrinted, IsCutShort, IsOpeningCutShort, IsOpeningOf, IsScanCutShort, IsUndamaged, Opening, opening_lines, scan_lines, scans_lines}
+use Rattle.raft_inspect.proofs.Common.{Form, IoError, AreScansCutShort, AreScansPrinted, IsTextCutShort, IsOpeningCutShort, IsOpeningOf, IsScanCutShort, IsUndamaged, Opening, opening_lines, scan_lines, scans_lines}
 
 -- ---- bytes behind bytes, where they are known
 
@@ -36,7 +36,7 @@ appends_front a b c x y first second = record {
 -- ---- what an opening would do
 
 module _ (Gives : FileId → ℕ → List ℕ → Type 0) (Fails : FileId → ℕ → IoError → Type 0) (version : Version) (workers : ℕ) (append rewrite : List FileSize) (form : Form) (opening : Opening) (opens : IsOpeningOf Gives Fails version workers append rewrite opening) where
-  pub opening_cut : (old new : Option (List ℕ)) → IsCutShort old new (opening_lines form opening) → IsOpeningCutShort Gives Fails version workers append rewrite form old new
+  pub opening_cut : (old new : Option (List ℕ)) → IsTextCutShort old new (opening_lines form opening) → IsOpeningCutShort Gives Fails version workers append rewrite form old new
   opening_cut old new (inl kept) = inl kept
   opening_cut old new (inr front) = inr (opening, opens, record { prefix = front.front; rest = front.rest; split = front.split; written = front.written })
 
@@ -65,7 +65,7 @@ module _ (Gives : FileId → ℕ → List ℕ → Type 0) (queue : LogQueue) (ve
 
   module _ (form : Form) where
     -- a scan whose lines are cut short
-    pub scan_cut : (size : FileSize) (last : Option ℕ) (scan : FileScan) (old new : Option (List ℕ)) → IsScanOf Gives queue version size scan → IsCutShort old new (scan_lines form queue last scan) → IsScanCutShort Gives queue version size form last old new
+    pub scan_cut : (size : FileSize) (last : Option ℕ) (scan : FileScan) (old new : Option (List ℕ)) → IsScanOf Gives queue version size scan → IsTextCutShort old new (scan_lines form queue last scan) → IsScanCutShort Gives queue version size form last old new
     scan_cut size last scan old new is (inl kept) = inl kept
     scan_cut size last scan old new is (inr front) = inr (scan, is, front)
 

@@ -19,8 +19,8 @@ use Rattle.raft_inspect.specs.declared.findings.Findings.{Findings}
 use Rattle.raft_inspect.specs.declared.opening.Opening.{Opening}
 
 -- nothing of a text was written, or a prefix of it, and not all
-abbrev pub IsCutShort : Option (List ℕ) → Option (List ℕ) → List ℕ → Type 0
-IsCutShort old new text = Keeps old new ⊎ AppendsFront old new text
+abbrev pub IsTextCutShort : Option (List ℕ) → Option (List ℕ) → List ℕ → Type 0
+IsTextCutShort old new text = Keeps old new ⊎ AppendsFront old new text
 
 -- a prefix of a text was written, perhaps all of it
 pub record AppendsPrefix (old new : Option (List ℕ)) (text : List ℕ) : Type 0 where

@@ -4,7 +4,7 @@ ghost use Rattle.std.specs.Prelude.{◌≡◌, ◌↔◌, ◌++◌, ◌<◌, ◌
 ghost use Rattle.std.specs.Io.KnownBytes.{Appends};
 ghost use Rattle.raft_survey.specs.FileScans.{IsScanOf};
 ghost use Rattle.raft_survey.specs.FileWalks.{IsFileUnread, IsOneOfBothUnread, IsOneUnread};
-ghost use Rattle.raft_inspect.specs.CutShort.{AreBothScansCutShort, AreScansCutShort, IsCheckCutShort, IsCutShort, IsScanCutShort};
+ghost use Rattle.raft_inspect.specs.CutShort.{AreBothScansCutShort, AreScansCutShort, IsCheckCutShort, IsTextCutShort, IsScanCutShort};
 ghost use Rattle.raft_inspect.specs.Faults.{IsUnchecked, IsUnprinted, IsUnprintedFor};
 ghost use Rattle.raft_inspect.specs.Printed.{ending_text, verdict_word};
 ghost use Rattle.raft_inspect.specs.PrintedChecks.{AreBothScansPrinted, AreScansPrinted, IsCheckPrinted};
@@ -14,7 +14,7 @@ ghost use Rattle.raft_inspect.specs.Verdicts.{IsUndamaged};
 use crate::findings::{Findings, UndamagedQueues};
 use crate::json::append_json_ending;
 use crate::opening::try_opening;
-use crate::report::{append_if_empty, append_opening};
+use crate::report::{append_no_files_if_empty, append_opening};
 use raft_base::{AllocResult, FileSeq, LogQueue, Version};
 use raft_listing::FileScan;
 use raft_reading::{FileSize, ReadFiles};
@@ -112,13 +112,13 @@ fn print_scans<S: ReadFiles, W: Write>(
     for size in sizes {
         let scan = scan_and_print(form, alloc, source, queue, version, size, last, out)?;
         last = Some(scan.seq);
-        are_undamaged = stay_undamaged(are_undamaged, &scan);
+        are_undamaged = is_still_undamaged(are_undamaged, &scan);
     }
     Ok(are_undamaged)
 }
 
 /// Tests whether nothing was found that can't be read, neither so far nor by a further scan.
-fn stay_undamaged(are_undamaged: bool, scan: &FileScan) -> bool
+fn is_still_undamaged(are_undamaged: bool, scan: &FileScan) -> bool
     ensures { (result ≡ true) ↔ ((are_undamaged ≡ true) × IsUndamaged scan.now) }
 {
     are_undamaged && scan.damages.is_empty()
@@ -167,7 +167,7 @@ fn print_scan<W: Write>(
 ) -> PrintResult<()>
     ensures ok { OnOk result (Appends (W.contents out.old) (W.contents out.new)
         (scan_lines form queue last scan.now)) }
-    ensures cut_short { OnErr result (IsCutShort (W.contents out.old) (W.contents out.new)
+    ensures cut_short { OnErr result (IsTextCutShort (W.contents out.old) (W.contents out.new)
         (scan_lines form queue last scan.now)) }
     ensures fault { IfErr result IsUnprinted }
 {
@@ -210,7 +210,7 @@ fn print_ending<W: Write>(
     out: &mut W,
 ) -> PrintResult<()>
     ensures ok { OnOk result (Appends (W.contents out.old) (W.contents out.new) (ending_lines form found.now)) }
-    ensures cut_short { OnErr result (IsCutShort (W.contents out.old) (W.contents out.new) (ending_lines form found.now)) }
+    ensures cut_short { OnErr result (IsTextCutShort (W.contents out.old) (W.contents out.new) (ending_lines form found.now)) }
     ensures fault { IfErr result IsUnprinted }
 {
     let mut text = String::new(alloc);
@@ -245,8 +245,8 @@ fn append_ending_in_form(
 fn append_ending(found: &Findings, text: &mut String) -> AllocResult<()>
     ensures { OnOk result (string_bytes text.new ≡ string_bytes text.old ++ ending_text found.now) }
 {
-    append_if_empty(LogQueue::Append, found.append_files, text)?;
-    append_if_empty(LogQueue::Rewrite, found.rewrite_files, text)?;
+    append_no_files_if_empty(LogQueue::Append, found.append_files, text)?;
+    append_no_files_if_empty(LogQueue::Rewrite, found.rewrite_files, text)?;
     append_opening(&found.opening, text)?;
     append_verdict(found, text)
 }

@@ -26,16 +26,16 @@ pub(crate) fn append_json_opening(
     ensures { OnOk result (string_bytes text.new ≡ string_bytes text.old ++ opening_json opening.now) }
 {
     match opening {
-        Opening::Refuses(error) => append_json_refused(alloc, error, text),
+        Opening::Refuses(error) => append_json_refusal(alloc, error, text),
         Opening::Opens(recovered) => {
-            append_json_cut(alloc, LogQueue::Append, &recovered.append, text)?;
-            append_json_cut(alloc, LogQueue::Rewrite, &recovered.rewrite, text)
+            append_json_cut_line(alloc, LogQueue::Append, &recovered.append, text)?;
+            append_json_cut_line(alloc, LogQueue::Rewrite, &recovered.rewrite, text)
         }
     }
 }
 
 /// Appends the line which says that an opening refuses the files, and why.
-fn append_json_refused(alloc: Global, error: &Error, text: &mut String) -> AllocResult<()>
+fn append_json_refusal(alloc: Global, error: &Error, text: &mut String) -> AllocResult<()>
     ensures { OnOk result (string_bytes text.new ≡ string_bytes text.old ++ json_line (refused_data error.now)) }
 {
     let why = reason_as_json(alloc, error)?;
@@ -43,7 +43,7 @@ fn append_json_refused(alloc: Global, error: &Error, text: &mut String) -> Alloc
 }
 
 /// Appends the line which says what an opening would cut off the last file of `queue`; for `None`, that it is nothing.
-fn append_json_cut(
+fn append_json_cut_line(
     alloc: Global,
     queue: LogQueue,
     cut: &Option<CutTail>,
@@ -52,13 +52,13 @@ fn append_json_cut(
     ensures { OnOk result (string_bytes text.new ≡ string_bytes text.old ++ json_line (cut_data queue cut.now)) }
 {
     match cut {
-        None => append_json_uncut(queue, text),
-        Some(tail) => append_json_tail(alloc, queue, tail, text),
+        None => append_json_no_cut_line(queue, text),
+        Some(tail) => append_json_tail_line(alloc, queue, tail, text),
     }
 }
 
 /// Appends the line which says that an opening would cut nothing off `queue`.
-fn append_json_uncut(queue: LogQueue, text: &mut String) -> AllocResult<()>
+fn append_json_no_cut_line(queue: LogQueue, text: &mut String) -> AllocResult<()>
     ensures { OnOk result (string_bytes text.new ≡ string_bytes text.old ++ json_line (cut_data queue None)) }
 {
     let (cut, name) = (0u64, QueueName(queue));
@@ -69,7 +69,7 @@ fn append_json_uncut(queue: LogQueue, text: &mut String) -> AllocResult<()>
 }
 
 /// Appends the line which says that an opening would cut a tail off the last file of `queue`: its file, offset, length and reason.
-fn append_json_tail(
+fn append_json_tail_line(
     alloc: Global,
     queue: LogQueue,
     tail: &CutTail,
@@ -100,14 +100,18 @@ pub(crate) fn append_json_ending(
 ) -> AllocResult<()>
     ensures { OnOk result (string_bytes text.new ≡ string_bytes text.old ++ ending_json found.now) }
 {
-    append_json_if_empty(LogQueue::Append, found.append_files, text)?;
-    append_json_if_empty(LogQueue::Rewrite, found.rewrite_files, text)?;
+    append_json_no_files_if_empty(LogQueue::Append, found.append_files, text)?;
+    append_json_no_files_if_empty(LogQueue::Rewrite, found.rewrite_files, text)?;
     append_json_opening(alloc, &found.opening, text)?;
     append_json_verdict(found, text)
 }
 
 /// Appends the line of a queue without files if it has none; else nothing. `files` says how many it has.
-fn append_json_if_empty(queue: LogQueue, files: usize, text: &mut String) -> AllocResult<()>
+fn append_json_no_files_if_empty(
+    queue: LogQueue,
+    files: usize,
+    text: &mut String,
+) -> AllocResult<()>
     ensures { OnOk result (string_bytes text.new ≡ string_bytes text.old ++ empty_json queue files) }
 {
     if files == 0 {

@@ -59,7 +59,7 @@ pub fn try_opening<R: Threads + Sync, S: ReadFiles>(
         sizes.now.append.items sizes.now.rewrite.items e) }
 {
     match read_both_queues(rt, alloc, source, version, sizes, workers) {
-        Ok(reading) => Ok(Opening::Opens(tails_of(reading))),
+        Ok(reading) => Ok(Opening::Opens(tails_to_cut(reading))),
         Err(error) => refusal_for(error),
     }
 }
@@ -91,7 +91,7 @@ pub(crate) fn read_both_queues<R: Threads + Sync, S: ReadFiles>(
 }
 
 /// Returns the tails that an opening would cut off once it has read the files so.
-fn tails_of(reading: Reading) -> Recovered
+fn tails_to_cut(reading: Reading) -> Recovered
     ensures { (result.append ≡ tail_of reading.append_missing) × (result.rewrite ≡ tail_of reading.rewrite_missing) }
 {
     Recovered {

@@ -4,7 +4,7 @@
 ghost use Rattle.std.specs.Prelude.{◌≡◌, ◌++◌, codes, string_bytes, None, Some, IfErr, OnErr, OnOk};
 ghost use Rattle.std.specs.Io.KnownBytes.{Appends};
 ghost use Rattle.raft_listing.specs.Reasons.{reason_text};
-ghost use Rattle.raft_inspect.specs.CutShort.{IsCutShort};
+ghost use Rattle.raft_inspect.specs.CutShort.{IsTextCutShort};
 ghost use Rattle.raft_inspect.specs.Faults.{IsUnprinted};
 ghost use Rattle.raft_inspect.specs.Printed.{cut_line, empty_line, opening_text, refused_line, tail_words};
 ghost use Rattle.raft_inspect.specs.PrintedForms.{opening_lines};
@@ -32,7 +32,7 @@ pub fn print_opening<W: Write>(
     out: &mut W,
 ) -> PrintResult<()>
     ensures ok { OnOk result (Appends (W.contents out.old) (W.contents out.new) (opening_lines form opening.now)) }
-    ensures cut_short { OnErr result (IsCutShort (W.contents out.old) (W.contents out.new) (opening_lines form opening.now)) }
+    ensures cut_short { OnErr result (IsTextCutShort (W.contents out.old) (W.contents out.new) (opening_lines form opening.now)) }
     ensures fault { IfErr result IsUnprinted }
 {
     let mut text = String::new(alloc);
@@ -68,16 +68,16 @@ pub(crate) fn append_opening(opening: &Opening, text: &mut String) -> AllocResul
     ensures { OnOk result (string_bytes text.new ≡ string_bytes text.old ++ opening_text opening.now) }
 {
     match opening {
-        Opening::Refuses(error) => append_refused(error, text),
+        Opening::Refuses(error) => append_refusal(error, text),
         Opening::Opens(recovered) => {
-            append_cut(LogQueue::Append, &recovered.append, text)?;
-            append_cut(LogQueue::Rewrite, &recovered.rewrite, text)
+            append_cut_line(LogQueue::Append, &recovered.append, text)?;
+            append_cut_line(LogQueue::Rewrite, &recovered.rewrite, text)
         }
     }
 }
 
 /// Appends the line which says that an opening refuses the files, and why.
-fn append_refused(error: &Error, text: &mut String) -> AllocResult<()>
+fn append_refusal(error: &Error, text: &mut String) -> AllocResult<()>
     ensures { OnOk result (string_bytes text.new ≡ string_bytes text.old ++ refused_line (reason_text error.now)) }
 {
     text.push_str("opening: refused: ")?;
@@ -85,17 +85,17 @@ fn append_refused(error: &Error, text: &mut String) -> AllocResult<()>
 }
 
 /// Appends the line which says what an opening would cut off the last file of `queue`; for `None`, that it is nothing.
-fn append_cut(queue: LogQueue, cut: &Option<CutTail>, text: &mut String) -> AllocResult<()>
+fn append_cut_line(queue: LogQueue, cut: &Option<CutTail>, text: &mut String) -> AllocResult<()>
     ensures { OnOk result (string_bytes text.new ≡ string_bytes text.old ++ cut_line queue cut.now) }
 {
     match cut {
-        None => append_uncut(queue, text),
-        Some(tail) => append_tail(queue, tail, text),
+        None => append_no_cut_line(queue, text),
+        Some(tail) => append_tail_line(queue, tail, text),
     }
 }
 
 /// Appends the line which says that an opening would cut nothing off `queue`.
-fn append_uncut(queue: LogQueue, text: &mut String) -> AllocResult<()>
+fn append_no_cut_line(queue: LogQueue, text: &mut String) -> AllocResult<()>
     ensures { OnOk result (string_bytes text.new ≡ string_bytes text.old ++ cut_line queue None) }
 {
     let name = queue_name(queue);
@@ -106,7 +106,7 @@ fn append_uncut(queue: LogQueue, text: &mut String) -> AllocResult<()>
 }
 
 /// Appends the line which says that an opening would cut a tail off the last file of `queue`, and why.
-fn append_tail(queue: LogQueue, tail: &CutTail, text: &mut String) -> AllocResult<()>
+fn append_tail_line(queue: LogQueue, tail: &CutTail, text: &mut String) -> AllocResult<()>
     ensures { OnOk result (string_bytes text.new ≡ string_bytes text.old ++ cut_line queue (Some tail.now)) }
 {
     append_tail_words(queue, tail, text)?;
@@ -138,7 +138,11 @@ fn append_reason_line(reason: &Error, text: &mut String) -> AllocResult<()>
 /// # Errors
 ///
 /// Fails only if there is no memory. Some of the line may then be appended.
-pub(crate) fn append_if_empty(queue: LogQueue, files: usize, text: &mut String) -> AllocResult<()>
+pub(crate) fn append_no_files_if_empty(
+    queue: LogQueue,
+    files: usize,
+    text: &mut String,
+) -> AllocResult<()>
     ensures { OnOk result (string_bytes text.new ≡ string_bytes text.old ++ empty_line queue files) }
 {
     if files == 0 {

@@ -11,11 +11,11 @@ loop-size-preserved g c =
     let gives = g.S.ReadFiles.gives c.args.source.now in
     let first = g.W.Write.contents c.args.out.now in
     let now = g.W.Write.contents c.loop-size.out in
-    one_printed gives c.args.queue c.args.version c.args.form c.args.sizes.now (drop (c.loop-size.size-index + 1) c.args.sizes.now) _ c.in_ok-scan.scan c.loop-size.are_undamaged c.stay_undamaged-are_undamaged.result c.loop-size.last first now
+    one_printed gives c.args.queue c.args.version c.args.form c.args.sizes.now (drop (c.loop-size.size-index + 1) c.args.sizes.now) _ c.in_ok-scan.scan c.loop-size.are_undamaged c.is_still_undamaged-are_undamaged.result c.loop-size.last first now
     (g.W.Write.contents c.scan_and_print.new.out)
     (subst (λ (l : List FileSize). IsPrinting gives c.args.queue c.args.version c.args.form c.args.sizes.now l c.loop-size.are_undamaged c.loop-size.last first now)
     (drop_more c.args.sizes.now c.loop-size.size-index _ c.loop-size-test.true) c.loop-size.invariant)
-    c.in_ok-scan.ensures.scanned c.in_ok-scan.ensures.printed c.stay_undamaged-are_undamaged.ensures
+    c.in_ok-scan.ensures.scanned c.in_ok-scan.ensures.printed c.is_still_undamaged-are_undamaged.ensures
 
 pub returns-clause-ok : goal.returns-clause-ok
 returns-clause-ok g c =

@@ -1,6 +1,6 @@
 use Rattle.raft_inspect.proofs.Common.{◌≡◌, ◌++◌, ◌∙◌, ℕ, List, ap, codes, rules, string_bytes, sym, on_ok_weaker}
 use Rattle.raft_inspect.proofs.JsonLemmas.{refused_is}
-use Rattle.raft_inspect.proofs.json.append_json_refused.Goals as goal
+use Rattle.raft_inspect.proofs.json.append_json_refusal.Goals as goal
 
 pub returns : goal.returns
 returns c =

@@ -5,7 +5,7 @@ use Rattle.raft_inspect.proofs.opening.try_opening.Goals as goal
 pub returns-in-Ok-clause-ok : goal.returns-in-Ok-clause-ok
 returns-in-Ok-clause-ok g c =
     let sizes = c.args.sizes.now in
-    opens_so (g.S.ReadFiles.gives c.args.source.now) (g.S.ReadFiles.may_fail c.args.source.now) c.args.version sizes.append.items sizes.rewrite.items c.args.workers c.in-Ok.reading c.tails_of.result c.in-Ok.ensures.ok c.tails_of.ensures.0 c.tails_of.ensures.1
+    opens_so (g.S.ReadFiles.gives c.args.source.now) (g.S.ReadFiles.may_fail c.args.source.now) c.args.version sizes.append.items sizes.rewrite.items c.args.workers c.in-Ok.reading c.tails_to_cut.result c.in-Ok.ensures.ok c.tails_to_cut.ensures.0 c.tails_to_cut.ensures.1
 
 pub returns-in-Err-clause-ok : goal.returns-in-Err-clause-ok
 returns-in-Err-clause-ok g c =

@@ -1,5 +1,5 @@
 use Rattle.raft_inspect.proofs.Common.{◌≡◌, ◌++◌, ◌∙◌, ℕ, List, ap, codes, rules, string_bytes, on_ok_weaker}
-use Rattle.raft_inspect.proofs.report.append_uncut.Goals as goal
+use Rattle.raft_inspect.proofs.report.append_no_cut_line.Goals as goal
 
 pub returns : goal.returns
 returns c =

@@ -1,6 +1,6 @@
 use Rattle.raft_inspect.proofs.Common.{◌++◌, codes, string_bytes, on_ok_weaker, reason_text, tail_words}
 use Rattle.raft_inspect.proofs.TextLemmas.{two_added}
-use Rattle.raft_inspect.proofs.report.append_tail.Goals as goal
+use Rattle.raft_inspect.proofs.report.append_tail_line.Goals as goal
 
 pub returns : goal.returns
 returns c =

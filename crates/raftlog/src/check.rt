@@ -24,7 +24,7 @@ use std::thread::Threads;
 /// # Errors
 ///
 /// `Misused` if the words name no files; those of the files and of the output; `Memory`. Some lines may be printed then.
-pub(crate) fn check<'a, R: Host, W: Write>(
+pub(crate) fn run_check<'a, R: Host, W: Write>(
     rt: &'a R,
     words: &ArgMatches<'a>,
     out: &mut W,
@@ -33,7 +33,7 @@ pub(crate) fn check<'a, R: Host, W: Write>(
 {
     let found = find_files(rt, words, 2)?;
     let (version, workers, form) = (version_of(words), workers_of(rt, words), form_of(words));
-    let mut out = found.source.over_bar(out);
+    let mut out = found.source.output_over_bar(out);
     let checked = check_files(
         rt,
         &found.source,
@@ -69,11 +69,11 @@ fn check_files<R: Threads + Sync + AllocGlobal, S: ReadFiles, W: Write>(
         sizes.now.append.items sizes.now.rewrite.items form (W.contents out.old) (W.contents out.new)) }
 {
     let findings = print_check(rt, rt.alloc(), source, version, sizes, workers, form, out)?;
-    Ok(status_of(&findings))
+    Ok(status_of_check(&findings))
 }
 
 /// Returns the status of a check: [`DONE`] if its verdict is `sound`, else [`WRONG`].
-fn status_of(findings: &Findings) -> u8
+fn status_of_check(findings: &Findings) -> u8
     ensures { (result ≡ 0) ↔ (verdict_word findings.now ≡ codes "sound") }
 {
     if findings.verdict() == "sound" {

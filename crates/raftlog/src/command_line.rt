@@ -357,7 +357,7 @@ const COMMANDS: [CommandWords; 7] = [
 /// # Errors
 ///
 /// Fails only if there is no memory.
-pub(crate) fn command_line<'a>(alloc: Global) -> AllocResult<Command<'a>> {
+pub(crate) fn parser_of_commands<'a>(alloc: Global) -> AllocResult<Command<'a>> {
     let mut command = Command::new(alloc, "raftlog")
         .bin_name("raftlog")?
         .about("Looks into the log files of an engine")
@@ -367,7 +367,7 @@ pub(crate) fn command_line<'a>(alloc: Global) -> AllocResult<Command<'a>> {
         .subcommand_required(true)
         .after_help(AFTER_HELP);
     for words in &COMMANDS {
-        command = command.subcommand(command_of(alloc, words)?)?;
+        command = command.subcommand(parser_of_command(alloc, words)?)?;
     }
     Ok(command)
 }
@@ -377,18 +377,18 @@ pub(crate) fn command_line<'a>(alloc: Global) -> AllocResult<Command<'a>> {
 /// # Errors
 ///
 /// Fails only if there is no memory.
-fn command_of<'a>(alloc: Global, words: &CommandWords) -> AllocResult<Command<'a>> {
+fn parser_of_command<'a>(alloc: Global, words: &CommandWords) -> AllocResult<Command<'a>> {
     let mut command = Command::new(alloc, words.name)
         .about(words.about)
         .after_help(words.after);
     for word in words.words {
-        command = command.arg(arg_of(alloc, word))?;
+        command = command.arg(parser_of_word(alloc, word))?;
     }
     Ok(command)
 }
 
 /// Returns the parser of a word, by how the word is given.
-fn arg_of<'a>(alloc: Global, word: &Word) -> Arg<'a> {
+fn parser_of_word<'a>(alloc: Global, word: &Word) -> Arg<'a> {
     let arg = Arg::new(alloc, word.name).help(word.help);
     match word.kind {
         Kind::Optional => arg.value_name(word.value),

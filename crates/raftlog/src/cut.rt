@@ -21,7 +21,7 @@ use std::io::Write;
 ///
 /// `Misused` if the words have neither `--dry-run` nor `--yes`, or both; those of the folder and of the output; `Memory`. With `--yes`
 /// something may be cut off after an error. What was cut off by then is printed, if the output takes it.
-pub(crate) fn cut<'a, R: Host, W: Write>(
+pub(crate) fn run_cut<'a, R: Host, W: Write>(
     rt: &'a R,
     words: &ArgMatches<'a>,
     out: &mut W,
@@ -57,7 +57,7 @@ fn print_cut<'a, R: Host, W: Write>(
     source.end_progress();
     let opening = opening?;
     print_opening(form_of(words), alloc, &opening, out)?;
-    Ok(status_of(&opening))
+    Ok(status_of_cut(&opening))
 }
 
 /// Cuts off what an opening of the folder at `path` would, and prints where it is kept. A folder that isn't there is refused, and not made.
@@ -77,8 +77,8 @@ fn cut_folder<R: Host, W: Write>(
     let mut files = FolderFiles::open_unread(rt, path)?;
     let found = files_in_open_folder(rt, &files)?;
     let cut = cut_files(rt, words, &found, &mut files, out);
-    print_kept(rt, form_of(words), &files, out)?;
-    Ok(status_of(&cut?))
+    print_kept_tails(rt, form_of(words), &files, out)?;
+    Ok(status_of_cut(&cut?))
 }
 
 /// Prints what an opening would do with the files of a folder, and cuts off what it would. Clears the progress bar, after an error too.
@@ -96,7 +96,7 @@ fn cut_files<R: Host, W: Write>(
 ) -> ToolResult<Opening> {
     let (version, workers, form) = (version_of(words), workers_of(rt, words), form_of(words));
     let (source, sizes, alloc) = (&found.source, &found.sizes, rt.alloc());
-    let mut out = source.over_bar(out);
+    let mut out = source.output_over_bar(out);
     let cut = cut_as_opened(
         rt, alloc, form, source, version, sizes, workers, files, &mut out,
     );
@@ -105,7 +105,7 @@ fn cut_files<R: Host, W: Write>(
 }
 
 /// Returns the status for what an opening would do: [`DONE`] if it accepts the files, else [`WRONG`].
-fn status_of(opening: &Opening) -> u8
+fn status_of_cut(opening: &Opening) -> u8
     ensures { (result ≡ 0) ↔ IsOpened opening.now }
 {
     match opening {
@@ -130,7 +130,7 @@ fn refuse_missing_folder<R: Host>(rt: &R, path: &str) -> ToolResult<()> {
 /// # Errors
 ///
 /// `Output` if the output takes no more; `Memory`. Some lines may be printed after the first.
-fn print_kept<R: Host, W: Write>(
+fn print_kept_tails<R: Host, W: Write>(
     rt: &R,
     form: Form,
     files: &FolderFiles<'_, R>,

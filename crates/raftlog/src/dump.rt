@@ -27,7 +27,7 @@ use std::io::Write;
 ///
 /// `Misused` if no index is at or above that of `--from` and below that of `--to`; `NothingOf` if nothing is printed of the region of
 /// `--region`; those of the files and of the output; `Memory`. Some lines may be printed then.
-pub(crate) fn dump<'a, R: Host, W: Write>(
+pub(crate) fn run_dump<'a, R: Host, W: Write>(
     rt: &'a R,
     words: &ArgMatches<'a>,
     out: &mut W,
@@ -35,7 +35,7 @@ pub(crate) fn dump<'a, R: Host, W: Write>(
     let selection = selection_of(words)?;
     let times = if selection.values { 2 } else { 1 };
     let found = find_files(rt, words, times)?;
-    let has_missing = print_missing(rt.alloc(), &found.sizes, form_of(words), out)?;
+    let has_missing = print_missing_files(rt.alloc(), &found.sizes, form_of(words), out)?;
     let dumped = dump_selected(rt, words, &found, selection, out);
     found.source.end_progress();
     Ok(if dumped? || has_missing { WRONG } else { DONE })
@@ -67,15 +67,15 @@ fn selection_of(words: &ArgMatches<'_>) -> ToolResult<Selection>
 /// # Errors
 ///
 /// `Output` if the output takes no more; `Memory`. Some lines may be printed after the first.
-fn print_missing<W: Write>(
+fn print_missing_files<W: Write>(
     alloc: Global,
     sizes: &BothSizes,
     form: Form,
     out: &mut W,
 ) -> ToolResult<bool> {
     let mut text = String::new(alloc);
-    append_missing(form, LogQueue::Append, sizes, &mut text)?;
-    append_missing(form, LogQueue::Rewrite, sizes, &mut text)?;
+    append_missing_in_form(form, LogQueue::Append, sizes, &mut text)?;
+    append_missing_in_form(form, LogQueue::Rewrite, sizes, &mut text)?;
     write_text(out, text.as_str())?;
     Ok(!text.is_empty())
 }
@@ -85,7 +85,7 @@ fn print_missing<W: Write>(
 /// # Errors
 ///
 /// Fails only if there is no memory. Some lines may then be appended.
-fn append_missing(
+fn append_missing_in_form(
     form: Form,
     queue: LogQueue,
     sizes: &BothSizes,
@@ -112,7 +112,7 @@ fn dump_selected<R: Host, W: Write>(
     out: &mut W,
 ) -> ToolResult<bool> {
     let (alloc, version, form) = (rt.alloc(), version_of(words), form_of(words));
-    let out = found.source.over_bar(out);
+    let out = found.source.output_over_bar(out);
     let (_out, dumped) = dump_files(
         alloc,
         &found.source,
@@ -162,7 +162,7 @@ fn dump_files<S: ReadFiles, W: Write + Drop>(
     let lines = Lines::new(alloc, out)?;
     let (lines, printed) = print_batches(alloc, source, sizes, version, selection, form, lines);
     let is_empty = lines.is_empty();
-    let (out, is_damaged) = lines.end(printed)?;
+    let (out, is_damaged) = lines.finish(printed)?;
     Ok((
         out,
         Dumped {

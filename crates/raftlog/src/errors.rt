@@ -45,7 +45,7 @@ pub(crate) type ToolResult<T> = std::result::Result<T, ToolError>;
 impl ToolError {
     /// Returns the error for a request about the file at `path` that failed with `error`: `File`, or `Memory` if there is none for the
     /// path.
-    pub(crate) fn file(alloc: Global, path: &str, error: io::Error) -> ToolError {
+    pub(crate) fn of_file(alloc: Global, path: &str, error: io::Error) -> ToolError {
         match String::from_str(alloc, path) {
             Ok(path) => ToolError::File(path, error),
             Err(_) => ToolError::Memory,

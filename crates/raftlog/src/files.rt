@@ -102,9 +102,9 @@ fn draw_picture<R: Host>(rt: &R, path: &str, sizes: &BothSizes, uses: &BothUses)
         (&*sizes.rewrite, &uses.rewrite),
     );
     append_picture(append, rewrite, &mut picture)?;
-    match write_new(rt, path, picture.as_str()) {
+    match write_new_file(rt, path, picture.as_str()) {
         Ok(()) => Ok(()),
-        Err(error) => Err(ToolError::file(rt.alloc(), path, error)),
+        Err(error) => Err(ToolError::of_file(rt.alloc(), path, error)),
     }
 }
 
@@ -114,7 +114,7 @@ fn draw_picture<R: Host>(rt: &R, path: &str, sizes: &BothSizes, uses: &BothUses)
 ///
 /// Those of the system: of the kind `AlreadyExists` if a file is at the path, which stays as it is. After another one the start of the text
 /// may stand in the new file.
-fn write_new<R: Host>(rt: &R, path: &str, text: &str) -> io::Result<()> {
+fn write_new_file<R: Host>(rt: &R, path: &str, text: &str) -> io::Result<()> {
     let mut how = OpenOptions::new();
     how.write(true).create_new(true);
     let mut file = how.open(rt, path)?;

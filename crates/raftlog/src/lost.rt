@@ -31,7 +31,7 @@ impl LostEntries {
     /// # Errors
     ///
     /// `Memory` alone.
-    fn look_at_entries(
+    fn note_lost_entries(
         &mut self,
         part: &FilePart,
         entries: &[EntryIndex],
@@ -70,7 +70,7 @@ impl PartVisitor for LostEntries {
         for item in items {
             if let LogItemContent::EntryIndexes(entries) = &item.content {
                 if self.selection.has_item(item) {
-                    self.look_at_entries(part, entries.0.as_slice(), known)?;
+                    self.note_lost_entries(part, entries.0.as_slice(), known)?;
                 }
             }
         }

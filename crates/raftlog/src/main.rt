@@ -27,14 +27,14 @@ use std::process::ExitCode;
 fn main(rt: HostRuntime) -> ExitCode {
     let mut err = rt.stderr();
     let status = match command_words(&rt) {
-        Ok(mut words) if plain::begin_plain_recovery(words.as_slice()) => {
+        Ok(mut words) if plain::asks_for_plain_recovery(words.as_slice()) => {
             let _ = words.remove(1);
-            plain::run_plainly(&rt, words.as_slice(), &mut rt.stdout(), &mut err)
+            plain::run_plain_recovery(&rt, words.as_slice(), &mut rt.stdout(), &mut err)
         }
-        Ok(words) if tools::ask_for_tool(words.as_slice()) => {
+        Ok(words) if tools::asks_for_tool(words.as_slice()) => {
             tools::run_command(&rt, words.as_slice(), &mut rt.stdout(), &mut err)
         }
-        Ok(words) if tools::name_no_command(words.as_slice()) => {
+        Ok(words) if tools::names_no_command(words.as_slice()) => {
             tools::refuse_words(words.as_slice(), &mut err)
         }
         Ok(words) => {

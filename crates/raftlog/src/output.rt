@@ -57,7 +57,7 @@ impl<W: Write + Drop> Lines<W> {
     ///
     /// `Output` if the output takes no more; else the error in `made`, as `Raft`. The lines that are kept are written then as far as they
     /// can be, and the output is lost.
-    pub(crate) fn end<T: Drop>(self, made: Result<T>) -> ToolResult<(W, T)>
+    pub(crate) fn finish<T: Drop>(self, made: Result<T>) -> ToolResult<(W, T)>
         ensures made { IfOk result (λ ended. made ≡ Ok ended.1) }
         ensures whole { IfOk result (λ ended. Keeps (lines_contents W.contents self) (W.contents ended.0)) }
     {

@@ -14,7 +14,7 @@ use std::io::{ErrorKind, Write};
 use std::rt::Files;
 
 /// Tests whether the words of a command line begin with `recover --plain`. If they do, there are at least two of them.
-pub(crate) fn begin_plain_recovery(words: &[String]) -> bool
+pub(crate) fn asks_for_plain_recovery(words: &[String]) -> bool
     ensures { IsTrue result → 1 < length words.now }
 {
     let [command, option, ..] = words else {
@@ -26,7 +26,7 @@ pub(crate) fn begin_plain_recovery(words: &[String]) -> bool
 /// Recovers files by the slow program, and prints their tables on `out`. `words` are those of `recover`, without `--plain`. Returns the
 /// status to end with: 0 if it is done, 1 if it is refused, 2 if the words ask for no recovery. A refusal, and a hint at the right words,
 /// is a line on `err`. After 1 the first lines may be printed on `out`, after 2 none is.
-pub(crate) fn run_plainly<S: Files + AllocGlobal, W: Write, E: Write>(
+pub(crate) fn run_plain_recovery<S: Files + AllocGlobal, W: Write, E: Write>(
     rt: &S,
     words: &[String],
     out: &mut W,
@@ -46,7 +46,7 @@ pub(crate) fn run_plainly<S: Files + AllocGlobal, W: Write, E: Write>(
         Ok(_) => return run_without_words(&io::Error::from(ErrorKind::InvalidInput), err),
         Err(memory) => return refuse_recovery(&memory, err),
     };
-    match print_tables(rt, &asked, out) {
+    match recover_and_print(rt, &asked, out) {
         Ok(()) => 0,
         Err(error) => refuse_recovery(&error, err),
     }
@@ -58,7 +58,7 @@ pub(crate) fn run_plainly<S: Files + AllocGlobal, W: Write, E: Write>(
 ///
 /// `Io` if a file can't be read, or the output takes no more; `InvalidArgument` unless there are 1 to 256 workers; the refusals of a
 /// recovery; `Memory`. Some lines may be printed then.
-fn print_tables<S: Files + AllocGlobal, W: Write>(
+fn recover_and_print<S: Files + AllocGlobal, W: Write>(
     rt: &S,
     asked: &RecoverWords<'_>,
     out: &mut W,

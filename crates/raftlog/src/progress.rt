@@ -49,7 +49,7 @@ impl Progress {
 
     /// Counts `bytes` as read. Returns the text of the bar if it is due at `now`, the time in milliseconds; it counts as shown then. `None`
     /// if it isn't due, `now` is `None`, or there is no memory for the text.
-    pub(crate) fn add(&self, now: Option<u64>, bytes: u64) -> Option<String> {
+    pub(crate) fn count_read_bytes(&self, now: Option<u64>, bytes: u64) -> Option<String> {
         self.done.fetch_add(bytes, Ordering::SeqCst);
         let now = now?;
         if now < self.due.load(Ordering::SeqCst) {
@@ -57,7 +57,7 @@ impl Progress {
         }
         self.due.store(now.saturating_add(NEXT), Ordering::SeqCst);
         self.is_shown.store(true, Ordering::SeqCst);
-        self.bar().ok()
+        self.bar_text().ok()
     }
 
     /// Returns the text of the bar.
@@ -65,7 +65,7 @@ impl Progress {
     /// # Errors
     ///
     /// Fails only if there is no memory.
-    fn bar(&self) -> AllocResult<String> {
+    fn bar_text(&self) -> AllocResult<String> {
         let done = self.done.load(Ordering::SeqCst).min(self.total);
         let full = match done.saturating_mul(WIDTH).checked_div(self.total) {
             Some(full) => full,

@@ -46,7 +46,7 @@ pub(crate) fn show_regions<'a, R: Host, W: Write>(
         }
         None => {
             let (version, workers) = (version_of(words), workers_of(rt, words));
-            let mut out = found.source.over_bar(out);
+            let mut out = found.source.output_over_bar(out);
             let printed = print_regions(
                 rt,
                 &found.source,

@@ -59,7 +59,7 @@ impl<R: SharedFiles + Screen> Source<'_, R> {
     }
 
     /// Returns an output that writes to `out`, and clears the progress bar first.
-    pub(crate) fn over_bar<'b, W: Write>(&'b self, out: &'b mut W) -> OverBar<'b, R, W> {
+    pub(crate) fn output_over_bar<'b, W: Write>(&'b self, out: &'b mut W) -> OverBar<'b, R, W> {
         OverBar::new(self.rt, &self.progress, out)
     }
 }
@@ -79,10 +79,13 @@ impl<R: SharedFiles + Screen> ReadFiles for Source<'_, R> {
     /// Those of the system, with the path at the start of their text; of the kind `NotFound` if no file of the queue has the number. Some
     /// of the bytes may have been appended then.
     fn read(&self, file: FileId, offset: u64, len: usize, bytes: &mut Vec<u8>) -> io::Result<()> {
-        let Some(path) = path_of(paths_of(file.queue, &self.append, &self.rewrite), file.seq) else {
+        let Some(path) = path_of_file(
+            paths_of_queue(file.queue, &self.append, &self.rewrite),
+            file.seq,
+        ) else {
             return Err(io::Error::from(ErrorKind::NotFound));
         };
-        if let Some(bar) = self.progress.add(self.rt.millis(), len as u64) {
+        if let Some(bar) = self.progress.count_read_bytes(self.rt.millis(), len as u64) {
             self.rt.show(bar.as_str());
         }
         match self.rt.read_file(path, offset, len, bytes) {
@@ -93,7 +96,11 @@ impl<R: SharedFiles + Screen> ReadFiles for Source<'_, R> {
 }
 
 /// Returns the files of one queue.
-fn paths_of<'p>(queue: LogQueue, append: &'p Paths, rewrite: &'p Paths) -> &'p [(FileSeq, String)]
+fn paths_of_queue<'p>(
+    queue: LogQueue,
+    append: &'p Paths,
+    rewrite: &'p Paths,
+) -> &'p [(FileSeq, String)]
     ensures { map path_shown result.now
         ≡ of_queue queue (map path_shown append.now.items) (map path_shown rewrite.now.items) }
 {
@@ -104,7 +111,7 @@ fn paths_of<'p>(queue: LogQueue, append: &'p Paths, rewrite: &'p Paths) -> &'p [
 }
 
 /// Returns the path of the file with the number `seq`; `None` if there is none. `paths` are by rising numbers.
-fn path_of(paths: &[(FileSeq, String)], seq: FileSeq) -> Option<&str>
+fn path_of_file(paths: &[(FileSeq, String)], seq: FileSeq) -> Option<&str>
     ensures { IfSome result (λ path. IsNamed (map path_shown paths.now) seq path.now) }
 {
     match paths.binary_search_by_key(&seq, |named| named.0) {
@@ -141,8 +148,8 @@ pub(crate) fn find_files<'a, R: Host>(
     match words.get_str("folder") {
         Some(path) if append.is_none() && rewrite.is_none() => files_in_folder(rt, path, times),
         None if append.is_some() || rewrite.is_some() => {
-            let append = named_files(rt, append.unwrap_or(&[]))?;
-            let rewrite = named_files(rt, rewrite.unwrap_or(&[]))?;
+            let append = parse_named_files(rt, append.unwrap_or(&[]))?;
+            let rewrite = parse_named_files(rt, rewrite.unwrap_or(&[]))?;
             files_at_paths(rt, append, rewrite, None, times)
         }
         Some(_) => Err(ToolError::Misused(
@@ -212,10 +219,10 @@ pub(crate) fn refuse_file<R: Host>(rt: &R, path: &str) -> ToolResult<()> {
 /// # Errors
 ///
 /// `Misused` if a word isn't a number, `=` and a path, or the numbers don't rise; `Memory`.
-fn named_files<R: Host>(rt: &R, words: &[&str]) -> ToolResult<Paths> {
+fn parse_named_files<R: Host>(rt: &R, words: &[&str]) -> ToolResult<Paths> {
     let mut paths: Paths = Vec::new(rt.alloc());
     for word in words {
-        let Some((seq, path)) = named_file(word) else {
+        let Some((seq, path)) = parse_named_file(word) else {
             return Err(ToolError::Misused("a file is named as its number, `=` and its path"));
         };
         if paths.last().is_some_and(|last| last.0 >= seq) {
@@ -227,7 +234,7 @@ fn named_files<R: Host>(rt: &R, words: &[&str]) -> ToolResult<Paths> {
 }
 
 /// Returns the number and the path of the file that a word names. `None` if the word isn't a number, `=` and a path that isn't empty.
-fn named_file(word: &str) -> Option<(FileSeq, &str)> {
+fn parse_named_file(word: &str) -> Option<(FileSeq, &str)> {
     let (seq, path) = word.split_once('=')?;
     if path.is_empty() {
         return None;
@@ -254,10 +261,10 @@ fn files_at_paths<'a, R: Host>(
         × AreSizesOf (map path_shown rewrite.items) found.sizes.rewrite.items) }
 {
     let sizes = BothSizes {
-        append: sizes_of(rt, append.as_slice())?,
-        rewrite: sizes_of(rt, rewrite.as_slice())?,
+        append: sizes_of_files(rt, append.as_slice())?,
+        rewrite: sizes_of_files(rt, rewrite.as_slice())?,
     };
-    let bytes = bytes_of(&sizes.append).saturating_add(bytes_of(&sizes.rewrite));
+    let bytes = total_length(&sizes.append).saturating_add(total_length(&sizes.rewrite));
     let progress = Progress::new(rt.alloc(), rt.millis(), bytes.saturating_mul(times));
     let source = Source {
         rt,
@@ -274,7 +281,7 @@ fn files_at_paths<'a, R: Host>(
 }
 
 /// Returns the length of all files together in bytes, at most 2^64 - 1.
-fn bytes_of(sizes: &[FileSize]) -> u64 {
+fn total_length(sizes: &[FileSize]) -> u64 {
     let mut bytes: u64 = 0;
     for size in sizes {
         bytes = bytes.saturating_add(size.len);
@@ -286,13 +293,13 @@ fn bytes_of(sizes: &[FileSize]) -> u64 {
 ///
 /// # Errors
 ///
-/// Those of [`size_of`].
-fn sizes_of<R: Host>(rt: &R, paths: &[(FileSeq, String)]) -> ToolResult<Vec<FileSize>>
+/// Those of [`size_of_file`].
+fn sizes_of_files<R: Host>(rt: &R, paths: &[(FileSeq, String)]) -> ToolResult<Vec<FileSize>>
     ensures { IfOk result (λ sizes. AreSizesOf (map path_shown paths.now) sizes.items) }
 {
     let mut sizes = Vec::new(rt.alloc());
     for path in paths {
-        let size = size_of(rt, path)?;
+        let size = size_of_file(rt, path)?;
         sizes.push(size)?;
     }
     Ok(sizes)
@@ -303,23 +310,23 @@ fn sizes_of<R: Host>(rt: &R, paths: &[(FileSeq, String)]) -> ToolResult<Vec<File
 /// # Errors
 ///
 /// `File` if it isn't a regular file that can be read; `Folder` of `Foreign` if it begins with raft-engine's header; `Memory`.
-fn size_of<R: Host>(rt: &R, file: &(FileSeq, String)) -> ToolResult<FileSize>
+fn size_of_file<R: Host>(rt: &R, file: &(FileSeq, String)) -> ToolResult<FileSize>
     ensures { IfOk result (λ size. size.seq ≡ file.now.0) }
 {
     let (seq, path) = file;
     let len = match rt.file_len(path.as_str()) {
         Ok(Some(len)) => len,
         Ok(None) => return Err(irregular_file_error(rt, path)),
-        Err(error) => return Err(ToolError::file(rt.alloc(), path.as_str(), error)),
+        Err(error) => return Err(ToolError::of_file(rt.alloc(), path.as_str(), error)),
     };
-    refuse_foreign(rt, path)?;
+    refuse_foreign_header(rt, path)?;
     Ok(FileSize { seq: *seq, len })
 }
 
 /// Returns the error for a path that leads to no regular file, which couldn't be read at an offset.
 fn irregular_file_error<R: Host>(rt: &R, path: &String) -> ToolError {
     let error = io::Error::new(ErrorKind::InvalidInput, "it isn't a regular file");
-    ToolError::file(rt.alloc(), path.as_str(), error)
+    ToolError::of_file(rt.alloc(), path.as_str(), error)
 }
 
 /// Checks that the file at `path` doesn't begin with raft-engine's header.
@@ -327,10 +334,10 @@ fn irregular_file_error<R: Host>(rt: &R, path: &String) -> ToolError {
 /// # Errors
 ///
 /// `Folder` of `Foreign` if it does; `File` if it can't be read; `Memory`.
-fn refuse_foreign<R: Host>(rt: &R, path: &String) -> ToolResult<()> {
+fn refuse_foreign_header<R: Host>(rt: &R, path: &String) -> ToolResult<()> {
     let mut begin = Vec::new(rt.alloc());
     if let Err(error) = rt.read_file(path.as_str(), 0, FOREIGN_HEADER.len(), &mut begin) {
-        return Err(ToolError::file(rt.alloc(), path.as_str(), error));
+        return Err(ToolError::of_file(rt.alloc(), path.as_str(), error));
     }
     if begin.as_slice() == FOREIGN_HEADER {
         let path = String::from_str(rt.alloc(), path.as_str())?;

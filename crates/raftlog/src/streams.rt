@@ -22,7 +22,7 @@ pub(crate) fn hold_streams<R: Host>(rt: &R) -> ToolResult<Vec<File>> {
     for _ in 0..STREAMS {
         match fs::open(rt, NOTHING) {
             Ok(file) => held.push(file)?,
-            Err(error) => return Err(ToolError::file(rt.alloc(), NOTHING, error)),
+            Err(error) => return Err(ToolError::of_file(rt.alloc(), NOTHING, error)),
         }
     }
     Ok(held)

@@ -1,9 +1,9 @@
 //! Dispatch of the commands that look into a folder, and the statuses with which they end.
 
-use crate::check::check;
-use crate::command_line::command_line;
-use crate::cut::cut;
-use crate::dump::dump;
+use crate::check::run_check;
+use crate::command_line::parser_of_commands;
+use crate::cut::run_cut;
+use crate::dump::run_dump;
 use crate::errors::{ToolError, ToolResult};
 use crate::files::print_files;
 use crate::host::Host;
@@ -42,7 +42,7 @@ pub(crate) const WRONG: u8 = 1;
 pub(crate) const MISUSED: u8 = 2;
 
 /// Tests whether the words of a command line ask for a command that looks into a folder, or for help with any command.
-pub(crate) fn ask_for_tool(words: &[String]) -> bool {
+pub(crate) fn asks_for_tool(words: &[String]) -> bool {
     match words.first() {
         Some(word) if FIRST_WORDS.contains(&word.as_str()) => true,
         Some(word) if is_help(word) => true,
@@ -56,9 +56,9 @@ fn is_help(word: &String) -> bool {
     HELP_WORDS.contains(&word.as_str())
 }
 
-/// Tests whether the first word is neither `batch` nor `recover`, or there is no word. Asked after [`ask_for_tool`], this says that no
+/// Tests whether the first word is neither `batch` nor `recover`, or there is no word. Asked after [`asks_for_tool`], this says that no
 /// command is named.
-pub(crate) fn name_no_command(words: &[String]) -> bool {
+pub(crate) fn names_no_command(words: &[String]) -> bool {
     match words.first() {
         Some(word) => word.as_str() != "batch" && word.as_str() != "recover",
         None => true,
@@ -91,7 +91,7 @@ pub(crate) fn run_command<'a, R: Host, W: Write, E: Write>(
     out: &mut W,
     err: &mut E,
 ) -> u8 {
-    let command = match command_line(rt.alloc()) {
+    let command = match parser_of_commands(rt.alloc()) {
         Ok(command) => command,
         Err(_) => return refuse_command(&ToolError::Memory, err),
     };
@@ -139,11 +139,11 @@ fn answer_command<'a, R: Host, W: Write>(
     out: &mut W,
 ) -> ToolResult<u8> {
     match matches.subcommand() {
-        Some(("check", words)) => check(rt, words, out),
+        Some(("check", words)) => run_check(rt, words, out),
         Some(("regions", words)) => show_regions(rt, words, out),
-        Some(("dump", words)) => dump(rt, words, out),
+        Some(("dump", words)) => run_dump(rt, words, out),
         Some(("files", words)) => print_files(rt, words, out),
-        Some(("cut", words)) => cut(rt, words, out),
+        Some(("cut", words)) => run_cut(rt, words, out),
         _ => Err(ToolError::Misused("no command is named: raftlog --help")),
     }
 }

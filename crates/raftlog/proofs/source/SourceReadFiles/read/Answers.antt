@@ -8,6 +8,6 @@ returns-in-Ok-clause-ok g c =
     let read = c.in-Ok.ensures.ok in
     record {
       bytes = read.bytes;
-      given = (c.in-Some.path.now, subst (λ paths. IsNamed paths c.args.file.seq c.in-Some.path.now) c.paths_of.ensures c.in-Some.ensures, read.given);
+      given = (c.in-Some.path.now, subst (λ paths. IsNamed paths c.args.file.seq c.in-Some.path.now) c.paths_of_queue.ensures c.in-Some.ensures, read.given);
       behind = read.behind;
     }

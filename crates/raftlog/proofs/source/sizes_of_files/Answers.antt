@@ -1,5 +1,5 @@
 use Rattle.raftlog.proofs.SourceLemmas.{all_sized, one_more}
-use Rattle.raftlog.proofs.source.sizes_of.Goals as goal
+use Rattle.raftlog.proofs.source.sizes_of_files.Goals as goal
 
 pub loop-path-preserved : goal.loop-path-preserved
 loop-path-preserved g c =

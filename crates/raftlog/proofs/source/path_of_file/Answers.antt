@@ -2,7 +2,7 @@ use Rattle.std.proofs.Common.{rules}
 use Rattle.std.proofs.lemmas.List.Sorted.{answers_always}
 use Rattle.std.proofs.lemmas.Map.Lookups.{exact_unsigned}
 use Rattle.raftlog.proofs.SourceLemmas.{named_by}
-use Rattle.raftlog.proofs.source.path_of.Goals as goal
+use Rattle.raftlog.proofs.source.path_of_file.Goals as goal
 
 -- the closure gives the number of a file
 pub returns-in-Ok : goal.returns-in-Ok

@@ -4,7 +4,7 @@ ghost use Rattle.std.specs.Prelude.{◌≡◌, ◌≤◌, IfNone, IfSome};
 ghost use Rattle.raft_prefix.specs.Pieces.{IsDecided, IsMissing, IsNoneMissing};
 
 use raft_reading::PIECE;
-use raft_replay::cutting::header_in;
+use raft_replay::cutting::read_batch_header;
 use std::alloc::Global;
 
 /// The length of the header of a batch, in bytes.
@@ -38,7 +38,7 @@ fn bytes_missing(alloc: Global, bytes: &[u8]) -> Option<usize>
     if bytes.len() < HEADER_LEN {
         return Some(0);
     }
-    let (_, len) = header_in(alloc, bytes)?;
+    let (_, len) = read_batch_header(alloc, bytes)?;
     if len <= bytes.len() {
         return None;
     }

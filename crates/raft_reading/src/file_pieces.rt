@@ -6,7 +6,7 @@ ghost use Rattle.raft_reading.specs.Common.{Error, HasHeader, HasReplayed, HasRe
 use crate::ReadFiles;
 use raft_base::{Error, FileId, LogFileContext, Result};
 use raft_history::ReplayMachine;
-use raft_replay::cutting::{batch_length, header_in};
+use raft_replay::cutting::{batch_length, read_batch_header};
 use raft_replay::replay_bytes;
 use raft_replay::segment::queue_name;
 use std::alloc::Global;
@@ -147,7 +147,7 @@ fn bytes_wanted(alloc: Global, bytes: &[u8], left: u64) -> usize
 {
     let missing = if bytes.len() < HEADER_LEN {
         0
-    } else if let Some((_, len)) = header_in(alloc, bytes) {
+    } else if let Some((_, len)) = read_batch_header(alloc, bytes) {
         len - bytes.len()
     } else {
         return 0;

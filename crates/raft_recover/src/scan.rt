@@ -6,7 +6,7 @@ ghost use Rattle.raft_recover.specs.Common.{end_line, IsScanned};
 
 use raft_base::{AllocResult, Error, FileBlockHandle, Result};
 use raft_records::{FilePart, LogItemBatch, entries_block_in, next_batch};
-use raft_replay::cutting::{batch_length, header_in};
+use raft_replay::cutting::{batch_length, read_batch_header};
 use raft_replay::segment::queue_name;
 use std::alloc::Global;
 
@@ -138,7 +138,7 @@ fn batch_at(alloc: Global, part: &FilePart, at: usize, batch: &LogItemBatch, nex
     ensures { IsFound part.now at result }
 {
     let (_, left) = part.bytes().split_at(at);
-    let Some((items_at, len)) = header_in(alloc, left) else {
+    let Some((items_at, len)) = read_batch_header(alloc, left) else {
         unreachable!()
     };
     Finding::Batch {

@@ -66,14 +66,14 @@ pub fn batch_length(alloc: Global, bytes: &[u8]) -> Option<usize>
     ensures none { IfNone result
         ((offset len : ℕ) → HasHeader bytes.now offset len → length bytes.now < len) }
 {
-    let (_, len) = header_in(alloc, bytes)?;
+    let (_, len) = read_batch_header(alloc, bytes)?;
     if len <= bytes.len() { Some(len) } else { None }
 }
 
 /// Reads the header of a batch at the start of `bytes`. Returns the offset of the item batch in the batch,
 /// and the length of the whole batch, both in bytes. Returns `None` if there is no header.
 #[doc(hidden)]
-pub fn header_in(alloc: Global, bytes: &[u8]) -> Option<(usize, usize)>
+pub fn read_batch_header(alloc: Global, bytes: &[u8]) -> Option<(usize, usize)>
     ensures some { IfSome result (λ header. HasHeader bytes.now header.0 header.1) }
     ensures none { IfNone result ((offset len : ℕ) → HasHeader bytes.now offset len → ⊥) }
 {

@@ -29,7 +29,7 @@ impl<M: ReplayMachine> Piece<M> {
     /// # Errors
     ///
     /// The factory's own, and `Memory`.
-    pub(crate) fn at<F: Factory<M>>(
+    pub(crate) fn take_last_or_begin<F: Factory<M>>(
         alloc: Global,
         factory: &F,
         pieces: &mut Vec<Piece<M>>,
@@ -47,13 +47,13 @@ impl<M: ReplayMachine> Piece<M> {
         ensures err { IfErr result (λ e. e ≢ Error.Memory → F.may_refuse factory.entry.now e) }
     {
         let Some(last) = pieces.pop() else {
-            return Piece::begin(alloc, factory, number);
+            return Piece::begin_at(alloc, factory, number);
         };
         if last.from <= number && number - last.from == last.count {
             return Ok(last);
         }
         pieces.push(last)?;
-        Piece::begin(alloc, factory, number)
+        Piece::begin_at(alloc, factory, number)
     }
 
     /// Returns a piece that has replayed nothing, and whose first segment will be the one numbered `from`.
@@ -62,7 +62,7 @@ impl<M: ReplayMachine> Piece<M> {
     /// # Errors
     ///
     /// The factory's own, and `Memory`.
-    fn begin<F: Factory<M>>(alloc: Global, factory: &F, from: usize) -> Result<Piece<M>>
+    fn begin_at<F: Factory<M>>(alloc: Global, factory: &F, from: usize) -> Result<Piece<M>>
         requires { (m : M) → F.gives factory.now m → M.stands_exactly m [] }
         ensures empty { IfOk result (λ p. (p.from ≡ from) × (p.count ≡ 0)) }
         ensures piece { (segments : List (Vec Part Global)) → from ≤ length segments
@@ -83,7 +83,7 @@ impl<M: ReplayMachine> Piece<M> {
     /// # Errors
     ///
     /// Those of [`replay_segment`]. The piece is dropped then.
-    pub(crate) fn with_next(mut self, segments: &[Segment]) -> Result<Piece<M>>
+    pub(crate) fn replay_next(mut self, segments: &[Segment]) -> Result<Piece<M>>
         requires inside { self.from + self.count < length segments.now }
         requires piece { IsPieceOf M.stands_exactly segments.now self }
         ensures next { IfOk result (λ p. (p.from ≡ self.from) × (p.count ≡ self.count + 1)) }
@@ -101,7 +101,7 @@ impl<M: ReplayMachine> Piece<M> {
     /// # Errors
     ///
     /// `Memory` alone. The pieces are dropped then.
-    pub(crate) fn line_up(alloc: Global, mut pieces: Vec<Piece<M>>) -> Result<Vec<M>>
+    pub(crate) fn machines_in_order(alloc: Global, mut pieces: Vec<Piece<M>>) -> Result<Vec<M>>
         ensures ok { (segments : List (Vec Part Global))
             → All (IsPieceOf M.stands_exactly segments) pieces.items
             → CoverOnce segments pieces.items

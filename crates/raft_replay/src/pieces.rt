@@ -41,10 +41,10 @@ pub fn merge_pieces<M: ReplayMachine, R: Threads + Sync>(
         let alloc = *pieces.allocator();
         return Err(Error::invalid_argument(alloc, "the plan merges another number of pieces"));
     }
-    merge_at_once(rt, pieces, plan, queue, MAX_LEVELS)
+    merge_in_parallel(rt, pieces, plan, queue, MAX_LEVELS)
 }
 
-/// What waits while [`merge_in_turn`] walks over a plan.
+/// What waits while [`merge_one_by_one`] walks over a plan.
 #[derive(Drop)]
 pub(crate) enum Waiting<'a, M> {
     /// A plan whose pieces aren't merged yet.
@@ -59,7 +59,7 @@ pub(crate) enum Waiting<'a, M> {
 /// # Errors
 ///
 /// What a merge of two neighbors returns; `Memory`. The pieces are dropped then.
-pub(crate) fn merge_in_turn<M: ReplayMachine>(
+pub(crate) fn merge_one_by_one<M: ReplayMachine>(
     mut pieces: Vec<M>,
     plan: &Plan,
     queue: LogQueue,
@@ -69,9 +69,9 @@ pub(crate) fn merge_in_turn<M: ReplayMachine>(
 {
     pieces.reverse();
     let mut waiting = Vec::new(*pieces.allocator());
-    let mut merged = oldest_of(plan, &mut waiting, &mut pieces)?;
+    let mut merged = take_oldest_piece(plan, &mut waiting, &mut pieces)?;
     while let Some(next) = waiting.pop() {
-        merged = merge_next(next, merged, &mut waiting, &mut pieces, queue)?;
+        merged = merge_or_descend(next, merged, &mut waiting, &mut pieces, queue)?;
     }
     Ok(merged)
 }
@@ -82,7 +82,7 @@ pub(crate) fn merge_in_turn<M: ReplayMachine>(
 /// # Errors
 ///
 /// `Memory` alone.
-fn oldest_of<'a, M: ReplayMachine>(
+fn take_oldest_piece<'a, M: ReplayMachine>(
     mut plan: &'a Plan,
     waiting: &mut Vec<Waiting<'a, M>>,
     pieces: &mut Vec<M>,
@@ -106,14 +106,14 @@ fn oldest_of<'a, M: ReplayMachine>(
     Ok(piece)
 }
 
-/// Takes one step of [`merge_in_turn`]: `merged` is what was merged last, and `next` is what waited last. If
-/// `next` is an older machine, `merged` is merged into it, and the result returned. If it is a newer plan,
+/// Takes one step of [`merge_one_by_one`]: `merged` is what was merged last, and `next` is what waited last.
+/// If `next` is an older machine, `merged` is merged into it, and the result returned. If it is a newer plan,
 /// `merged` waits, and the oldest piece of that plan is returned.
 ///
 /// # Errors
 ///
 /// What a merge of two neighbors returns; `Memory`.
-fn merge_next<'a, M: ReplayMachine>(
+fn merge_or_descend<'a, M: ReplayMachine>(
     next: Waiting<'a, M>,
     merged: M,
     waiting: &mut Vec<Waiting<'a, M>>,
@@ -140,19 +140,19 @@ fn merge_next<'a, M: ReplayMachine>(
         }
         Waiting::Unmerged(plan) => {
             waiting.push(Waiting::Merged(merged))?;
-            oldest_of(plan, waiting, pieces)
+            take_oldest_piece(plan, waiting, pieces)
         }
     }
 }
 
 /// Merges `pieces` as `plan` says, which is for as many pieces. Through `levels` levels of the plan, the two
 /// branches of a join are merged on two threads if both have joins of their own. What lies deeper is merged
-/// by [`merge_in_turn`].
+/// by [`merge_one_by_one`].
 ///
 /// # Errors
 ///
 /// What a merge of two neighbors returns; `Memory`. The pieces are dropped then.
-pub(crate) fn merge_at_once<M: ReplayMachine, R: Threads + Sync>(
+pub(crate) fn merge_in_parallel<M: ReplayMachine, R: Threads + Sync>(
     rt: &R,
     pieces: Vec<M>,
     plan: &Plan,
@@ -166,27 +166,27 @@ pub(crate) fn merge_at_once<M: ReplayMachine, R: Threads + Sync>(
         Plan::Join(left, right) if levels > 0 => {
             let left: &Plan = left;
             let right: &Plan = right;
-            let (pieces, rest) = divide(pieces, left, right)?;
+            let (pieces, rest) = divide_pieces(pieces, left, right)?;
             let below = levels - 1;
             let front = move || -> Result<M>
                 requires { IsSync R.row × IsSend M.row × (leaves left.now ≡ vec_len pieces) }
                 ensures { Merges M.stands_for M.stands_exactly queue pieces.items result }
-            { merge_at_once(rt, pieces, left, queue, below) };
+            { merge_in_parallel(rt, pieces, left, queue, below) };
             let back = move || -> Result<M>
                 requires { IsSync R.row × IsSend M.row × (leaves right.now ≡ vec_len rest) }
                 ensures { Merges M.stands_for M.stands_exactly queue rest.items result }
-            { merge_at_once(rt, rest, right, queue, below) };
+            { merge_in_parallel(rt, rest, right, queue, below) };
             let joins = matches!(left, Plan::Join(_, _)) && matches!(right, Plan::Join(_, _));
-            let (older, newer) = both(rt, joins, front, back);
-            merge_both(older, newer, queue)
+            let (older, newer) = call_both(rt, joins, front, back);
+            merge_branch_results(older, newer, queue)
         }
-        _ => merge_in_turn(pieces, plan, queue),
+        _ => merge_one_by_one(pieces, plan, queue),
     }
 }
 
 /// Calls both closures and returns both answers. With `at_once` they run on two threads at the same time,
 /// else one after the other.
-fn both<R: Threads, F: FnOnce() -> A + Send, G: FnOnce() -> B, A: Send, B>(
+fn call_both<R: Threads, F: FnOnce() -> A + Send, G: FnOnce() -> B, A: Send, B>(
     rt: &R,
     at_once: bool,
     first: F,
@@ -210,7 +210,11 @@ fn both<R: Threads, F: FnOnce() -> A + Send, G: FnOnce() -> B, A: Send, B>(
 ///
 /// `Memory` alone.
 #[tactic(auto, using(crate::proofs::MergeLemmas::leaves_positive))]
-fn divide<M: ReplayMachine>(mut all: Vec<M>, left: &Plan, right: &Plan) -> Result<(Vec<M>, Vec<M>)>
+fn divide_pieces<M: ReplayMachine>(
+    mut all: Vec<M>,
+    left: &Plan,
+    right: &Plan,
+) -> Result<(Vec<M>, Vec<M>)>
     requires { leaves left.now + leaves right.now ≡ vec_len all }
     ensures ok { IfOk result (λ both. all.items ≡ both.0.items ++ both.1.items) }
     ensures lengths { IfOk result (λ both. (leaves left.entry.now ≡ vec_len both.0)
@@ -229,7 +233,11 @@ fn divide<M: ReplayMachine>(mut all: Vec<M>, left: &Plan, right: &Plan) -> Resul
 ///
 /// The error of the older branch; else that of the newer one; else what the merge of the two machines
 /// returns.
-fn merge_both<M: ReplayMachine>(older: Result<M>, newer: Result<M>, queue: LogQueue) -> Result<M>
+fn merge_branch_results<M: ReplayMachine>(
+    older: Result<M>,
+    newer: Result<M>,
+    queue: LogQueue,
+) -> Result<M>
     ensures { (xs ys zs : List M) → zs ≡ xs ++ ys
         → Merges M.stands_for M.stands_exactly queue xs older
         → Merges M.stands_for M.stands_exactly queue ys newer

@@ -24,7 +24,7 @@ impl Drop for Plan {
                 Plan::One => return,
                 Plan::Join(mut left, right) => {
                     let first = Box::replace(&mut left, Plan::One);
-                    self = first.let_go_before(left, right);
+                    self = first.free_or_rotate(left, right);
                 }
             }
         }
@@ -69,24 +69,24 @@ impl Plan {
     /// plan was. If this plan is one piece, that is `right`. If it is a join, it is turned to the right: its
     /// first plan comes before the join of its second plan and `right`, which uses the box again. So each
     /// step of [`Plan::drop`] leaves less to do.
-    fn let_go_before(self, mut room: Box<Plan>, right: Box<Plan>) -> Plan
+    fn free_or_rotate(self, mut room: Box<Plan>, right: Box<Plan>) -> Plan
         requires { room.value ≡ Plan.One }
         ensures { heft result < 2 * heft self + heft right.value + 1 }
     {
         match self {
             Plan::One => {
-                Box::into_inner(room).let_one_go();
+                Box::into_inner(room).free_single_piece();
                 Box::into_inner(right)
             }
             Plan::Join(first, middle) => {
-                Box::replace(&mut room, Plan::Join(middle, right)).let_one_go();
+                Box::replace(&mut room, Plan::Join(middle, right)).free_single_piece();
                 Plan::Join(first, room)
             }
         }
     }
 
     /// Frees a plan of one piece, which has nothing below it.
-    fn let_one_go(self)
+    fn free_single_piece(self)
         requires { self ≡ Plan.One }
     {
         let Plan::One = self else { unreachable!() };

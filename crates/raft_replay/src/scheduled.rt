@@ -3,8 +3,8 @@
 ghost use Rattle.std.specs.Prelude.{◌≡◌, ◌≢◌, ◌+◌, ◌^◌, ◌<◌, ◌↔◌, All, EachIndex, List, [], length, slice_index, IfOk, IfErr, IfNone, OnOk, OnSome, IsTrue, if◌then◌else◌, vec_len, Vec};
 ghost use Rattle.raft_replay.specs.Common.{Global, Part, IsInvalidArgument, leaves, IsUnderway, CannotBeRead, SegmentsAreOf, IsReplayed, IsSchedule, switches, count_below, pieces_in};
 
-use crate::pieces::merge_in_turn;
-use crate::workers::misuse;
+use crate::pieces::merge_one_by_one;
+use crate::workers::argument_fault;
 use crate::{Plan, Segment, replay_segment};
 use raft_base::{Error, Factory, LogQueue, Result};
 use raft_history::ReplayMachine;
@@ -52,7 +52,7 @@ pub fn replay_scheduled<M: ReplayMachine, F: Factory<M>>(
         return Ok(last);
     }
     machines.push(last)?;
-    merge_in_turn(machines, plan, queue)
+    merge_one_by_one(machines, plan, queue)
 }
 
 /// Returns how many pieces [`replay_scheduled`] makes of `segments` segments if `draws` names the workers
@@ -65,20 +65,20 @@ pub fn piece_count(segments: usize, draws: &[usize]) -> usize
     }
     let mut pieces = 1;
     for n in 1..segments {
-        pieces += usize::from(switches(draws, n));
+        pieces += usize::from(is_worker_change(draws, n));
     }
     pieces
 }
 
 /// Tests whether segment `n` is drawn by another worker than the segment before it. False for segment 0.
-fn switches(draws: &[usize], n: usize) -> bool
+fn is_worker_change(draws: &[usize], n: usize) -> bool
     ensures { result ≡ switches draws.now n }
 {
-    n > 0 && drawer(draws, n) != drawer(draws, n - 1)
+    n > 0 && worker_of_segment(draws, n) != worker_of_segment(draws, n - 1)
 }
 
 /// Returns the number of the worker that draws segment `n`. It is 0 after the end of `draws`.
-fn drawer(draws: &[usize], n: usize) -> usize
+fn worker_of_segment(draws: &[usize], n: usize) -> usize
     ensures { result ≡ slice_index draws.now n }
 {
     if n < draws.len() { draws[n] } else { 0 }
@@ -98,20 +98,20 @@ fn schedule_fault(
     ensures some { OnSome result (IsSchedule segments.entry.now queue workers draws.entry.now
         plan.entry.now → ⊥) }
 {
-    if let Some(fault) = misuse(segments, queue, workers) {
+    if let Some(fault) = argument_fault(segments, queue, workers) {
         return Some(fault);
     }
-    if !are_known(draws, workers) {
+    if !are_known_workers(draws, workers) {
         return Some("a draw of a worker that isn't there");
     }
-    if !fits_pieces(plan, segments.len(), draws) {
+    if !fits_piece_count(plan, segments.len(), draws) {
         return Some("a plan of another number of pieces");
     }
     None
 }
 
 /// Tests whether each number in `draws` is below `workers`, and so that of a worker.
-fn are_known(draws: &[usize], workers: usize) -> bool
+fn are_known_workers(draws: &[usize], workers: usize) -> bool
     ensures { IsTrue result ↔ EachIndex draws.now (λ n. slice_index draws.now n < workers) }
 {
     draws.iter().all(|worker| *worker < workers)
@@ -119,7 +119,7 @@ fn are_known(draws: &[usize], workers: usize) -> bool
 
 /// Tests whether `plan` is for as many pieces as `draws` makes of `segments` segments. Without segments any
 /// plan is.
-fn fits_pieces(plan: &Plan, segments: usize, draws: &[usize]) -> bool
+fn fits_piece_count(plan: &Plan, segments: usize, draws: &[usize]) -> bool
     requires { segments + 1 < 2 ^ 64 }
     ensures { IsTrue result ↔ (0 < segments → leaves plan.now ≡ pieces_in segments draws.now) }
 {
@@ -127,14 +127,16 @@ fn fits_pieces(plan: &Plan, segments: usize, draws: &[usize]) -> bool
 }
 
 /// Tests whether all parts of all segments are of files of `queue`.
-pub(crate) fn segments_are_of(segments: &[Segment], queue: LogQueue) -> bool
+pub(crate) fn are_segments_of_queue(segments: &[Segment], queue: LogQueue) -> bool
     ensures { IsTrue result ↔ SegmentsAreOf queue segments.now }
 {
-    segments.iter().all(|segment| parts_are_of(segment, queue))
+    segments
+        .iter()
+        .all(|segment| are_parts_of_queue(segment, queue))
 }
 
 /// Tests whether all parts of one segment are of files of `queue`.
-fn parts_are_of(parts: &Vec<FilePart>, queue: LogQueue) -> bool
+fn are_parts_of_queue(parts: &Vec<FilePart>, queue: LogQueue) -> bool
     ensures { IsTrue result ↔ All (λ part. part.id.queue ≡ queue) parts.now.items }
 {
     parts.iter().all(|part| part.id().queue == queue)
@@ -163,7 +165,13 @@ fn replay_in_order<M: ReplayMachine, F: Factory<M>>(
 {
     let mut current = factory.new_target(alloc)?;
     for (n, segment) in segments.iter().enumerate() {
-        current = next_machine(alloc, factory, machines, current, switches(draws, n))?;
+        current = next_machine(
+            alloc,
+            factory,
+            machines,
+            current,
+            is_worker_change(draws, n),
+        )?;
         replay_segment(&mut current, segment)?;
     }
     Ok(current)

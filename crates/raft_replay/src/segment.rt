@@ -70,12 +70,12 @@ pub fn replay_bytes<M: ReplayMachine>(
         match batch.read_next(file, offset, bytes, at) {
             Ok(Some(next)) => {
                 if let Err(error) = machine.replay_read(&batch, file.id) {
-                    return Err(placed(alloc, error, file.id, offset + at as u64));
+                    return Err(error_with_place(alloc, error, file.id, offset + at as u64));
                 }
                 at = next;
             }
             Ok(None) => return Ok(()),
-            Err(error) => return Err(placed(alloc, error, file.id, offset + at as u64)),
+            Err(error) => return Err(error_with_place(alloc, error, file.id, offset + at as u64)),
         }
     }
 }
@@ -83,18 +83,20 @@ pub fn replay_bytes<M: ReplayMachine>(
 /// Returns `error` with the place of a batch before its text, if it is a `Corruption`, an `Io` or a `Codec`:
 /// the queue, the file and the offset, as `append file 3, offset 1024: `. Other errors are returned as they
 /// are. Returns `Memory` if there is none for the text.
-fn placed(alloc: Global, error: Error, id: FileId, offset: u64) -> Error
+fn error_with_place(alloc: Global, error: Error, id: FileId, offset: u64) -> Error
     ensures placed { IsPlaced id offset result }
     ensures same { IsWithPlace id offset error result }
     ensures memory { result ≢ Error.Memory → error ≢ Error.Memory }
 {
     match error {
         Error::Corruption(reason) => corruption_at(alloc, id, offset, reason.as_str()),
-        Error::Io(error) => match io_placed(alloc, error, id, offset) {
+        Error::Io(error) => match io_error_with_place(alloc, error, id, offset) {
             Ok(error) => Error::Io(error),
             Err(_) => Error::Memory,
         },
-        Error::Codec(codec::Error::Io(error)) => match io_placed(alloc, error, id, offset) {
+        Error::Codec(codec::Error::Io(error)) => match io_error_with_place(
+            alloc, error, id, offset,
+        ) {
             Ok(error) => Error::Codec(codec::Error::Io(error)),
             Err(_) => Error::Memory,
         },
@@ -121,7 +123,12 @@ pub fn corruption_at(alloc: Global, id: FileId, offset: u64, reason: &str) -> Er
 /// # Errors
 ///
 /// `AllocError` if there is no memory for the text.
-fn io_placed(alloc: Global, error: io::Error, id: FileId, offset: u64) -> AllocResult<io::Error>
+fn io_error_with_place(
+    alloc: Global,
+    error: io::Error,
+    id: FileId,
+    offset: u64,
+) -> AllocResult<io::Error>
     ensures kind { IfOk result (λ e. error_kind e ≡ error_kind error) }
 {
     let queue = queue_name(id.queue);

@@ -4,8 +4,8 @@ ghost use Rattle.std.specs.Prelude.{◌≡◌, ◌≢◌, ◌+◌, ◌^◌, ◌<
 ghost use Rattle.raft_replay.specs.Common.{Global, Part, IsInvalidArgument, IsPieceOf, CoverOnce, AreDone, Gives, Tickets, IsSeatOf, IsNewSeatOf, IsBack, IsWork, HasRefusal, CannotBeRead, MayReplay, SegmentsAreOf, IsReplayed};
 
 use crate::piece::Piece;
-use crate::pieces::{MAX_LEVELS, merge_at_once};
-use crate::scheduled::segments_are_of;
+use crate::pieces::{MAX_LEVELS, merge_in_parallel};
+use crate::scheduled::are_segments_of_queue;
 use crate::{Gate, Plan, Segment};
 use raft_base::{Error, Factory, LogQueue, Result};
 use raft_history::ReplayMachine;
@@ -82,13 +82,13 @@ pub fn replay_accepted<M: ReplayMachine, F: Factory<M>, G: Gate, R: Threads + Sy
     ensures refused { IfErr result (λ e. e ≢ Error.Memory → ¬ (F.may_refuse factory.entry.now e)
         → CannotBeRead segments.entry.now) }
 {
-    let pieces = drawn_pieces(rt, alloc, factory, segments, workers, gate)?;
-    let machines = Piece::line_up(alloc, pieces)?;
+    let pieces = replay_into_pieces(rt, alloc, factory, segments, workers, gate)?;
+    let machines = Piece::machines_in_order(alloc, pieces)?;
     if machines.is_empty() {
         return factory.new_target(alloc);
     }
     let plan = Plan::halves(alloc, machines.len())?;
-    merge_at_once(rt, machines, &plan, queue, MAX_LEVELS)
+    merge_in_parallel(rt, machines, &plan, queue, MAX_LEVELS)
 }
 
 /// Checks that `workers` workers may replay these segments of `queue`, as [`replay_segments`] asks.
@@ -108,7 +108,7 @@ pub fn check_arguments(
     ensures err { OnErr result (¬ (MayReplay queue workers segments.entry.now)) }
     ensures fault { IfErr result (λ e. e ≢ Error.Memory → IsInvalidArgument e) }
 {
-    if let Some(fault) = misuse(segments, queue, workers) {
+    if let Some(fault) = argument_fault(segments, queue, workers) {
         return Err(Error::invalid_argument(alloc, fault));
     }
     if segments.len() >= SEGMENT_LIMIT {
@@ -119,7 +119,11 @@ pub fn check_arguments(
 
 /// Returns why `workers` workers may not replay these segments of `queue`, in words: another number than 1 to
 /// 256, or a part of another queue. Returns `None` if they may.
-pub(crate) fn misuse(segments: &[Segment], queue: LogQueue, workers: usize) -> Option<&'static str>
+pub(crate) fn argument_fault(
+    segments: &[Segment],
+    queue: LogQueue,
+    workers: usize,
+) -> Option<&'static str>
     ensures none { IfNone result ((0 < workers) × (workers ≤ 256)
         × SegmentsAreOf queue segments.entry.now) }
     ensures some { OnSome result ((0 < workers) × (workers ≤ 256)
@@ -128,7 +132,7 @@ pub(crate) fn misuse(segments: &[Segment], queue: LogQueue, workers: usize) -> O
     if workers == 0 || workers > MAX_WORKERS {
         return Some("another number of workers than 1 to 256");
     }
-    if !segments_are_of(segments, queue) {
+    if !are_segments_of_queue(segments, queue) {
         return Some("a part of another queue");
     }
     None
@@ -140,7 +144,7 @@ pub(crate) fn misuse(segments: &[Segment], queue: LogQueue, workers: usize) -> O
 /// # Errors
 ///
 /// Those of [`replay_accepted`]. All pieces are dropped then.
-fn drawn_pieces<M: ReplayMachine, F: Factory<M>, G: Gate, R: Threads + Sync>(
+fn replay_into_pieces<M: ReplayMachine, F: Factory<M>, G: Gate, R: Threads + Sync>(
     rt: &R,
     alloc: Global,
     factory: &F,
@@ -162,7 +166,7 @@ fn drawn_pieces<M: ReplayMachine, F: Factory<M>, G: Gate, R: Threads + Sync>(
     }
     let (tickets, seats) = Tickets::open(alloc, segments.len(), count)?;
     let worked = run_workers(rt, alloc, factory, segments, &tickets, gate, seats)?;
-    let (seats, pieces) = gather(worked)?;
+    let (seats, pieces) = collect_seats_and_pieces(worked)?;
     tickets.close(seats);
     Ok(pieces)
 }
@@ -172,7 +176,9 @@ fn drawn_pieces<M: ReplayMachine, F: Factory<M>, G: Gate, R: Threads + Sync>(
 /// # Errors
 ///
 /// That of the first worker, in order, that had one; `Memory`. All pieces are dropped then.
-fn gather<M: ReplayMachine>(worked: Vec<Worked<M>>) -> Result<(Vec<TicketSeat>, Vec<Piece<M>>)>
+fn collect_seats_and_pieces<M: ReplayMachine>(
+    worked: Vec<Worked<M>>,
+) -> Result<(Vec<TicketSeat>, Vec<Piece<M>>)>
     ensures ok { (segments : List (Vec Part Global)) (tickets : Tickets)
         → All (IsBack M.stands_exactly segments tickets) worked.items
         → IfOk result (λ r. AreDone M.stands_exactly segments tickets r.0.items r.1.items) }
@@ -229,7 +235,7 @@ fn run_workers<M: ReplayMachine, F: Factory<M>, G: Gate, R: Threads + Sync>(
         ensures { IsWork M.stands_exactly (F.may_refuse factory.entry.now) segments.entry.now
             tickets.entry.now result }
     {
-        let pieces = replay_drawn(alloc, factory, segments, tickets, gate, &mut seat);
+        let pieces = replay_drawn_segments(alloc, factory, segments, tickets, gate, &mut seat);
         Worked { seat, pieces }
     };
     Ok(thread::map_vec(rt, seats, &one)?)
@@ -241,7 +247,7 @@ fn run_workers<M: ReplayMachine, F: Factory<M>, G: Gate, R: Threads + Sync>(
 ///
 /// The factory's own, those of [`replay_segment`], and `Memory`. The worker draws no further segments then,
 /// and its pieces are dropped.
-fn replay_drawn<M: ReplayMachine, F: Factory<M>, G: Gate>(
+fn replay_drawn_segments<M: ReplayMachine, F: Factory<M>, G: Gate>(
     alloc: Global,
     factory: &F,
     segments: &[Segment],
@@ -259,8 +265,8 @@ fn replay_drawn<M: ReplayMachine, F: Factory<M>, G: Gate>(
     let mut pieces = Vec::new(alloc);
     while let Some(number) = tickets.draw(seat) {
         gate.pass(number);
-        let piece = Piece::at(alloc, factory, &mut pieces, number)?;
-        pieces.push(piece.with_next(segments)?)?;
+        let piece = Piece::take_last_or_begin(alloc, factory, &mut pieces, number)?;
+        pieces.push(piece.replay_next(segments)?)?;
     }
     Ok(pieces)
 }

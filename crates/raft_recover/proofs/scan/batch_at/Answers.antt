@@ -4,7 +4,7 @@ use Rattle.raft_recover.proofs.scan.batch_at.Goals as goal
 
 pub unreachable-requires : goal.unreachable-requires
 unreachable-requires c =
-    let none = rw c.in_default.is at c.header_in.ensures.none in
+    let none = rw c.in_default.is at c.read_batch_header.ensures.none in
     subst (λ (xs : List ℕ). (offset len : ℕ) → HasHeader xs offset len → ⊥) (c.split_at.ensures.back ∙ ap (drop c.args.at) c.bytes.ensures) none _ _
     (batch_header c.args.part.now c.args.at c.args.batch.now c.args.next c.requires)
 

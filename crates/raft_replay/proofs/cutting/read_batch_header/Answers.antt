@@ -1,4 +1,4 @@
-use Rattle.raft_replay.proofs.cutting.header_in.Goals as goal
+use Rattle.raft_replay.proofs.cutting.read_batch_header.Goals as goal
 
 pub returns-clause-none : goal.returns-clause-none
 returns-clause-none c =

@@ -1,6 +1,6 @@
 use Rattle.raft_replay.proofs.Common.{or_passed}
 use Rattle.raft_replay.proofs.MergeLemmas.{front_refused, back_refused, merge_refused, both_merged}
-use Rattle.raft_replay.proofs.pieces.merge_both.Goals as goal
+use Rattle.raft_replay.proofs.pieces.merge_branch_results.Goals as goal
 
 pub returns-in_err-older : goal.returns-in_err-older
 returns-in_err-older g c xs ys zs is first second =

@@ -1,6 +1,6 @@
 use Rattle.raft_replay.proofs.Common.{or_passed, ◌≡◌, [], reverse, arith, nil_from_length, cost, one_fewer}
 use Rattle.raft_replay.proofs.WalkLemmas.{last_first, all_begun, reached_all}
-use Rattle.raft_replay.proofs.pieces.merge_in_turn.Goals as goal
+use Rattle.raft_replay.proofs.pieces.merge_one_by_one.Goals as goal
 
 pub loop-next-init : goal.loop-next-init
 loop-next-init g c =
@@ -9,8 +9,8 @@ loop-next-init g c =
     (all_begun g.M.ReplayMachine.stands_for g.M.ReplayMachine.stands_exactly c.args.pieces.items c.reverse.new.self.items c.args.plan.now c.new-waiting.result.items
     (omega (arith, held, c.requires)) c.reverse.ensures.items c.new-waiting.ensures.items)
 
-pub merge_next-requires : goal.merge_next-requires
-merge_next-requires g c =
+pub merge_or_descend-requires : goal.merge_or_descend-requires
+merge_or_descend-requires g c =
     let reached = rw (last_first c.loop-next.waiting.items c.pop.new.self.items c.in-Some.next c.in-Some.ensures.items) at c.loop-next.invariant in
     (c.type_bounds.send-M, (c.args.pieces.items, reached))
 

@@ -1,5 +1,5 @@
 use Rattle.raft_replay.proofs.Common.{reverse, IsReached, cost, weigh}
-use Rattle.raft_replay.proofs.pieces.merge_in_turn.Given as goal
+use Rattle.raft_replay.proofs.pieces.merge_one_by_one.Given as goal
 
 abbrev pub invariant-loop-next : goal.invariant-loop-next
 invariant-loop-next g l = IsReached g.M.ReplayMachine.stands_for g.M.ReplayMachine.stands_exactly l.fn.pieces.items (reverse l.waiting.items) (reverse l.pieces.items) l.merged

@@ -1,10 +1,10 @@
 use Rattle.raft_replay.proofs.Common.{on_passed, on_ok_weaker, ◌≡◌, ◌*◌, List, ◌∷◌, reverse, sym, subst, arith, ap, Waiting, leaves, ArePlansNext, cost, one_fewer}
 use Rattle.raft_replay.specs.declared.pieces.Waiting.TheVariants.{Merged}
 use Rattle.raft_replay.proofs.WalkLemmas.{last_first, waits, enough, joined, unjoined}
-use Rattle.raft_replay.proofs.pieces.merge_next.Goals as goal
+use Rattle.raft_replay.proofs.pieces.merge_or_descend.Goals as goal
 
-pub oldest_of-requires : goal.oldest_of-requires
-oldest_of-requires g c =
+pub take_oldest_piece-requires : goal.take_oldest_piece-requires
+take_oldest_piece-requires g c =
     let held = c.args.pieces.now.ok.0 in
     let few = enough g.M.ReplayMachine.stands_for g.M.ReplayMachine.stands_exactly c.requires.0 c.in-Unmerged.plan.now (Merged c.args.merged ∷ reverse c.args.waiting.now.items) c.args.pieces.now.items
     (waits g.M.ReplayMachine.stands_for g.M.ReplayMachine.stands_exactly c.requires.0 c.in-Unmerged.plan (reverse c.args.waiting.now.items) (reverse c.args.pieces.now.items) c.args.merged
@@ -27,7 +27,7 @@ returns-in_err-merge-in-Merged-clause-refused g c =
 
 pub returns-in_ok-push-in-Unmerged-clause-ok : goal.returns-in_ok-push-in-Unmerged-clause-ok
 returns-in_ok-push-in-Unmerged-clause-ok g c = λ all reached.
-    c.oldest_of.ensures.ok all
+    c.take_oldest_piece.ensures.ok all
     (subst (λ (l : List (Waiting g.row.M.Denot)). ArePlansNext g.M.ReplayMachine.stands_for g.M.ReplayMachine.stands_exactly all c.in-Unmerged.plan.now l (reverse c.args.pieces.now.items))
     (sym (last_first c.push.new.self.items c.args.waiting.now.items (Merged c.args.merged) c.in_ok-push-in-Unmerged.ensures.items))
     (waits g.M.ReplayMachine.stands_for g.M.ReplayMachine.stands_exactly all c.in-Unmerged.plan (reverse c.args.waiting.now.items) (reverse c.args.pieces.now.items) c.args.merged
@@ -37,4 +37,4 @@ pub returns-in_ok-push-in-Unmerged-clause-cost : goal.returns-in_ok-push-in-Unme
 returns-in_ok-push-in-Unmerged-clause-cost g c =
     let sum = one_fewer (cost {M = g.row.M.Denot}) c.push.new.self.items c.args.waiting.now.items (Merged c.args.merged) c.in_ok-push-in-Unmerged.ensures.items in
     let next : cost c.args.next ≡ 2 * leaves c.in-Unmerged.plan.now = ap (cost {M = g.row.M.Denot}) c.in-Unmerged.is in
-    on_ok_weaker c.oldest_of.result (λ spent. omega (arith, spent, sum, next)) c.oldest_of.ensures.cost
+    on_ok_weaker c.take_oldest_piece.result (λ spent. omega (arith, spent, sum, next)) c.take_oldest_piece.ensures.cost

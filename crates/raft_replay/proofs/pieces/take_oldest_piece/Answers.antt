@@ -1,7 +1,7 @@
 use Rattle.raft_replay.proofs.Common.{◌≡◌, ◌+◌, List, reverse, sym, ap, subst, arith, Plan, Waiting, leaves, ArePlansNext, cost, one_fewer}
 use Rattle.raft_replay.specs.declared.pieces.Waiting.TheVariants.{Unmerged}
 use Rattle.raft_replay.proofs.WalkLemmas.{last_first, turned, taken}
-use Rattle.raft_replay.proofs.pieces.oldest_of.Goals as goal
+use Rattle.raft_replay.proofs.pieces.take_oldest_piece.Goals as goal
 
 pub loop-plan-preserved : goal.loop-plan-preserved
 loop-plan-preserved g c =

@@ -1,5 +1,5 @@
 use Rattle.raft_replay.proofs.Common.{◌≡◌, ◌+◌, ◌*◌, ◌≤◌, List, reverse, vec_len, leaves, ArePlansNext, cost, weigh}
-use Rattle.raft_replay.proofs.pieces.oldest_of.Given as goal
+use Rattle.raft_replay.proofs.pieces.take_oldest_piece.Given as goal
 
 abbrev pub invariant-loop-plan : goal.invariant-loop-plan
 invariant-loop-plan g l = record {

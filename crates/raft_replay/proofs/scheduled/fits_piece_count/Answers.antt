@@ -1,6 +1,6 @@
 use Rattle.raft_replay.proofs.Common.{arith, leaves, pieces_in}
 use Rattle.raft_replay.proofs.MachineOrderLemmas.{pieces_few, fits_is}
-use Rattle.raft_replay.proofs.scheduled.fits_pieces.Goals as goal
+use Rattle.raft_replay.proofs.scheduled.fits_piece_count.Goals as goal
 
 pub returns-else-segments-eq0 : goal.returns-else-segments-eq0
 returns-else-segments-eq0 c =

@@ -6,7 +6,7 @@ pub loop-n-preserved : goal.loop-n-preserved
 loop-n-preserved c =
     let more = count_more (switches c.args.draws.now) c.loop-n.n in
     let most = one_at_most (switches c.args.draws.now c.loop-n.n) in
-    let added : c.from-pieces.result ≡ cond (switches c.args.draws.now c.loop-n.n) 1 0 = one_more_is c.from-pieces.ensures c.switches.ensures in
+    let added : c.from-pieces.result ≡ cond (switches c.args.draws.now c.loop-n.n) 1 0 = one_more_is c.from-pieces.ensures c.is_worker_change.ensures in
     let counted = c.loop-n.invariant.counted in
     let few = c.loop-n.invariant.few in
     record { counted = omega arith; few = omega arith }

@@ -28,8 +28,8 @@ loop-n-preserved g c =
           (gone_on g.M.ReplayMachine.stands_for g.M.ReplayMachine.stands_exactly laws.exact_stands (take n all) c.next_machine.new.machines.items c.in_ok-current-2.current
           (c.in_ok-current-2.ensures.ok (take n all) c.loop-n.invariant.line) c.index-segments-n.result c.replay_segment.new.machine c.in_ok-replay_segment.ensures.ok);
       count =
-          let added : vec_len c.next_machine.new.machines ≡ vec_len c.loop-n.machines + cond c.switches.result 1 0 = c.in_ok-current-2.ensures.count in
-          let same : cond c.switches.result 1 0 ≡ cond (switches c.args.draws.now n) 1 0 = one_same c.switches.ensures in
+          let added : vec_len c.next_machine.new.machines ≡ vec_len c.loop-n.machines + cond c.is_worker_change.result 1 0 = c.in_ok-current-2.ensures.count in
+          let same : cond c.is_worker_change.result 1 0 ≡ cond (switches c.args.draws.now n) 1 0 = one_same c.is_worker_change.ensures in
           let more = count_more (switches c.args.draws.now) n in
           let before = c.loop-n.invariant.count in omega arith;
     }

@@ -38,9 +38,9 @@ returns-in-Ok-None-clause-ok g c =
 pub returns-in-Err-clause-place : goal.returns-in-Err-clause-place
 returns-in-Err-clause-place g c =
     stopped_unreadable g.M.ReplayMachine.stands_for g.M.ReplayMachine.stands_exactly (part_of c.args.file.now c.args.offset c.args.bytes.now) c.loop-next.at
-    c.args.machine.now c.loop-next.machine c.loop-next.invariant.read _ c.placed-in-Err.ensures.placed
-    c.in-Err.ensures.some (λ not_memory. c.in-Err.ensures.refused (c.placed-in-Err.ensures.memory not_memory))
-    (record { fault = c.in-Err.error; is_fault = c.in-Err.ensures.fault; placed = c.placed-in-Err.ensures.same })
+    c.args.machine.now c.loop-next.machine c.loop-next.invariant.read _ c.error_with_place-in-Err.ensures.placed
+    c.in-Err.ensures.some (λ not_memory. c.in-Err.ensures.refused (c.error_with_place-in-Err.ensures.memory not_memory))
+    (record { fault = c.in-Err.error; is_fault = c.in-Err.ensures.fault; placed = c.error_with_place-in-Err.ensures.same })
 
 pub returns-in-Err-clause-refused : goal.returns-in-Err-clause-refused
 returns-in-Err-clause-refused g c = part_refused _ _ _ _ (returns-in-Err-clause-place g c).stops
@@ -48,8 +48,8 @@ returns-in-Err-clause-refused g c = part_refused _ _ _ _ (returns-in-Err-clause-
 pub returns-in-Err-replay_read-clause-place : goal.returns-in-Err-replay_read-clause-place
 returns-in-Err-replay_read-clause-place g c =
     stopped_refused g.M.ReplayMachine.stands_for g.M.ReplayMachine.stands_exactly (part_of c.args.file.now c.args.offset c.args.bytes.now) c.loop-next.at
-    c.args.machine.now c.loop-next.machine c.loop-next.invariant.read _ c.placed.ensures.placed _ c.in-Ok-Some.next
-    (rw c.in-Ok-Some.field-0-is at c.in-Ok-Some.ensures.ok) (λ not_memory. c.in-Err-replay_read.ensures.refused (c.placed.ensures.memory not_memory))
+    c.args.machine.now c.loop-next.machine c.loop-next.invariant.read _ c.error_with_place.ensures.placed _ c.in-Ok-Some.next
+    (rw c.in-Ok-Some.field-0-is at c.in-Ok-Some.ensures.ok) (λ not_memory. c.in-Err-replay_read.ensures.refused (c.error_with_place.ensures.memory not_memory))
 
 pub returns-in-Err-replay_read-clause-refused : goal.returns-in-Err-replay_read-clause-refused
 returns-in-Err-replay_read-clause-refused g c = part_refused _ _ _ _ (returns-in-Err-replay_read-clause-place g c).stops

@@ -1,6 +1,6 @@
 use Rattle.raft_replay.proofs.Common.{List, [], ◌∷◌, ◌++◌, length, ap, sym, ◌∙◌, append_assoc, arith, Worked, IsBack}
 use Rattle.raft_replay.proofs.WorkedLemmas.{all_at, done_more}
-use Rattle.raft_replay.proofs.workers.gather.Goals as goal
+use Rattle.raft_replay.proofs.workers.collect_seats_and_pieces.Goals as goal
 
 pub loop-seat-preserved : goal.loop-seat-preserved
 loop-seat-preserved g c =

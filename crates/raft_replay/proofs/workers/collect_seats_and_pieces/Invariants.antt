@@ -1,5 +1,5 @@
 use Rattle.raft_replay.proofs.Common.{◌≡◌, ◌+◌, List, ◌++◌, All, Vec, length, vec_len, Global, Part, Worked, AreDone, Tickets, IsBack}
-use Rattle.raft_replay.proofs.workers.gather.Given as goal
+use Rattle.raft_replay.proofs.workers.collect_seats_and_pieces.Given as goal
 
 abbrev pub invariant-loop-seat : goal.invariant-loop-seat
 invariant-loop-seat g l = record {

@@ -23,11 +23,11 @@ pub returns-clause-ok : goal.returns-clause-ok
 returns-clause-ok g c =
     let laws = g.met.M.ReplayMachine g.world.𝓛 g.world.𝓜 g.world.𝓡 ((λ s x. x), (λ x. x), (λ x. x), λ x. x) in
     let line = c.in_ok-machines.ensures.ok c.args.segments.now c.in_ok-pieces.ensures.pieces c.in_ok-pieces.ensures.tile in
-    merged_ok g.M.ReplayMachine.stands_for g.M.ReplayMachine.stands_exactly laws.exact_stands c.args.segments.now c.in_ok-machines.machines.items line c.args.queue c.requires.accepted.3 c.merge_at_once.result c.merge_at_once.ensures
+    merged_ok g.M.ReplayMachine.stands_for g.M.ReplayMachine.stands_exactly laws.exact_stands c.args.segments.now c.in_ok-machines.machines.items line c.args.queue c.requires.accepted.3 c.merge_in_parallel.result c.merge_in_parallel.ensures
 
 pub returns-clause-refused : goal.returns-clause-refused
 returns-clause-refused g c =
     let laws = g.met.M.ReplayMachine g.world.𝓛 g.world.𝓜 g.world.𝓡 ((λ s x. x), (λ x. x), (λ x. x), λ x. x) in
     let line = c.in_ok-machines.ensures.ok c.args.segments.now c.in_ok-pieces.ensures.pieces c.in_ok-pieces.ensures.tile in
     merged_err g.M.ReplayMachine.stands_for g.M.ReplayMachine.stands_exactly laws.exact_stands c.args.segments.now c.in_ok-machines.machines.items
-    line c.args.queue c.requires.accepted.3 (g.F.Factory.may_refuse c.args.factory.now) c.merge_at_once.result c.merge_at_once.ensures
+    line c.args.queue c.requires.accepted.3 (g.F.Factory.may_refuse c.args.factory.now) c.merge_in_parallel.result c.merge_in_parallel.ensures

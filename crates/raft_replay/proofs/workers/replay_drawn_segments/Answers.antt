@@ -1,6 +1,6 @@
 use Rattle.raft_replay.proofs.Common.{or_passed, ◌≡◌, ℕ, ◌<◌, List, [], ◌∷◌, ◌++◌, length, sym, ap, ◌∙◌, subst, arith, All-push, Piece, IsPieceOf, AreBelow, HasEnded, below_more}
 use Rattle.raft_replay.proofs.CoverLemmas.{bound, bound_below, bound_more, none_left, cover_step}
-use Rattle.raft_replay.proofs.workers.replay_drawn.Goals as goal
+use Rattle.raft_replay.proofs.workers.replay_drawn_segments.Goals as goal
 
 pub returns-in_err-piece-clause-given : goal.returns-in_err-piece-clause-given
 returns-in_err-piece-clause-given g c =
@@ -23,7 +23,7 @@ loop-number-preserved g c =
     let first = drew.0 in
     let small : c.in-Some.number < length c.args.segments.now = omega arith in
     let kept = c.in_ok-piece.ensures.piece c.args.segments.now (omega arith) c.loop-number.invariant.each in
-    let next = c.in_ok-with_next.ensures.next in
+    let next = c.in_ok-replay_next.ensures.next in
     record {
       of_tickets = c.in-Some.ensures.same;
       below =
@@ -31,10 +31,10 @@ loop-number-preserved g c =
           (below_more (length c.args.segments.now) c.in-Some.number c.loop-number.seat.drawn small c.loop-number.invariant.below);
       each =
           rw c.in_ok-push.ensures.items
-          (All-push (λ (p : Piece g.row.M.Denot). IsPieceOf g.M.ReplayMachine.stands_exactly c.args.segments.now p) c.at.new.pieces.items c.in_ok-with_next.field-0 kept.1
-          c.in_ok-with_next.ensures.piece);
+          (All-push (λ (p : Piece g.row.M.Denot). IsPieceOf g.M.ReplayMachine.stands_exactly c.args.segments.now p) c.take_last_or_begin.new.pieces.items c.in_ok-replay_next.field-0 kept.1
+          c.in_ok-replay_next.ensures.piece);
       covered = λ x inside.
-          cover_step x c.in-Some.number c.loop-number.pieces.items c.at.new.pieces.items c.push.new.self.items c.in_ok-piece.piece c.in_ok-with_next.field-0
+          cover_step x c.in-Some.number c.loop-number.pieces.items c.take_last_or_begin.new.pieces.items c.push.new.self.items c.in_ok-piece.piece c.in_ok-replay_next.field-0
           c.loop-number.seat.drawn c.draw.new.seat.drawn (c.in_ok-piece.ensures.covered x) c.in_ok-piece.ensures.next next.0 next.1 c.in_ok-push.ensures.items
           drew.2 (c.loop-number.invariant.covered x inside);
     }

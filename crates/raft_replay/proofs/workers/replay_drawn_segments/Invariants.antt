@@ -1,6 +1,6 @@
 use Rattle.raft_replay.proofs.Common.{◌≡◌, ℕ, ◌-◌, ◌<◌, All, length, IsPieceOf, cover_count, AreBelow, IsSeatOf, occurrences}
 use Rattle.raft_replay.proofs.CoverLemmas.{bound}
-use Rattle.raft_replay.proofs.workers.replay_drawn.Given as goal
+use Rattle.raft_replay.proofs.workers.replay_drawn_segments.Given as goal
 
 abbrev pub invariant-loop-number : goal.invariant-loop-number
 invariant-loop-number g l = record {

@@ -1,6 +1,6 @@
 use Rattle.raft_replay.proofs.Common.{on_passed, length, sym, ◌∙◌, arith}
 use Rattle.raft_replay.proofs.WorkedLemmas.{are_back, worker_refused, all_drawn, open_refused}
-use Rattle.raft_replay.proofs.workers.drawn_pieces.Goals as goal
+use Rattle.raft_replay.proofs.workers.replay_into_pieces.Goals as goal
 
 pub returns-then-count-eq0-clause-tile : goal.returns-then-count-eq0-clause-tile
 returns-then-count-eq0-clause-tile g c x inside = let workers = c.requires.workers in absurd (omega arith)

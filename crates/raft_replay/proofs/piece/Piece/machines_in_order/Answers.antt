@@ -1,6 +1,6 @@
 use Rattle.raft_replay.proofs.Common.{◌≡◌, [], ◌++◌, map, sym, ap, ◌∙◌, subst, rules, arith, append-nil, nil_from_length, IsNonDecreasingBy-from_sort_by_key, Piece, AreInOrder}
 use Rattle.raft_replay.proofs.LiningLemmas.{in_line}
-use Rattle.raft_replay.proofs.piece.Piece.line_up.Goals as goal
+use Rattle.raft_replay.proofs.piece.Piece.machines_in_order.Goals as goal
 
 pub returns-clause-ok : goal.returns-clause-ok
 returns-clause-ok g c segments all tile =

@@ -1,5 +1,5 @@
 use Rattle.raft_replay.proofs.Common.{◌≡◌, ◌++◌, map, Piece}
-use Rattle.raft_replay.proofs.piece.Piece.line_up.Given as goal
+use Rattle.raft_replay.proofs.piece.Piece.machines_in_order.Given as goal
 
 abbrev pub invariant-loop-machine : goal.invariant-loop-machine
 invariant-loop-machine g l =

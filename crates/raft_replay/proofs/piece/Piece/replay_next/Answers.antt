@@ -1,7 +1,7 @@
 use Rattle.raft_replay.proofs.Common.{on_passed, subst, HasReplayed, CannotFollow}
 use Rattle.raft_replay.proofs.Words.{PartsHold}
 use Rattle.raft_replay.proofs.CoverLemmas.{piece_more, piece_refused}
-use Rattle.raft_replay.proofs.piece.Piece.with_next.Goals as goal
+use Rattle.raft_replay.proofs.piece.Piece.replay_next.Goals as goal
 
 pub returns-in_err-replay_segment-clause-refused : goal.returns-in_err-replay_segment-clause-refused
 returns-in_err-replay_segment-clause-refused g c =

@@ -1,5 +1,5 @@
 use Rattle.raft_replay.proofs.Common.{sym, Piece, covers, one_fewer}
-use Rattle.raft_replay.proofs.piece.Piece.at.Goals as goal
+use Rattle.raft_replay.proofs.piece.Piece.take_last_or_begin.Goals as goal
 
 pub returns-then-number-last-clause-covered : goal.returns-then-number-last-clause-covered
 returns-then-number-last-clause-covered g c x =

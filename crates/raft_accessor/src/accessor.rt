@@ -12,7 +12,7 @@ mod region_steps;
 mod take_slot;
 mod writes;
 
-use crate::boxed_table::{BoxedTable, unboxed};
+use crate::boxed_table::{BoxedTable, unbox_table};
 use crate::neighbor::Neighbor;
 use crate::region_tables::RegionTables;
 pub use cleaned::clean_logs;
@@ -37,7 +37,7 @@ pub fn slot_of(id: u64) -> usize
 /// # Errors
 ///
 /// `Memory` if `table` is an error.
-fn lent<'a>(table: AllocResult<&'a MemTable>) -> Result<&'a MemTable>
+fn to_memory_error<'a>(table: AllocResult<&'a MemTable>) -> Result<&'a MemTable>
     ensures { result ≡ lent_as table.entry }
 {
     table.map_err(|_| Error::Memory)
@@ -129,7 +129,7 @@ impl MemTableAccessor {
         ensures table { IfOk result (λ t. t.now ≡ table_in self.old.tables id) }
         ensures memory { IfErr result (λ e. e ≡ Error.Memory) }
     {
-        lent(self.lend(id))
+        to_memory_error(self.lend_or_make(id))
     }
 
     /// Returns the table of the region `id`, and makes an empty one if it has none, as
@@ -140,29 +140,29 @@ impl MemTableAccessor {
     /// # Errors
     ///
     /// `AllocError` if there is no memory. The tables are unchanged then.
-    fn lend(&mut self, id: u64) -> AllocResult<&MemTable>
+    fn lend_or_make(&mut self, id: u64) -> AllocResult<&MemTable>
         ensures* ends { sem 𝓛 (follows_so the_row the_row self.entry.ghost_name none (λ _ _. ⊤)
             (λ new. IsTableMade id result self.old new)) }
         ensures table { IfOk result (λ t. t.now ≡ table_in self.old.tables id) }
     {
-        self.make_table(id)?;
-        Ok(self.made(id))
+        self.alloc_if_missing(id)?;
+        Ok(self.existing_table(id))
     }
 
     /// Makes an empty table for the region `id`, unless it has one. Its error owns no memory, as
-    /// [`MemTableAccessor::lend`] needs it.
+    /// [`MemTableAccessor::lend_or_make`] needs it.
     ///
     /// # Errors
     ///
     /// `AllocError` if there is no memory. The tables are unchanged then.
-    fn make_table(&mut self, id: u64) -> AllocResult<()>
+    fn alloc_if_missing(&mut self, id: u64) -> AllocResult<()>
         ensures { IsTableMade id result self.old self.new }
     {
-        self.make(id).map_err(|_| AllocError)
+        self.make_if_missing(id).map_err(|_| AllocError)
     }
 
     /// Returns the table of the region `id`, which has one.
-    fn made(&self, id: u64) -> &MemTable
+    fn existing_table(&self, id: u64) -> &MemTable
         requires { IsTrue (is_some (finite.get self.now.tables id)) }
         ensures { result.now ≡ table_in self.now.tables id }
     {
@@ -177,12 +177,12 @@ impl MemTableAccessor {
     /// # Errors
     ///
     /// `Memory` alone. The tables are unchanged then.
-    fn make(&mut self, id: u64) -> Result<()>
+    fn make_if_missing(&mut self, id: u64) -> Result<()>
         ensures changed { IsTableChanged (Some (table_in self.old.tables id)) (λ e. ⊥) id result
             self.old self.new }
         ensures counts { self.new.counts ≡ self.old.counts }
     {
-        self.slots[slot_of(id)].make(id, &mut self.stats)
+        self.slots[slot_of(id)].make_if_missing(id, &mut self.stats)
     }
 
     /// Makes one change of the table of the region `id`, for which an empty one is made first if it has none.
@@ -270,9 +270,9 @@ impl MemTableAccessor {
         ensures fault { IfErr result (λ e. (e ≡ Error.Memory) × IsTrue record_tombstone) }
     {
         if record_tombstone {
-            self.list(id)?;
+            self.push_cleaned(id)?;
         }
-        Ok(unboxed(self.take(id)))
+        Ok(unbox_table(self.take(id)))
     }
 
     /// Merges each table of `rhs` into the table of its region, as [`MemTable::merge_newer_neighbor`] does:
@@ -379,7 +379,7 @@ impl MemTableAccessor {
     {
         let mut kept = Vec::new(*self.cleaned.allocator());
         for slot in &self.slots {
-            slot.push_kept(&mut f, &mut kept)?;
+            slot.push_matching(&mut f, &mut kept)?;
         }
         Ok(kept)
     }
@@ -404,7 +404,7 @@ impl MemTableAccessor {
     pub fn take(&mut self, id: u64) -> Option<BoxedTable>
         ensures taken { IsTableTaken id result self.old self.new }
     {
-        self.slots[slot_of(id)].take(id, &mut self.stats)
+        self.slots[slot_of(id)].remove_boxed(id, &mut self.stats)
     }
 
     /// Merges each table of `rhs` into the table of its region, which is made if there is none. `kind` says

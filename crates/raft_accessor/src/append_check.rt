@@ -19,7 +19,7 @@ pub(crate) struct Extent {
 
 impl Extent {
     /// Returns the extent of no entries: both ends are 0.
-    fn of_none() -> Extent
+    fn of_no_entries() -> Extent
         ensures { IsExtentOf result [] }
     {
         Extent { first: 0, end: 0 }
@@ -31,7 +31,7 @@ impl Extent {
             (table_of id (option_map (λ t. t.now) table.entry)).entries }
     {
         let Some(table) = table else {
-            return Extent::of_none();
+            return Extent::of_no_entries();
         };
         table.holds_one_run();
         match table.first_index() {
@@ -39,16 +39,16 @@ impl Extent {
                 first,
                 end: table.end(),
             },
-            None => Extent::of_none(),
+            None => Extent::of_no_entries(),
         }
     }
 
     /// Returns what is left of the extent by a compaction to `index`: the entries at or above it.
-    fn compacted(self, index: u64) -> Extent
+    fn after_compaction(self, index: u64) -> Extent
         ensures { (es : List EntryIndex) → IsExtentOf self es → IsExtentOf result (from index es) }
     {
         if self.end <= index {
-            return Extent::of_none();
+            return Extent::of_no_entries();
         }
         Extent {
             first: self.first.max(index),
@@ -57,11 +57,11 @@ impl Extent {
     }
 
     /// Returns what is left of the extent by a truncation at `index`: the entries below it.
-    fn truncated(self, index: u64) -> Extent
+    fn after_truncation(self, index: u64) -> Extent
         ensures { (es : List EntryIndex) → IsExtentOf self es → IsExtentOf result (below index es) }
     {
         if index <= self.first {
-            return Extent::of_none();
+            return Extent::of_no_entries();
         }
         Extent {
             first: self.first,
@@ -71,14 +71,14 @@ impl Extent {
 
     /// Returns the extent after `command`: none after a `Clean`, else what the compaction or truncation
     /// leaves.
-    fn commanded(self, command: &Command) -> Extent
+    fn after_command(self, command: &Command) -> Extent
         ensures { (es : List EntryIndex) → IsExtentOf self es
             → IsExtentOf result (commanded command.now es) }
     {
         match command {
-            Command::Clean => Extent::of_none(),
-            Command::Compact { index } => self.compacted(*index),
-            Command::Truncate { index } => self.truncated(*index),
+            Command::Clean => Extent::of_no_entries(),
+            Command::Compact { index } => self.after_compaction(*index),
+            Command::Truncate { index } => self.after_truncation(*index),
         }
     }
 
@@ -89,7 +89,7 @@ impl Extent {
     ///
     /// `Corruption` if the indexes of the run aren't consecutive, or it begins below the first entry or
     /// leaves a hole after the last one; `Memory` if there is none for the text.
-    fn with_run(self, alloc: Global, id: u64, run: &[EntryIndex]) -> Result<Extent>
+    fn after_run(self, alloc: Global, id: u64, run: &[EntryIndex]) -> Result<Extent>
         ensures ok { IfOk result (TakesRun self run.now) }
         ensures fault { IfErr result (IsRunCheckFault self run.now) }
     {
@@ -145,7 +145,7 @@ impl AppendCheck {
     ///
     /// `Corruption` if the tables would refuse the item, with the region and the reason; `Memory`. Nothing is
     /// noted then.
-    pub(crate) fn take(&mut self, item: &LogItem, table: Option<&MemTable>) -> Result<()>
+    pub(crate) fn check_next_item(&mut self, item: &LogItem, table: Option<&MemTable>) -> Result<()>
         ensures ok { OnOk result (TakesNext (known_extents self.old.extents)
             (option_map (λ t. t.now) table.entry) (item_of item.now) (known_extents self.new.extents)) }
         ensures fault { IfErr result (IsNextFault (known_extents self.old.extents)
@@ -154,11 +154,13 @@ impl AppendCheck {
         let id = item.raft_group_id;
         match &item.content {
             LogItemContent::EntryIndexes(entries) => {
-                let extent = self.extent(id, table).with_run(self.alloc, id, &entries.0)?;
+                let extent = self
+                    .extent_of(id, table)
+                    .after_run(self.alloc, id, &entries.0)?;
                 self.extents.insert(id, extent)
             }
             LogItemContent::Command(command) => {
-                let extent = self.extent(id, table).commanded(command);
+                let extent = self.extent_of(id, table).after_command(command);
                 self.extents.insert(id, extent)
             }
             LogItemContent::Kv(kv) => check_pair(self.alloc, id, kv),
@@ -167,7 +169,7 @@ impl AppendCheck {
 
     /// Returns the extent of the region `id` after the items so far. `table` is the table that the region had
     /// before all items, or `None` if it had none.
-    fn extent(&self, id: u64, table: Option<&MemTable>) -> Extent
+    fn extent_of(&self, id: u64, table: Option<&MemTable>) -> Extent
         ensures { (before now : Tables)
             → AreBefore (known_extents self.now.extents) id (option_map (λ t. t.now) table.entry) before now
             → IsExtentOf result (table_in now id).entries }

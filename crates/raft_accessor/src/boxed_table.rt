@@ -67,7 +67,7 @@ impl BoxedTable {
 }
 
 /// Takes `table` out of its box, if there is one, and frees the box.
-pub(crate) fn unboxed(table: Option<BoxedTable>) -> Option<MemTable>
+pub(crate) fn unbox_table(table: Option<BoxedTable>) -> Option<MemTable>
     ensures { result ≡ table }
 {
     table.map(|table| table.into_table())

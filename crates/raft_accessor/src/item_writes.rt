@@ -41,7 +41,7 @@ impl RegionTables {
     {
         let mut check = AppendCheck::new(self.alloc);
         for item in items {
-            check.take(item, self.get(item.raft_group_id))?;
+            check.check_next_item(item, self.get(item.raft_group_id))?;
         }
         Ok(())
     }
@@ -132,7 +132,7 @@ impl RegionTables {
         ensures { IsItemWritten (Replaying queue) (item_of item)
             self.old stats.old cleaned.old.items result self.new stats.new cleaned.new.items }
     {
-        self.check_replayed(queue, &item)?;
+        self.check_replayed_item(queue, &item)?;
         match RegionStep::of_item(item) {
             Some(step) => self.take_step(queue, step.region, step.step, stats, cleaned),
             None => Ok(()),
@@ -262,7 +262,7 @@ impl RegionTables {
     /// `Corruption` if its entries aren't a run of the queue, or a put, other than one under the reserved key
     /// of group markers, has no value, no file or a file of the other queue; `Memory` if there is none for
     /// the text.
-    fn check_replayed(&self, queue: LogQueue, item: &LogItem) -> Result<()>
+    fn check_replayed_item(&self, queue: LogQueue, item: &LogItem) -> Result<()>
         ensures ok { OnOk result (IsReplayed queue (content_of item.now.content)) }
         ensures fault { (id : ℕ) (o : Option Table) (live : ℕ) → IfErr result
             (IsWriteFault (Replaying queue) id o live (content_of item.now.content)) }

@@ -38,16 +38,16 @@ impl KnownExtents {
                 if region == id {
                     Some(extent)
                 } else {
-                    self.of_other(id)
+                    self.get_other(id)
                 }
             }
-            None => self.of_other(id),
+            None => self.get_other(id),
         }
     }
 
     /// Returns the extent of the region `id` in the map, or `None` if it isn't there. The first region isn't
     /// in the map.
-    fn of_other(&self, id: u64) -> Option<Extent>
+    fn get_other(&self, id: u64) -> Option<Extent>
         ensures { result ≡ lookup (nat_eq id) self.now.others.entries }
     {
         self.others.get(&id).copied()

@@ -83,7 +83,7 @@ impl RegionTables {
     /// # Errors
     ///
     /// `Memory` alone. Some of the tables have been appended then.
-    pub(crate) fn push_kept<'a, F: FnMut(&MemTable) -> bool>(
+    pub(crate) fn push_matching<'a, F: FnMut(&MemTable) -> bool>(
         &'a self,
         f: &mut F,
         tables: &mut Vec<&'a MemTable>,
@@ -172,7 +172,7 @@ impl RegionTables {
     /// # Errors
     ///
     /// `Memory` alone. The tables are unchanged then.
-    pub fn make(&mut self, id: u64, stats: &mut GlobalStats) -> Result<()>
+    pub fn make_if_missing(&mut self, id: u64, stats: &mut GlobalStats) -> Result<()>
         requires { IsCounted (table_in self.old id) stats.old }
         ensures outcome { BecomesOutcome (Some (table_in self.old id)) (λ e. ⊥) self.old id
             stats.old result self.new stats.new }
@@ -214,7 +214,7 @@ impl RegionTables {
             stats.new }
     {
         let Some(table) = self.tables.get_mut(&id) else {
-            return self.try_replay_first(queue, id, run, stats);
+            return self.try_replay_into_new(queue, id, run, stats);
         };
         let ends = table.boxed.ends();
         if !table.boxed.try_replay(queue, run, stats) {
@@ -227,7 +227,7 @@ impl RegionTables {
     /// two zeros, as [`RegionTables::try_replay`] does for a table that had no entries. Returns `None`, and
     /// makes no table, if that would refuse the run or there is no memory.
     #[inline(always)]
-    fn try_replay_first(
+    fn try_replay_into_new(
         &mut self,
         queue: LogQueue,
         id: u64,
@@ -310,8 +310,8 @@ impl RegionTables {
             (IsFaultBeside kind stats.new (table_in self.old id) newer) self.old id stats.old result
             self.new stats.new }
     {
-        self.alter(id, stats, move |table, stats| {
-            merge(kind, table, newer, stats)
+        self.update_and_keep(id, stats, move |table, stats| {
+            merge_by_kind(kind, table, newer, stats)
         })
     }
 
@@ -323,7 +323,7 @@ impl RegionTables {
     ///
     /// Those of `change`; `Memory` if no table can be made, and nothing has changed then.
     #[inline(always)]
-    fn alter<R: Drop, F: FnOnce(&mut MemTable, &mut GlobalStats) -> Result<R>>(
+    fn update_and_keep<R: Drop, F: FnOnce(&mut MemTable, &mut GlobalStats) -> Result<R>>(
         &mut self,
         id: u64,
         stats: &mut GlobalStats,
@@ -389,7 +389,7 @@ impl RegionTables {
 ///
 /// Those of [`MemTable::merge_newer_neighbor`] or [`MemTable::merge_append_table`]. `table` is unchanged
 /// then, unless the error is `Memory`. `newer` is dropped.
-fn merge(
+fn merge_by_kind(
     kind: Neighbor,
     table: &mut MemTable,
     mut newer: BoxedTable,

@@ -56,7 +56,7 @@ impl MemTableAccessor {
     /// # Errors
     ///
     /// `Memory` alone. The list is unchanged then.
-    pub(super) fn list(&mut self, id: u64) -> Result<()>
+    pub(super) fn push_cleaned(&mut self, id: u64) -> Result<()>
         ensures ok { OnOk result (self.new ≡ record self.old
             { cleaned = self.old.cleaned ++ id ∷ [] }) }
         ensures err { OnErr result (self.new ≡ self.old) }

@@ -27,7 +27,7 @@ impl MemTableAccessor {
     {
         let mut check = AppendCheck::new(*self.cleaned.allocator());
         for item in items {
-            check.take(item, self.get(item.raft_group_id))?;
+            check.check_next_item(item, self.get(item.raft_group_id))?;
         }
         Ok(())
     }

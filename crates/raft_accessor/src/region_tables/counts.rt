@@ -17,7 +17,7 @@ impl RegionTables {
     {
         let append = stats.live_entries(LogQueue::Append);
         let rewrite = stats.live_entries(LogQueue::Rewrite);
-        self.delete_all(stats);
+        self.subtract_all_records(stats);
         new_counts(
             append - stats.live_entries(LogQueue::Append),
             rewrite - stats.live_entries(LogQueue::Rewrite),
@@ -25,7 +25,7 @@ impl RegionTables {
     }
 
     /// Subtracts the records of all tables of the slot from the live counts `stats`.
-    fn delete_all(&self, stats: &mut GlobalStats)
+    fn subtract_all_records(&self, stats: &mut GlobalStats)
         requires { (q : LogQueue) → live_in_all q self.now ≤ live q stats.old }
         ensures { stats.new ≡ with_all_deleted self.now stats.old }
     {

@@ -35,8 +35,8 @@ impl RegionTables {
             stats.new }
     {
         match newer {
-            Some(newer) => self.put_newer(queue, id, newer, mark, stats),
-            None => self.drop_under(queue, id, mark, stats),
+            Some(newer) => self.join_newer_table(queue, id, newer, mark, stats),
+            None => self.apply_newer_mark(queue, id, mark, stats),
         }
     }
 
@@ -64,7 +64,7 @@ impl RegionTables {
     /// # Errors
     ///
     /// Those of [`RegionTables::join_table`]. `newer` is dropped then.
-    fn put_newer(
+    fn join_newer_table(
         &mut self,
         queue: LogQueue,
         id: u64,
@@ -80,9 +80,9 @@ impl RegionTables {
             stats.new }
     {
         if let Some(table) = self.tables.get_mut(&id) {
-            return put_over(&mut table.boxed, queue, newer, mark, stats);
+            return put_newer_over(&mut table.boxed, queue, newer, mark, stats);
         }
-        self.put(id, newer, stats)?;
+        self.insert_boxed(id, newer, stats)?;
         Ok((0, 0))
     }
 
@@ -94,7 +94,7 @@ impl RegionTables {
     ///
     /// `Corruption` if, in the append queue, a run among the mark's steps would leave a hole after the older
     /// entries; `Memory`. The counts still agree with the table then.
-    fn drop_under(
+    fn apply_newer_mark(
         &mut self,
         queue: LogQueue,
         id: u64,
@@ -111,9 +111,9 @@ impl RegionTables {
         };
         if !mark.is_cleaned() {
             let empty = BoxedTable::empty(self.alloc, id)?;
-            return self.put_newer(queue, id, empty, mark, stats);
+            return self.join_newer_table(queue, id, empty, mark, stats);
         }
-        let start = start_of(table);
+        let start = first_index_or_zero(table);
         let end = table.end_at_reach(mark);
         table.check_newer_mark(queue, mark, end)?;
         self.remove(id, stats);
@@ -128,7 +128,7 @@ impl RegionTables {
 /// # Errors
 ///
 /// Those of [`MemTable::join_under`]. `newer` is dropped then.
-fn put_over(
+fn put_newer_over(
     older: &mut MemTable,
     queue: LogQueue,
     mut newer: BoxedTable,
@@ -143,13 +143,13 @@ fn put_over(
     ensures region_id { older.new.region_id ≡ older.old.region_id }
     ensures recounted { IsRecounted older.old older.new stats.old stats.new }
 {
-    let start = start_of(older);
+    let start = first_index_or_zero(older);
     let end = older.join_under(queue, &mut newer.boxed, mark, stats)?;
     Ok((start, end))
 }
 
 /// Returns the index of the first entry of `table`, or 0 if it has none.
-fn start_of(table: &MemTable) -> u64
+fn first_index_or_zero(table: &MemTable) -> u64
     ensures start { result ≡ start_of table.now.entries }
     ensures run { IsRun table.now.entries }
 {

@@ -31,8 +31,8 @@ impl RegionTables {
             stats.new }
     {
         match appended {
-            Some(appended) => self.put_appended(id, appended.into_table(), mark, stats),
-            None => self.drop_rewritten(id, mark, stats),
+            Some(appended) => self.overlay_appended_table(id, appended.into_table(), mark, stats),
+            None => self.apply_appended_mark(id, mark, stats),
         }
     }
 
@@ -43,7 +43,7 @@ impl RegionTables {
     ///
     /// Those of [`MemTable::overlay`]; `Memory`. `appended` is dropped then, and the counts still agree with
     /// the tables.
-    fn put_appended(
+    fn overlay_appended_table(
         &mut self,
         id: u64,
         appended: MemTable,
@@ -56,7 +56,7 @@ impl RegionTables {
         ensures { IsTableOverlaid mark.now (Some appended) self.old id stats.old result self.new
             stats.new }
     {
-        self.alter(
+        self.update_and_keep(
             id,
             stats,
             move |table: &mut MemTable, stats: &mut GlobalStats| -> Result<()>
@@ -80,7 +80,7 @@ impl RegionTables {
     /// # Errors
     ///
     /// Those of [`MemTable::overlay`]; `Memory`. The counts still agree with the table then.
-    fn drop_rewritten(&mut self, id: u64, mark: &Mark, stats: &mut GlobalStats) -> Result<()>
+    fn apply_appended_mark(&mut self, id: u64, mark: &Mark, stats: &mut GlobalStats) -> Result<()>
         requires counted { IsCounted (table_in self.old id) stats.old }
         ensures { IsTableOverlaid mark.now None self.old id stats.old result self.new stats.new }
     {
@@ -91,6 +91,6 @@ impl RegionTables {
         if self.get(id).is_none() {
             return Ok(());
         }
-        self.put_appended(id, MemTable::new(self.alloc, id), mark, stats)
+        self.overlay_appended_table(id, MemTable::new(self.alloc, id), mark, stats)
     }
 }

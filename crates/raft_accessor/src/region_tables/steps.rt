@@ -57,7 +57,7 @@ impl RegionTables {
             self.old stats.old cleaned.old.items result self.new stats.new cleaned.new.items }
     {
         if step.is_clean() {
-            return self.clean(queue, id, stats, cleaned);
+            return self.clean_region(queue, id, stats, cleaned);
         }
         self.update(id, stats, move |table, stats| {
             table.take_step(queue, step, stats)
@@ -95,7 +95,7 @@ impl RegionTables {
     /// # Errors
     ///
     /// `Memory`, which can come only in the append queue. Tables, counts and `cleaned` are unchanged then.
-    fn clean(
+    fn clean_region(
         &mut self,
         queue: LogQueue,
         id: u64,

@@ -6,10 +6,10 @@ use Rattle.raft_accessor.proofs.accessor.MemTableAccessor.collect.Goals as goal
 pub loop-slot-preserved : goal.loop-slot-preserved
 loop-slot-preserved g c =
     let w = c.loop-slot.invariant in
-    let p = c.in_ok-push_kept.ensures.ok in (
-      c.in_ok-push_kept.ensures.callable,
+    let p = c.in_ok-push_matching.ensures.ok in (
+      c.in_ok-push_matching.ensures.callable,
       w.1 ++ p.0,
-      folds-append (Collects g.F.FnMut) (c.args.f, []) (c.loop-slot.f, map (λ t. t.now) c.loop-slot.kept.items) (c.push_kept.new.f, map (λ t. t.now) c.push_kept.new.tables.items) w.1 p.0 w.2 p.2,
+      folds-append (Collects g.F.FnMut) (c.args.f, []) (c.loop-slot.f, map (λ t. t.now) c.loop-slot.kept.items) (c.push_matching.new.f, map (λ t. t.now) c.push_matching.new.tables.items) w.1 p.0 w.2 p.2,
       pushed w.1 (w.1 ++ p.0) p.0 _ _ _ _ refl p.1 (drop-step c.deref-slot-items.result.now c.loop-slot.slot-index _ c.slot-item.result refl (omega (arith, c.loop-slot-test.true)) c.slot-item.is) w.3,
     )
 

@@ -1,4 +1,4 @@
--- `get_or_insert` says of what `lend` lent that want of memory is the crate's error. Assumes `Logic`.
+-- `get_or_insert` says of what `lend_or_make` lent that want of memory is the crate's error. Assumes `Logic`.
 use Rattle.raft_accessor.proofs.Common.{◌≡◌, ℕ, [], ◌∷◌, refl, sym, subst, ⊤, proved, leaves, Accessor, table_in, IsTableMade, lent_as, the_row, IfOk, IfErr, Result, Ok, Err, Memory}
 use mathlib.Core.Option.{none}
 use seplogic.Ra.Ura.{Ura}
@@ -36,12 +36,12 @@ use Rattle.raft_base.specs.contracts.errors.Error as error
 use Rattle.raft_table.proofs.memtable.MemTable.TheLaws as table_laws
 use Rattle.raft_table.specs.contracts.memtable.MemTable as table
 use Rattle.raft_accessor.specs.contracts.accessor.MemTableAccessor.get_or_insert as f
-use Rattle.raft_accessor.specs.contracts.accessor.MemTableAccessor.lend as g
-use Rattle.raft_accessor.specs.contracts.accessor.lent as h
+use Rattle.raft_accessor.specs.contracts.accessor.MemTableAccessor.lend_or_make as g
+use Rattle.raft_accessor.specs.contracts.accessor.to_memory_error as h
 use Rattle.raft_accessor.proofs.accessor.MemTableAccessor.get_or_insert.Statement.{statement}
 use Rattle.raft_accessor.proofs.accessor.MemTableAccessor.get_or_insert.Code as code
-use Rattle.raft_accessor.proofs.accessor.MemTableAccessor.lend.Met as g_met
-use Rattle.raft_accessor.proofs.accessor.lent.Met as h_met
+use Rattle.raft_accessor.proofs.accessor.MemTableAccessor.lend_or_make.Met as g_met
+use Rattle.raft_accessor.proofs.accessor.to_memory_error.Met as h_met
 
 abbrev stayed : Stays f.ended.signature.params f.ended.kept
 stayed = (stay_dropped (mut_ref_to (0 ∷ []) tt (plain (λ _. the_row))) no, (stay_dropped (plain (λ _. u64)) yes, tt))
@@ -84,7 +84,7 @@ get_or_insert_spec 𝓤 𝓛 𝓜 𝓡 wired =
     qed 𝓛 (raw (G.pre z) ∷ []) ∵ enter ! _ _ _ _ _ $
     alloc_all ! (λ l. pass_all ! refl ((tt, tt), ((tt, record { fits = are.1.0.1 }), tt)) $
     sets ! (addr ! (through ! refl (stop !))) refl (tt, tt) $
-    calls_at ! (framed 𝓤 𝓛.H 𝓜 (tables 𝓤 𝓛.H 𝓜 𝓡 𝓡.env)) G (g_met.met 𝓤 𝓛 𝓜 𝓡 (code.calls-raft_accessor::accessor::MemTableAccessor::lend 𝓡.env wired)) z
+    calls_at ! (framed 𝓤 𝓛.H 𝓜 (tables 𝓤 𝓛.H 𝓜 𝓡 𝓡.env)) G (g_met.met 𝓤 𝓛 𝓜 𝓡 (code.calls-raft_accessor::accessor::MemTableAccessor::lend_or_make 𝓡.env wired)) z
     (and_then ! (get ! refl) (and_then ! (get ! refl) (no_more !))) (λ v.
     use1 𝓛 (later (some (λ (r : A.Denot). ((‵ (flft κs.0 qs.0) ⊛ ‵ ftrue) ⊛ ‵ (A.own_val r (v ∷ []))) ⊛ some (λ (ws : Lasts g.ended κs a). ‵ (lasts g.ended κs a ws)
     ⊛ ‵ (follows_so the_row the_row γ none (λ _ _. ⊤) (λ new. IsTableMade id r old new)) ⊛ raw (fact 𝓤 (IfOk r (λ t. t.now ≡ table_in old.tables id))))))) (id⊢ 𝓤 _) $
@@ -94,7 +94,7 @@ get_or_insert_spec 𝓤 𝓛 𝓜 𝓡 wired =
     nothing ! $ move ! (1 ∷ 0 ∷ []) $ join ! $ move ! (1 ∷ 0 ∷ []) $ join ! $ nothing ! $ move ! (1 ∷ 0 ∷ []) $
     let z' : L.Ghost = ((κs, qs, bounds, (r, tt), ((v ∷ []), tt)), tt) in
     use2 𝓛 (raw (L.pre z')) (id⊢ 𝓤 _) $
-    calls_at ! (framed 𝓤 𝓛.H 𝓜 (tables 𝓤 𝓛.H 𝓜 𝓡 𝓡.env)) L (h_met.met 𝓤 𝓛 𝓜 𝓡 (code.calls-raft_accessor::accessor::lent 𝓡.env wired)) z'
+    calls_at ! (framed 𝓤 𝓛.H 𝓜 (tables 𝓤 𝓛.H 𝓜 𝓡 𝓡.env)) L (h_met.met 𝓤 𝓛 𝓜 𝓡 (code.calls-raft_accessor::accessor::to_memory_error 𝓡.env wired)) z'
     (and_then ! (get ! refl) (no_more !)) (λ u.
     use1 𝓛 (later (some (λ (x : B.Denot). ((‵ (flft κs.0 qs.0) ⊛ ‵ ftrue) ⊛ ‵ (B.own_val x (u ∷ []))) ⊛ some (λ (ws : Lasts h.ended κs (r, tt)). ‵ (lasts h.ended κs (r, tt) ws)
     ⊛ raw (fact 𝓤 (x ≡ lent_as r)))))) (id⊢ 𝓤 _) $

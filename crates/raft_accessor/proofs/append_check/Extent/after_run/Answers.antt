@@ -1,7 +1,7 @@
 use Rattle.raft_accessor.proofs.Common.{◌<◌, refl, inl, inr, sym, ◌∙◌, arith, false≢true}
 use Rattle.raft_accessor.proofs.AppendCheckLemmas.{hole_found, hole_refused_so, run_accepted, run_bare, run_fits}
-use Rattle.raft_accessor.proofs.append_check.Extent.with_run.Goals as goal
-use Rattle.raft_accessor.proofs.append_check.Extent.with_run.Goals.{then-end-eq0, else-end-eq0}
+use Rattle.raft_accessor.proofs.append_check.Extent.after_run.Goals as goal
+use Rattle.raft_accessor.proofs.append_check.Extent.after_run.Goals.{then-end-eq0, else-end-eq0}
 
 pub returns-then-not-is_consecutive-clause-fault : goal.returns-then-not-is_consecutive-clause-fault
 returns-then-not-is_consecutive-clause-fault c = λ es place compression at placed.

@@ -1,6 +1,6 @@
 use Rattle.raft_accessor.proofs.Common.{Append, Rewrite, sym, append-nil, err_from_is_err_and, Clean}
 use Rattle.raft_accessor.proofs.UpdateLemmas.{clean_taken, not_listed}
-use Rattle.raft_accessor.proofs.region_tables.RegionTables.clean.Goals as goal
+use Rattle.raft_accessor.proofs.region_tables.RegionTables.clean_region.Goals as goal
 
 pub returns-in_err-push-in-Append : goal.returns-in_err-push-in-Append
 returns-in_err-push-in-Append c =

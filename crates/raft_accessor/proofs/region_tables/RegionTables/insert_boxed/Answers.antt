@@ -4,7 +4,7 @@ use Rattle.raft_accessor.specs.declared.region_tables.RegionTables.TheInside.{In
 use Rattle.raft_accessor.proofs.MapLemmas.{get_own, one_written}
 use Rattle.raft_accessor.proofs.RegionTablesLemmas.{get-shown, shown-with, shown-same, own-of}
 use Rattle.raft_accessor.proofs.UpdateLemmas.{not_inserted}
-use Rattle.raft_accessor.proofs.region_tables.RegionTables.put.Goals as goal
+use Rattle.raft_accessor.proofs.region_tables.RegionTables.insert_boxed.Goals as goal
 
 pub returns-in_err-reserve : goal.returns-in_err-reserve
 returns-in_err-reserve c =
@@ -20,8 +20,8 @@ returns-in_err-add_table c =
     (shown-same c.self.inside (record c.self.inside { tables = c.reserve.new.self }) c.args.self.now c.self.view_is c.reserve.ensures.entries.2) full.err (inr
     (full.full.0, (full.full.1.0, subst (λ t. 2 ^ 64 ≤ live full.full.1.0 c.args.stats.now + live_of full.full.1.0 t) c.get.ensures full.full.1.1))))
 
-pub delete_replaced-requires : goal.delete_replaced-requires
-delete_replaced-requires c = λ q.
+pub subtract_removed_table-requires : goal.subtract_removed_table-requires
+subtract_removed_table-requires c = λ q.
     omega (
       arith,
       c.requires.counted q,
@@ -31,15 +31,15 @@ delete_replaced-requires c = λ q.
           (c.in-Ok.ensures.old ∙ c.reserve.ensures.entries.2 c.args.id ∙ sym (get-shown c.self.inside c.args.self.now c.args.id c.self.view_is)),
     )
 
-abbrev after : goal.After-delete_replaced → Inside
+abbrev after : goal.After-subtract_removed_table → Inside
 after c = record c.self.inside { tables = c.insert.new.self }
 
-shown : (c : goal.After-delete_replaced) → tables_shown (after c) ≡ finite.insert c.args.self.now c.args.id c.args.table
+shown : (c : goal.After-subtract_removed_table) → tables_shown (after c) ≡ finite.insert c.args.self.now c.args.id c.args.table
 shown c =
     shown-with (record c.self.inside { tables = c.reserve.new.self }) (after c) c.args.self.now c.args.id (Some c.args.table)
     (shown-same c.self.inside (record c.self.inside { tables = c.reserve.new.self }) c.args.self.now c.self.view_is c.reserve.ensures.entries.2) c.in-Ok.ensures.updates.0
 
-was : (c : goal.After-delete_replaced) → c.in-Ok.replaced ≡ finite.get c.args.self.now c.args.id
+was : (c : goal.After-subtract_removed_table) → c.in-Ok.replaced ≡ finite.get c.args.self.now c.args.id
 was c = c.in-Ok.ensures.old ∙ c.reserve.ensures.entries.2 c.args.id ∙ sym (get-shown c.self.inside c.args.self.now c.args.id c.self.view_is)
 
 pub returns : goal.returns
@@ -47,7 +47,7 @@ returns c = record {
   ok = shown c;
   replaced = was c;
   own = own-of c.self.inside c.args.id c.self.invariant c.in-Ok.replaced (c.in-Ok.ensures.old ∙ c.reserve.ensures.entries.2 c.args.id);
-  counts = c.delete_replaced.ensures.counts ∙ ap (λ o. with_table_deleted (table_of c.args.id o) c.add_table.new.self) (was c)
+  counts = c.subtract_removed_table.ensures.counts ∙ ap (λ o. with_table_deleted (table_of c.args.id o) c.add_table.new.self) (was c)
       ∙ ap (with_table_deleted (table_in c.args.self.now c.args.id)) (c.in_ok-add_table.ensures.ok ∙ ap (λ t. with_table_added t c.args.stats.now) c.get.ensures);
   err = tt;
   counts_err = tt;
@@ -56,7 +56,7 @@ returns c = record {
   recounted = λ q.
       omega (
         arith,
-        c.delete_replaced.ensures.live q,
+        c.subtract_removed_table.ensures.live q,
         c.in_ok-add_table.ensures.live q,
         ap (live_of q) c.get.ensures,
         ap (λ o. live_of q (table_of c.args.id o)) (was c),

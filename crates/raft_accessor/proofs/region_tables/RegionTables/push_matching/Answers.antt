@@ -1,6 +1,6 @@
 use Rattle.raft_accessor.proofs.Common.{[], ◌∷◌, map, true, false, refl, ap, subst, ◌∙◌, of_calls, called_at, map-append, Collects}
 use Rattle.raft_accessor.proofs.WalkLemmas.{folds-first, walked}
-use Rattle.raft_accessor.proofs.region_tables.RegionTables.push_kept.Goals as goal
+use Rattle.raft_accessor.proofs.region_tables.RegionTables.push_matching.Goals as goal
 
 pub loop-table-preserved-in-Continue-1 : goal.loop-table-preserved-in-Continue-1
 loop-table-preserved-in-Continue-1 g c = (

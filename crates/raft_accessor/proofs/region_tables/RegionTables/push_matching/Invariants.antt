@@ -1,5 +1,5 @@
 use Rattle.raft_accessor.proofs.Common.{map, FoldsTo, Collects}
-use Rattle.raft_accessor.proofs.region_tables.RegionTables.push_kept.Given as goal
+use Rattle.raft_accessor.proofs.region_tables.RegionTables.push_matching.Given as goal
 
 abbrev pub invariant-loop-table : goal.invariant-loop-table
 invariant-loop-table g l =

@@ -1,6 +1,6 @@
 use Rattle.std.proofs.Common.{refl, ◌∙◌, arith}
 use Rattle.raft_accessor.proofs.SlotTableLemmas.{walked-live, all-deleted}
-use Rattle.raft_accessor.proofs.region_tables.RegionTables.delete_all.Goals as goal
+use Rattle.raft_accessor.proofs.region_tables.RegionTables.subtract_all_records.Goals as goal
 
 pub loop-table-init : goal.loop-table-init
 loop-table-init c = (

@@ -1,6 +1,6 @@
 use Rattle.raft_accessor.proofs.Common.{Append, Rewrite, ◌≡◌, ◌≤◌, ◌+◌, LogQueue, live, live_of}
 use Rattle.raft_accessor.proofs.TotalSums.{added}
-use Rattle.raft_accessor.proofs.region_tables.RegionTables.delete_all.Given as goal
+use Rattle.raft_accessor.proofs.region_tables.RegionTables.subtract_all_records.Given as goal
 
 -- the tables that were seen are off the counts, and those that are left are counted
 abbrev pub invariant-loop-table : goal.invariant-loop-table

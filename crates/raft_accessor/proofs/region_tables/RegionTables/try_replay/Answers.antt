@@ -8,15 +8,15 @@ use Rattle.raft_accessor.proofs.region_tables.RegionTables.try_replay.Goals as g
 
 -- ---- the region has no table
 
-pub try_replay_first-requires-clause-first : goal.try_replay_first-requires-clause-first
-try_replay_first-requires-clause-first c =
+pub try_replay_into_new-requires-clause-first : goal.try_replay_into_new-requires-clause-first
+try_replay_into_new-requires-clause-first c =
     let same = shown-same c.self.inside (record c.self.inside { tables = c.get_mut.follows.lender-at-none }) c.args.self.now c.self.view_is (λ q. ap (λ m. lookup (nat_eq q) m.entries) c.get_mut.follows.holds-at-none) in
     subst (λ m. finite.get m c.args.id ≡ None) (sym same) (absent c.self.inside c.args.self.now c.args.id _ c.self.view_is c.get_mut.ensures.value c.in_default.is)
 
 pub returns-in_default : goal.returns-in_default
 returns-in_default c =
     let same = shown-same c.self.inside (record c.self.inside { tables = c.get_mut.follows.lender-at-none }) c.args.self.now c.self.view_is (λ q. ap (λ m. lookup (nat_eq q) m.entries) c.get_mut.follows.holds-at-none) in
-    subst (λ m. IsRunTried c.args.queue c.args.id (run_shown c.args.run.now) m c.args.stats.now c.try_replay_first.result c.try_replay_first.new.self c.try_replay_first.new.stats) same c.try_replay_first.ensures
+    subst (λ m. IsRunTried c.args.queue c.args.id (run_shown c.args.run.now) m c.args.stats.now c.try_replay_into_new.result c.try_replay_into_new.new.self c.try_replay_into_new.new.stats) same c.try_replay_into_new.ensures
 
 -- ---- the table is there
 

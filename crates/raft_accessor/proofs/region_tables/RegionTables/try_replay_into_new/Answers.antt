@@ -1,7 +1,7 @@
 use Rattle.raft_accessor.proofs.Common.{◌≡◌, Some, refl, sym, ap, ◌∙◌, arith, end_of, start_of, run_shown, table_of, Table, empty_table, live_of, live_of_empty}
 use Rattle.raft_accessor.proofs.RegionTablesLemmas.{shown-with, shown-same}
 use Rattle.raft_accessor.proofs.UpdateLemmas.{run_put, not_put}
-use Rattle.raft_accessor.proofs.region_tables.RegionTables.try_replay_first.Goals as goal
+use Rattle.raft_accessor.proofs.region_tables.RegionTables.try_replay_into_new.Goals as goal
 
 pub returns-then-is_err : goal.returns-then-is_err
 returns-then-is_err c =

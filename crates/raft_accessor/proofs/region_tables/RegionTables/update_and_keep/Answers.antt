@@ -5,8 +5,8 @@ use Rattle.raft_accessor.proofs.MapLemmas.{some_is}
 use Rattle.raft_accessor.proofs.MergeLemmas.{altered, not_altered}
 use Rattle.raft_accessor.proofs.RegionTablesLemmas.{kept-with, kept-same, shown-with, shown-same, lent, absent, region-in}
 use Rattle.raft_accessor.proofs.UpdateLemmas.{calls-so}
-use Rattle.raft_accessor.proofs.region_tables.RegionTables.alter.Given as given
-use Rattle.raft_accessor.proofs.region_tables.RegionTables.alter.Goals as goal
+use Rattle.raft_accessor.proofs.region_tables.RegionTables.update_and_keep.Given as given
+use Rattle.raft_accessor.proofs.region_tables.RegionTables.update_and_keep.Goals as goal
 
 -- ---- the table is there
 

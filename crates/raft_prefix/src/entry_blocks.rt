@@ -17,8 +17,8 @@ const HEADER_LEN: usize = 16;
 /// Why a batch is refused whose entry block doesn't end in its checksum.
 const DAMAGED_ENTRIES: &str = "the entries of this batch are damaged";
 
-/// Returns the error for a batch with damaged entries that begins at `offset` of the file `id`: `Corruption`, whose text begins
-/// with file and offset, or `Memory` if there is none for the text.
+/// Returns the error for a batch with damaged entries that begins at `offset` of the file `id`: `Corruption`,
+/// whose text begins with file and offset, or `Memory` if there is none for the text.
 pub fn damage_at(alloc: Global, id: FileId, offset: u64) -> Error
     ensures { IsCorruption (damaged_entries_text id offset) result }
 {
@@ -31,7 +31,7 @@ pub fn damage_at(alloc: Global, id: FileId, offset: u64) -> Error
 /// # Errors
 ///
 /// `Corruption`, as [`damage_at`] has it, for a rewrite file; `Memory`. Nothing is pushed then.
-pub(crate) fn gather_damage(
+pub(crate) fn push_offset_if_damaged(
     alloc: Global,
     id: FileId,
     offset: u64,
@@ -43,7 +43,7 @@ pub(crate) fn gather_damage(
     ensures refused { IfErr result (λ e. e ≢ Error.Memory → (id.queue ≡ Rewrite) × IsUnsoundIn bytes.now
         × IsCorruption (damaged_entries_text id offset) e) }
 {
-    if is_sound(alloc, bytes) {
+    if has_sound_entries(alloc, bytes) {
         return Ok(());
     }
     match id.queue {
@@ -54,7 +54,7 @@ pub(crate) fn gather_damage(
 
 /// Tests whether the entry block of the batch at the start of `bytes` ends in its checksum, or is empty. A
 /// batch that can be read must stand there.
-fn is_sound(alloc: Global, bytes: &[u8]) -> bool
+fn has_sound_entries(alloc: Global, bytes: &[u8]) -> bool
     requires { IsBatchIn bytes.now }
     ensures sound { result ≡ true → IsSoundIn bytes.now }
     ensures unsound { result ≡ false → IsUnsoundIn bytes.now }

@@ -5,11 +5,11 @@ ghost use Rattle.raft_reading.specs.Common.{IsReadFault, IsUnread};
 ghost use Rattle.raft_prefix.specs.Prefixes.{IsDamageRead, IsPrefixRead, IsPrefixReplayed, IsRestRead, IsTailRead};
 
 use crate::pieces::bytes_wanted;
-use crate::readable::{readable_in, replay_readable};
+use crate::readable::{read_readable_batches, replay_readable};
 use raft_base::{Error, LogFileContext, Result};
 use raft_history::ReplayMachine;
 use raft_reading::ReadFiles;
-use raft_reading::file_pieces::{let_go, read_behind};
+use raft_reading::file_pieces::{read_behind, remove_front};
 use raft_records::FilePart;
 use std::alloc::Global;
 
@@ -60,8 +60,8 @@ pub fn read_prefix<S: ReadFiles>(
     let mut at = 0;
     loop {
         let bytes = piece.as_slice();
-        let (count, stopped) = readable_in(alloc, file, at, bytes, &mut damaged)?;
-        let_go(&mut piece, count);
+        let (count, stopped) = read_readable_batches(alloc, file, at, bytes, &mut damaged)?;
+        remove_front(&mut piece, count);
         at += count as u64;
         let left = len - at - piece.len() as u64;
         let wanted = bytes_wanted(alloc, piece.as_slice(), left);
@@ -100,7 +100,7 @@ pub fn replay_prefix<M: ReplayMachine, S: ReadFiles>(
     loop {
         let bytes = piece.as_slice();
         let (passed, stopped) = replay_readable(machine, alloc, file, at, bytes, &mut damaged)?;
-        let_go(&mut piece, passed);
+        remove_front(&mut piece, passed);
         at += passed as u64;
         let left = len - at - piece.len() as u64;
         let more = bytes_wanted(alloc, piece.as_slice(), left);

@@ -10,7 +10,7 @@ ghost use Rattle.raft_replay.specs.Replays.{HasReplayed};
 ghost use Rattle.raft_replay.specs.Segments.{HoldsFrom};
 ghost use Rattle.raft_prefix.specs.Pieces.{ArePassed, IsRefusedBehind};
 
-use crate::entry_blocks::gather_damage;
+use crate::entry_blocks::push_offset_if_damaged;
 use raft_base::{Error, LogFileContext, Result};
 use raft_history::ReplayMachine;
 use raft_records::ReadBatch;
@@ -27,7 +27,7 @@ use std::alloc::Global;
 ///
 /// `Corruption` at the first batch of a rewrite file with damaged entries; `Memory`. Some offsets may have
 /// been pushed then.
-pub fn readable_in(
+pub fn read_readable_batches(
     alloc: Global,
     file: &LogFileContext,
     offset: u64,
@@ -49,12 +49,12 @@ pub fn readable_in(
         match batch.read_next(file, offset, bytes, at) {
             Ok(Some(next)) => {
                 let (_, own) = bytes.split_at(at);
-                gather_damage(alloc, file.id, offset + at as u64, own, damaged)?;
+                push_offset_if_damaged(alloc, file.id, offset + at as u64, own, damaged)?;
                 at = next;
             }
             Ok(None) => return Ok((at, None)),
             Err(error) => {
-                unless_memory(&error)?;
+                check_not_memory(&error)?;
                 return Ok((at, Some(error)));
             }
         }
@@ -63,13 +63,13 @@ pub fn readable_in(
 
 /// Replays batch after batch from the start of `bytes`, which stand in `file` from `offset` on, into
 /// `machine`, up to the first that can't be read. Returns how many bytes the batches before it have, and why
-/// it can't be read; `None` if `bytes` end with a batch. As [`readable_in`] does, it pushes the offset in the
-/// file of each batch of an append file with damaged entries to `damaged`.
+/// it can't be read; `None` if `bytes` end with a batch. As [`read_readable_batches`] does, it pushes the
+/// offset in the file of each batch of an append file with damaged entries to `damaged`.
 ///
 /// # Errors
 ///
-/// Those of [`readable_in`] and of the machine. Some of the batches may have been replayed, and some offsets
-/// pushed, then.
+/// Those of [`read_readable_batches`] and of the machine. Some of the batches may have been replayed, and
+/// some offsets pushed, then.
 pub fn replay_readable<M: ReplayMachine>(
     machine: &mut M,
     alloc: Global,
@@ -93,13 +93,13 @@ pub fn replay_readable<M: ReplayMachine>(
         match batch.read_next(file, offset, bytes, at) {
             Ok(Some(next)) => {
                 let (_, rest) = bytes.split_at(at);
-                gather_damage(alloc, file.id, offset + at as u64, rest, damaged)?;
+                push_offset_if_damaged(alloc, file.id, offset + at as u64, rest, damaged)?;
                 machine.replay_read(&batch, file.id)?;
                 at = next;
             }
             Ok(None) => return Ok((at, None)),
             Err(error) => {
-                unless_memory(&error)?;
+                check_not_memory(&error)?;
                 return Ok((at, Some(error)));
             }
         }
@@ -112,7 +112,7 @@ pub fn replay_readable<M: ReplayMachine>(
 /// # Errors
 ///
 /// `Memory`, if `error` is that.
-fn unless_memory(error: &Error) -> Result<()>
+fn check_not_memory(error: &Error) -> Result<()>
     ensures ok { OnOk result (error.now ≢ Error.Memory) }
     ensures memory { IfErr result (λ e. e ≡ Error.Memory) }
 {

@@ -43,7 +43,7 @@ pub fn replay_file<M: ReplayMachine, S: ReadFiles>(
         (IsStoodFor M.stands_for) e) }
 {
     let mut piece = Vec::new(alloc);
-    replay_through(machine, source, file, len, &mut piece)
+    replay_file_with_buffer(machine, source, file, len, &mut piece)
 }
 
 /// Replays the batches of `file`, which has `len` bytes and is read from `source`, into `machine`, as
@@ -52,7 +52,7 @@ pub fn replay_file<M: ReplayMachine, S: ReadFiles>(
 /// # Errors
 ///
 /// Those of [`replay_file`]. Some of the batches may have been replayed then.
-pub(crate) fn replay_through<M: ReplayMachine, S: ReadFiles>(
+pub(crate) fn replay_file_with_buffer<M: ReplayMachine, S: ReadFiles>(
     machine: &mut M,
     source: &S,
     file: &LogFileContext,
@@ -69,7 +69,7 @@ pub(crate) fn replay_through<M: ReplayMachine, S: ReadFiles>(
     piece.clear();
     let mut at = 0;
     loop {
-        at = replay_whole(machine, alloc, file, at, piece)?;
+        at = replay_whole_batches(machine, alloc, file, at, piece)?;
         let left = len - at - piece.len() as u64;
         let wanted = bytes_wanted(alloc, piece.as_slice(), left);
         if wanted == 0 {
@@ -85,7 +85,7 @@ pub(crate) fn replay_through<M: ReplayMachine, S: ReadFiles>(
 /// # Errors
 ///
 /// Those of [`replay_bytes`](raft_replay::replay_bytes). The piece is unchanged then.
-fn replay_whole<M: ReplayMachine>(
+fn replay_whole_batches<M: ReplayMachine>(
     machine: &mut M,
     alloc: Global,
     file: &LogFileContext,
@@ -99,16 +99,16 @@ fn replay_whole<M: ReplayMachine>(
     ensures fault { IfErr result (λ e. (rest : List ℕ) → StopsByFault (M.stands_for machine.old)
         (IsStoodFor M.stands_for) (part_of file.now at (piece.old.items ++ rest)) e) }
 {
-    let whole = whole_batches(alloc, piece.as_slice());
+    let whole = whole_batches_len(alloc, piece.as_slice());
     let (front, _) = piece.as_slice().split_at(whole);
     replay_bytes(machine, alloc, file, at, front)?;
-    let_go(piece, whole);
+    remove_front(piece, whole);
     Ok(at + whole as u64)
 }
 
 /// Returns how many bytes the batches have together that are whole at the start of `bytes`. It looks at their
 /// headers alone.
-fn whole_batches(alloc: Global, bytes: &[u8]) -> usize
+fn whole_batches_len(alloc: Global, bytes: &[u8]) -> usize
     ensures led { HeadersLead bytes.now result }
     ensures inside { result ≤ length bytes.now }
     ensures last { NoneIsWhole (drop result bytes.now) }
@@ -125,7 +125,7 @@ fn whole_batches(alloc: Global, bytes: &[u8]) -> usize
 
 /// Removes the first `count` bytes of `bytes`, and moves the others to the start. There are at least `count`.
 #[doc(hidden)]
-pub fn let_go(bytes: &mut Vec<u8>, count: usize)
+pub fn remove_front(bytes: &mut Vec<u8>, count: usize)
     requires { count ≤ length bytes.old.items }
     ensures { bytes.new.items ≡ drop count bytes.old.items }
 {
@@ -184,19 +184,19 @@ pub fn read_behind<S: ReadFiles>(
     let alloc = *piece.allocator();
     piece.reserve_exact(len.saturating_add(1))?; // one more, so that who reads to the end finds it without growing the piece
     if let Err(error) = source.read(file, offset, len, piece) {
-        return Err(failure_at(alloc, file, offset, error));
+        return Err(read_error_at(alloc, file, offset, error));
     }
     if piece.len() != before + len {
         let miscount = "a read gave another number of bytes";
         let error = io::Error::new(ErrorKind::UnexpectedEof, miscount);
-        return Err(failure_at(alloc, file, offset, error));
+        return Err(read_error_at(alloc, file, offset, error));
     }
     Ok(())
 }
 
 /// Returns the `Io` error for a read of `file` at `offset` that failed with `error`: of the same kind, with
 /// `append file 3, offset 1024: ` before its text. Returns `Memory` if there is none for the text.
-fn failure_at(alloc: Global, file: FileId, offset: u64, error: io::Error) -> Error
+fn read_error_at(alloc: Global, file: FileId, offset: u64, error: io::Error) -> Error
     ensures { IsIoOfKind (error_kind error) result }
 {
     let queue = queue_name(file.queue);

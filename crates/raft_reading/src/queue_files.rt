@@ -4,7 +4,7 @@ ghost use Rattle.std.specs.Prelude.{◌≡◌, ◌≢◌, ◌<◌, ◌≤◌, Li
 ghost use Rattle.raft_reading.specs.Common.{Error, IsQueueReplayed, IsQueueStop, IsStoodFor, IsSync};
 
 use crate::ReadFiles;
-use crate::file_pieces::replay_through;
+use crate::file_pieces::replay_file_with_buffer;
 use raft_base::{Error, Factory, FileId, FileSeq, LogFileContext, LogQueue, Result, Version};
 use raft_history::ReplayMachine;
 use std::alloc::Global;
@@ -49,13 +49,13 @@ pub fn replay_files<M: ReplayMachine, F: Factory<M>, S: ReadFiles, R: Threads + 
         (IsStoodFor M.stands_for) e) }
 {
     if workers > 1 && files.len() > 1 {
-        match replay_divided(rt, alloc, factory, source, files, queue, version, workers) {
+        match replay_files_in_parallel(rt, alloc, factory, source, files, queue, version, workers) {
             Ok(machine) => return Ok(machine),
             Err(Error::Memory) => return Err(Error::Memory),
             Err(_) => {}
         }
     }
-    replay_in_turn(alloc, factory, source, files, queue, version)
+    replay_files_one_by_one(alloc, factory, source, files, queue, version)
 }
 
 /// Replays `files` by `workers` workers. Half of these, rounded down, replay the first files, with about as
@@ -65,7 +65,7 @@ pub fn replay_files<M: ReplayMachine, F: Factory<M>, S: ReadFiles, R: Threads + 
 /// # Errors
 ///
 /// Those of [`replay_files`], of any worker: not always the first one in order.
-fn replay_divided<M: ReplayMachine, F: Factory<M>, S: ReadFiles, R: Threads + Sync>(
+fn replay_files_in_parallel<M: ReplayMachine, F: Factory<M>, S: ReadFiles, R: Threads + Sync>(
     rt: &R,
     alloc: Global,
     factory: &F,
@@ -80,17 +80,17 @@ fn replay_divided<M: ReplayMachine, F: Factory<M>, S: ReadFiles, R: Threads + Sy
         M.stands_exactly) }
 {
     if workers < 2 || files.len() < 2 {
-        return replay_in_turn(alloc, factory, source, files, queue, version);
+        return replay_files_one_by_one(alloc, factory, source, files, queue, version);
     }
     let first_half = workers / 2;
     let second_half = workers - first_half;
-    let (first, second) = files.split_at(count_of_part(files, first_half, workers));
+    let (first, second) = files.split_at(count_files_of_share(files, first_half, workers));
     let front = || -> Result<M>
         requires { IsSync R.row × IsSync F.row × IsSync S.row × ((m : M) → F.gives factory.now m → M.stands_exactly m []) }
         ensures { IfOk result (IsQueueReplayed (S.gives source.entry.now) queue version first.entry.now M.stands_for
             M.stands_exactly) }
     {
-        replay_divided(
+        replay_files_in_parallel(
             rt, alloc, factory, source, first, queue, version, first_half,
         )
     };
@@ -99,7 +99,7 @@ fn replay_divided<M: ReplayMachine, F: Factory<M>, S: ReadFiles, R: Threads + Sy
         ensures { IfOk result (IsQueueReplayed (S.gives source.entry.now) queue version second.entry.now M.stands_for
             M.stands_exactly) }
     {
-        replay_divided(
+        replay_files_in_parallel(
             rt,
             alloc,
             factory,
@@ -118,11 +118,11 @@ fn replay_divided<M: ReplayMachine, F: Factory<M>, S: ReadFiles, R: Threads + Sy
 
 /// Returns how many of `files`, from the first one on, have about `parts` of `whole` equal parts of all
 /// bytes: at least one, and not all of them. There must be two files or more.
-fn count_of_part(files: &[FileSize], parts: usize, whole: usize) -> usize
+fn count_files_of_share(files: &[FileSize], parts: usize, whole: usize) -> usize
     requires { (1 < length files.now) × (0 < whole) }
     ensures { (0 < result) × (result < length files.now) }
 {
-    let wanted = (bytes_of(files) / whole as u64).saturating_mul(parts as u64);
+    let wanted = (total_bytes(files) / whole as u64).saturating_mul(parts as u64);
     let mut bytes = 0u64;
     let mut count = 0;
     for file in files {
@@ -136,7 +136,7 @@ fn count_of_part(files: &[FileSize], parts: usize, whole: usize) -> usize
 }
 
 /// Returns how many bytes `files` have together, at most 2^64 - 1.
-fn bytes_of(files: &[FileSize]) -> u64 {
+fn total_bytes(files: &[FileSize]) -> u64 {
     let mut bytes = 0u64;
     for file in files {
         bytes = bytes.saturating_add(file.len);
@@ -149,7 +149,7 @@ fn bytes_of(files: &[FileSize]) -> u64 {
 /// # Errors
 ///
 /// The factory's own; those of [`replay_file`](crate::replay_file); `Memory`.
-fn replay_in_turn<M: ReplayMachine, F: Factory<M>, S: ReadFiles>(
+fn replay_files_one_by_one<M: ReplayMachine, F: Factory<M>, S: ReadFiles>(
     alloc: Global,
     factory: &F,
     source: &S,
@@ -168,7 +168,7 @@ fn replay_in_turn<M: ReplayMachine, F: Factory<M>, S: ReadFiles>(
     let mut piece = Vec::new(alloc);
     for file in files {
         let context = LogFileContext::new(FileId::new(queue, file.seq), version);
-        replay_through(&mut machine, source, &context, file.len, &mut piece)?;
+        replay_file_with_buffer(&mut machine, source, &context, file.len, &mut piece)?;
     }
     Ok(machine)
 }

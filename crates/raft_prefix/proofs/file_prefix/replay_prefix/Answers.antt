@@ -9,8 +9,8 @@ loop-damaged-init g c =
     subst (λ (ds : List ℕ). IsUnder gives Held c.args.file.now c.args.len 0 ds c.new-piece.result.items) (sym c.new-damaged.ensures.items)
     (subst (IsUnder gives Held c.args.file.now c.args.len 0 []) (sym c.new-piece.ensures.items) (none_under gives Held c.args.file.now c.args.len (nothing_replayed g.M.ReplayMachine.stands_for g.M.ReplayMachine.stands_exactly c.args.file.now c.args.machine.now)))
 
-pub let_go-requires : goal.let_go-requires
-let_go-requires g c =
+pub remove_front-requires : goal.remove_front-requires
+remove_front-requires g c =
     let gives = g.S.ReadFiles.gives c.args.source.now c.args.file.now.id in
     let Held = Replayed g.M.ReplayMachine.stands_for g.M.ReplayMachine.stands_exactly c.args.file.now c.args.machine.now c.loop-damaged.machine in
     let Now = Replayed g.M.ReplayMachine.stands_for g.M.ReplayMachine.stands_exactly c.args.file.now c.args.machine.now c.replay_readable.new.machine in
@@ -23,13 +23,13 @@ returns-then-more-eq0 g c =
     let Held = Replayed g.M.ReplayMachine.stands_for g.M.ReplayMachine.stands_exactly c.args.file.now c.args.machine.now c.loop-damaged.machine in
     let Now = Replayed g.M.ReplayMachine.stands_for g.M.ReplayMachine.stands_exactly c.args.file.now c.args.machine.now c.replay_readable.new.machine in
     let grown = front_replayed g.M.ReplayMachine.stands_for g.M.ReplayMachine.stands_exactly c.args.file.now c.loop-damaged.at _ c.args.machine.now c.loop-damaged.machine c.replay_readable.new.machine c.in_ok-passed.ensures.replayed in
-    let u = under_next gives Held Now c.args.file.now c.args.len c.loop-damaged.at _ c.loop-damaged.damaged.items c.replay_readable.new.damaged c.loop-damaged.piece.items c.as_slice-bytes.result.now c.let_go.new.bytes.items _ c.as_slice-bytes.ensures.value c.let_go.ensures c.loop-damaged.invariant
+    let u = under_next gives Held Now c.args.file.now c.args.len c.loop-damaged.at _ c.loop-damaged.damaged.items c.replay_readable.new.damaged c.loop-damaged.piece.items c.as_slice-bytes.result.now c.remove_front.new.bytes.items _ c.as_slice-bytes.ensures.value c.remove_front.ensures c.loop-damaged.invariant
     c.in_ok-passed.ensures.passed c.in_ok-passed.ensures.whole grown in
     let inside = u.inside in
-    let counted : c.len.result ≡ length c.let_go.new.bytes.items = c.len.ensures ∙ sym c.as_slice.ensures.len ∙ ap length c.as_slice.ensures.value in
-    replayed_next gives Held Now c.args.file.now c.args.len c.loop-damaged.at _ c.loop-damaged.damaged.items c.replay_readable.new.damaged c.loop-damaged.piece.items c.as_slice-bytes.result.now c.let_go.new.bytes.items _ c.as_slice-bytes.ensures.value c.let_go.ensures c.loop-damaged.invariant
+    let counted : c.len.result ≡ length c.remove_front.new.bytes.items = c.len.ensures ∙ sym c.as_slice.ensures.len ∙ ap length c.as_slice.ensures.value in
+    replayed_next gives Held Now c.args.file.now c.args.len c.loop-damaged.at _ c.loop-damaged.damaged.items c.replay_readable.new.damaged c.loop-damaged.piece.items c.as_slice-bytes.result.now c.remove_front.new.bytes.items _ c.as_slice-bytes.ensures.value c.remove_front.ensures c.loop-damaged.invariant
     c.in_ok-passed.ensures.passed c.in_ok-passed.ensures.whole grown c.as_slice.result.now _ c.as_slice.ensures.value (c.bytes_wanted-more.ensures.none (omega (arith, c.if-more-eq0.true)))
-    (omega (arith, counted, inside)) c.in_ok-passed.ensures.refused c.in_ok-passed.ensures.fault g.M.ReplayMachine.stands_for g.M.ReplayMachine.stands_exactly c.args.machine.now c.replay_readable.new.machine c.let_go.new.bytes refl (λ gone held. held)
+    (omega (arith, counted, inside)) c.in_ok-passed.ensures.refused c.in_ok-passed.ensures.fault g.M.ReplayMachine.stands_for g.M.ReplayMachine.stands_exactly c.args.machine.now c.replay_readable.new.machine c.remove_front.new.bytes refl (λ gone held. held)
 
 pub loop-damaged-preserved : goal.loop-damaged-preserved
 loop-damaged-preserved g c =
@@ -37,8 +37,8 @@ loop-damaged-preserved g c =
     let Held = Replayed g.M.ReplayMachine.stands_for g.M.ReplayMachine.stands_exactly c.args.file.now c.args.machine.now c.loop-damaged.machine in
     let Now = Replayed g.M.ReplayMachine.stands_for g.M.ReplayMachine.stands_exactly c.args.file.now c.args.machine.now c.replay_readable.new.machine in
     let grown = front_replayed g.M.ReplayMachine.stands_for g.M.ReplayMachine.stands_exactly c.args.file.now c.loop-damaged.at _ c.args.machine.now c.loop-damaged.machine c.replay_readable.new.machine c.in_ok-passed.ensures.replayed in
-    let u = under_next gives Held Now c.args.file.now c.args.len c.loop-damaged.at _ c.loop-damaged.damaged.items c.replay_readable.new.damaged c.loop-damaged.piece.items c.as_slice-bytes.result.now c.let_go.new.bytes.items _ c.as_slice-bytes.ensures.value c.let_go.ensures c.loop-damaged.invariant
+    let u = under_next gives Held Now c.args.file.now c.args.len c.loop-damaged.at _ c.loop-damaged.damaged.items c.replay_readable.new.damaged c.loop-damaged.piece.items c.as_slice-bytes.result.now c.remove_front.new.bytes.items _ c.as_slice-bytes.ensures.value c.remove_front.ensures c.loop-damaged.invariant
     c.in_ok-passed.ensures.passed c.in_ok-passed.ensures.whole grown in
     let inside = u.inside in
-    let counted : c.len.result ≡ length c.let_go.new.bytes.items = c.len.ensures ∙ sym c.as_slice.ensures.len ∙ ap length c.as_slice.ensures.value in
-    under_more gives Now c.args.file.now c.args.len _ c.bytes_wanted-more.result c.replay_readable.new.damaged.items c.let_go.new.bytes.items c.read_behind.new.piece.items (omega (arith, counted, inside, c.bytes_wanted-more.ensures.some)) u c.in_ok-read_behind.ensures.ok
+    let counted : c.len.result ≡ length c.remove_front.new.bytes.items = c.len.ensures ∙ sym c.as_slice.ensures.len ∙ ap length c.as_slice.ensures.value in
+    under_more gives Now c.args.file.now c.args.len _ c.bytes_wanted-more.result c.replay_readable.new.damaged.items c.remove_front.new.bytes.items c.read_behind.new.piece.items (omega (arith, counted, inside, c.bytes_wanted-more.ensures.some)) u c.in_ok-read_behind.ensures.ok

@@ -9,8 +9,8 @@ loop-next-init g c = record {
   read = none_replayed g.M.ReplayMachine.stands_for g.M.ReplayMachine.stands_exactly _ c.args.machine.now ([], refl, refl);
 }
 
-pub gather_damage-requires : goal.gather_damage-requires
-gather_damage-requires g c =
+pub push_offset_if_damaged-requires : goal.push_offset_if_damaged-requires
+push_offset_if_damaged-requires g c =
     let stands = rw c.in-Ok-Some.field-0-is at c.in-Ok-Some.ensures.ok in
     record {
       part = part_of c.args.file.now c.args.offset c.args.bytes.now;
@@ -33,7 +33,7 @@ loop-next-preserved g c =
     } in
     record {
       inside = (batch_inside part c.loop-next.at _ c.in-Ok-Some.next stands).1;
-      passed = one_more_passed c.args.file.now c.args.bytes.now c.args.offset c.loop-next.at c.in-Ok-Some.next _ stands c.split_at.result.1.now c.split_at.ensures.back c.args.damaged.now.items c.loop-next.damaged.items c.loop-next.invariant.passed c.gather_damage.new.damaged.items c.in_ok-gather_damage-in-Ok-Some.ensures.ok;
+      passed = one_more_passed c.args.file.now c.args.bytes.now c.args.offset c.loop-next.at c.in-Ok-Some.next _ stands c.split_at.result.1.now c.split_at.ensures.back c.args.damaged.now.items c.loop-next.damaged.items c.loop-next.invariant.passed c.push_offset_if_damaged.new.damaged.items c.in_ok-push_offset_if_damaged-in-Ok-Some.ensures.ok;
       read =
           replayed_more g.M.ReplayMachine.stands_for g.M.ReplayMachine.stands_exactly _ _ _ c.args.machine.now c.loop-next.machine c.replay_read.new.self before one
           (longer_front part c.loop-next.at c.in-Ok-Some.next _ before.history before.held stands);
@@ -48,4 +48,4 @@ returns-in-Err-clause-replayed g c =
     replayed_before g.M.ReplayMachine.stands_for g.M.ReplayMachine.stands_exactly (part_of c.args.file.now c.args.offset c.args.bytes.now) c.loop-next.at c.args.machine.now c.loop-next.machine c.loop-next.invariant.inside c.loop-next.invariant.read
 
 pub returns-in-Err-clause-refused : goal.returns-in-Err-clause-refused
-returns-in-Err-clause-refused g c = (c.in_ok-unless_memory-in-Err.ensures.ok, c.in-Err.ensures.refused c.in_ok-unless_memory-in-Err.ensures.ok)
+returns-in-Err-clause-refused g c = (c.in_ok-check_not_memory-in-Err.ensures.ok, c.in-Err.ensures.refused c.in_ok-check_not_memory-in-Err.ensures.ok)

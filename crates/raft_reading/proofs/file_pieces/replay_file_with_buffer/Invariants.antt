@@ -1,5 +1,5 @@
 use Rattle.raft_reading.proofs.Common.{◌+◌, ◌-◌, length, IsUnderway}
-use Rattle.raft_reading.proofs.file_pieces.replay_through.Given as goal
+use Rattle.raft_reading.proofs.file_pieces.replay_file_with_buffer.Given as goal
 
 abbrev pub invariant-loop-at : goal.invariant-loop-at
 invariant-loop-at g l =

@@ -1,6 +1,6 @@
 use Rattle.raft_reading.proofs.Common.{◌≡◌, ◌<◌, ◌∷◌, [], ◌++◌, ℕ, List, length, drop, sym, ap, subst, arith, length-drop, HasHeader}
 use Rattle.raft_reading.proofs.PieceLemmas.{headers_more}
-use Rattle.raft_reading.proofs.file_pieces.whole_batches.Goals as goal
+use Rattle.raft_reading.proofs.file_pieces.whole_batches_len.Goals as goal
 
 pub returns-in_default-clause-last : goal.returns-in_default-clause-last
 returns-in_default-clause-last c offset len h =

@@ -1,6 +1,6 @@
 use Rattle.raft_prefix.proofs.Common.{subst, HasNoFront, IsHeader}
 use Rattle.raft_prefix.proofs.BlockLemmas.{block_sound, block_unsound, has_header, not_read, read_ok}
-use Rattle.raft_prefix.proofs.entry_blocks.is_sound.Goals as goal
+use Rattle.raft_prefix.proofs.entry_blocks.has_sound_entries.Goals as goal
 
 pub returns-in_default-clause-unsound : goal.returns-in_default-clause-unsound
 returns-in_default-clause-unsound c bad part at next items same b = absurd (has_header part at next items b (subst (HasNoFront IsHeader) same c.in_default.ensures.refused))

@@ -1,6 +1,6 @@
 use Rattle.raft_reading.proofs.Common.{take}
 use Rattle.raft_reading.proofs.QueueLemmas.{IsTurn}
-use Rattle.raft_reading.proofs.queue_files.replay_in_turn.Given as goal
+use Rattle.raft_reading.proofs.queue_files.replay_files_one_by_one.Given as goal
 
 abbrev pub invariant-loop-file : goal.invariant-loop-file
 invariant-loop-file g l =

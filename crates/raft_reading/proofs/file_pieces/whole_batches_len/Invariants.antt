@@ -1,5 +1,5 @@
 use Rattle.raft_reading.proofs.Common.{◌-◌, ◌≤◌, length, HeadersLead}
-use Rattle.raft_reading.proofs.file_pieces.whole_batches.Given as goal
+use Rattle.raft_reading.proofs.file_pieces.whole_batches_len.Given as goal
 
 abbrev pub invariant-loop-len : goal.invariant-loop-len
 invariant-loop-len l = record {

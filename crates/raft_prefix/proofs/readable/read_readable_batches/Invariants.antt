@@ -1,5 +1,5 @@
 use Rattle.raft_prefix.proofs.Common.{◌-◌, ◌≤◌, length, ArePassed}
-use Rattle.raft_prefix.proofs.readable.readable_in.Given as goal
+use Rattle.raft_prefix.proofs.readable.read_readable_batches.Given as goal
 
 abbrev pub invariant-loop-next : goal.invariant-loop-next
 invariant-loop-next l = record {

@@ -1,13 +1,13 @@
 use Rattle.raft_reading.proofs.Common.{◌≡◌, ◌++◌, ◌∙◌, List, drop, sym, ap, take-append-drop, FileSize}
 use Rattle.raft_reading.proofs.QueueLemmas.{neighbors}
-use Rattle.raft_reading.proofs.queue_files.+fn-replay_divided-back+fn-replay_divided-front+replay_divided.Goals as goal
+use Rattle.raft_reading.proofs.queue_files.+fn-replay_files_in_parallel-back+fn-replay_files_in_parallel-front+replay_files_in_parallel.Goals as goal
 
 pub returns : goal.returns
 returns g t c =
     let files = c.args.files.now in
     let first = c.split_at.result.0.now in
     let second = c.split_at.result.1.now in
-    let n = c.count_of_part.result in
+    let n = c.count_files_of_share.result in
     let is : files ≡ first ++ second =
     sym (take-append-drop n files) ∙ ap (λ (l : List FileSize). l ++ drop n files) (sym c.split_at.ensures.front) ∙ ap (λ (l : List FileSize). first ++ l) (sym c.split_at.ensures.back) in
     let older = rw c.in_ok-machine.was at c.join-older.ensures.first in

@@ -12,21 +12,29 @@ const AFTER_HELP: &str = "\
 To see what is wrong with a folder: raftlog check FOLDER
 To see which entries stand where: raftlog dump FOLDER
 
-A queue is append (new batches) or rewrite (records that were moved). Offsets are bytes from the
-beginning of a file. Only cut --yes changes log files (see its help). Beside it files --svg alone
-writes a file, which has to be a new one.
+A folder has the files of two queues, append (new batches) and rewrite (records that were moved):
+0000000000000001.raftlog and 0000000000000001.rewrite have the number 1 there. Files with other
+endings aren't looked at. Offsets are bytes from the beginning of a file.
+
+Only cut --yes changes log files (see its help). Beside it files --svg alone writes a file, which
+has to be a new one. While an engine has a folder open to write to it, no command looks into it, and
+while a command does, no engine can open it to write to it, nor can cut --yes: `another engine has
+the folder open` may be either. Files that are named one by one aren't locked.
 
 Status:
-  0  it is done; of check and dump also: nothing is wrong with what was looked at; of regions, files
-     and cut also: an engine can be opened over the files, though it may cut off a torn end first
+  0  it is done; of check and dump also: nothing is wrong with what was looked at (dump looks at the
+     bytes of entries with --values alone); of regions, files and cut also: an engine can be opened
+     over the files, though it may cut off a torn end first
   1  check or dump found that something is wrong (check also: there are no files), or a line on
-     standard error says why it isn't done
+     standard error says why it isn't done, or not to its end: cut --yes may have cut then
   2  the words ask for nothing that can be done";
 
 /// What `check --help` prints below the options.
 const CHECK_HELP: &str = "\
-Below the line of a file comes one for each place in it where something can't be read:
-  - entries that are lost, by region, first and last index. The rest of their batch can be read:
+Where all of a file of 1340 bytes can be read, its line says `read from offset 0 to 1340`: the offset
+behind the last byte. Below it comes a line for each place where something can't be read:
+  - entries that are lost, by region, first and last index: `entries 9 to 10` are those with the
+    indexes 9 and 10. The rest of their batch can be read:
     raftlog dump --region REGION --values shows it.
   - a byte at which no batch can be read, and why. Nothing else is known of such a batch, neither
     its entries, nor its keys, nor what it deletes. Which entries it had show those before and
@@ -60,22 +68,26 @@ a queue's last file behind the first batch that can't be read, and what is said 
 /// What `regions --help` prints below the options.
 const REGIONS_HELP: &str = "\
 7 entries 3..7 keys 1 append 2 rewrite -
-  Region 7 has the entries with the indexes 3 to 6 and one key, and its oldest record stands in
-  append file 2; it has none in a rewrite file.
+  Region 7 has the entries with the indexes 3 to 6 (with --json: first 3, last 6) and one key, and
+  its oldest record stands in append file 2; it has none in a rewrite file.
 cleaned 4 9
   The records of these regions are gone (`cleaned -`: of none).
 live 50 0
-  So many records are still needed: 50 of the append queue and none of the rewrite queue.";
+  So many records are still needed: 50 of the append queue and none of the rewrite queue.
+
+The bytes of entries are looked at in the last rewrite file alone; by raftlog check in all files.";
 
 /// What `dump --help` prints below the options.
 const DUMP_HELP: &str = "\
-`entries 3..7` are those with the indexes 3 to 6. --from and --to select among entries alone, and
-other items are printed as without them. Values and entries are printed in quotes where all is
-printable ASCII and no quote, else as 0x and hex digits.
+`entries 3..7` are those with the indexes 3 to 6, as --from 3 --to 7 selects them (with --json: first
+3, last 6). --from and --to select among entries alone, and other items are printed as without them.
+Values and entries are printed in quotes where all is printable ASCII and no quote, else as 0x and
+hex digits.
 
 Numbers of files that are missing, bytes at which no batch can be read, and with --values entries
 that can't be, have a line of their own, and the status is then 1. So it is where nothing is printed
-of a --region.";
+of a --region. Without --values the bytes of entries aren't looked at: the status may be 0 where
+some can't be read. raftlog check names all of these.";
 
 /// What `files --help` prints below the options.
 const FILES_HELP: &str = "\
@@ -84,14 +96,20 @@ headers aren't counted), and the regions whose oldest file it is. A file can go 
 oldest one of no region, and no older one is left.
 
 The picture of --svg is written to a file that isn't there yet; one that is there stays as it is,
-and the status is 1.";
+and the status is 1.
+
+The bytes of entries are looked at in the last rewrite file alone; by raftlog check in all files.";
 
 /// What `cut --help` prints below the options.
 const CUT_HELP: &str = "\
 What is cut off from a file is kept beside it, as NUMBER.raftlog.OFFSET.cut or
 NUMBER.rewrite.OFFSET.cut, and where one is there, with other bytes, as NUMBER.raftlog.OFFSET.2.cut.
-An engine that is opened over the folder does the same. --yes makes a file LOCK in the folder, and
-leaves it there. Status 1: the files are refused, and nothing is cut, or it isn't done.";
+An engine that is opened over the folder does the same. No command deletes these files. --yes makes
+a file LOCK in the folder, and leaves it there.
+
+Where the files are refused, the status is 1, and nothing is cut. Where a line on standard error says
+why it isn't done to its end, the status is 1 too. With --yes something may be cut then, also where
+only the output failed: look by raftlog check.";
 
 /// What `recover --help` prints below the options.
 const RECOVER_HELP: &str = "\
@@ -169,7 +187,7 @@ const APPEND: Word = Word {
     name: "append",
     value: "SEQ=PATH",
     kind: Kind::Texts,
-    help: "A file of the append queue: its number and its path",
+    help: "A file of the append queue: its number and its path; may be repeated, by rising numbers",
 };
 
 /// A single file of the rewrite queue.
@@ -177,7 +195,7 @@ const REWRITE: Word = Word {
     name: "rewrite",
     value: "SEQ=PATH",
     kind: Kind::Texts,
-    help: "A file of the rewrite queue: its number and its path",
+    help: "A file of the rewrite queue: its number and its path; may be repeated, by rising numbers",
 };
 
 /// The option to print lines of JSON.
@@ -193,7 +211,7 @@ const FORMAT: Word = Word {
     name: "format",
     value: "VERSION",
     kind: Kind::UpTo(2),
-    help: "The format version of the files: 1 or 2; else 2",
+    help: "The format version of the files: 1 or 2; 2 if left out",
 };
 
 /// The greatest number of threads.
@@ -201,7 +219,7 @@ const WORKERS: Word = Word {
     name: "workers",
     value: "COUNT",
     kind: Kind::UpTo(256),
-    help: "How many threads recover the tables at most: 1 to 256; else as many as there are processors",
+    help: "How many threads recover the tables at most: 1 to 256; as many as there are processors if left out",
 };
 
 /// The only region that is printed.
@@ -225,7 +243,7 @@ const TO: Word = Word {
     name: "to",
     value: "INDEX",
     kind: Kind::Number,
-    help: "Prints entries below this index",
+    help: "Prints entries below this index, without the one that has it",
 };
 
 /// The option to print values, and the bytes of entries.

@@ -32,12 +32,12 @@ pub(crate) fn check_batch(
     ensures fault { IfErr result IsAnyCorruption }
 {
     let items = batch.iter().as_slice();
-    if !knows_file(batch, file) && !are_in_file(items, file) {
+    if !was_decoded_in(batch, file) && !are_in_file(items, file) {
         return Err(Error::corruption(alloc, "an item can't stand in a batch of its file"));
     }
     match file.queue {
         LogQueue::Append => Ok(None),
-        LogQueue::Rewrite => group_marker(alloc, items),
+        LogQueue::Rewrite => parse_first_group_marker(alloc, items),
     }
 }
 
@@ -80,7 +80,7 @@ fn is_no_marker(item: &ReadItem<'_>) -> bool
 
 /// Tests whether `batch` was decoded as one of the file `file`, so that its items need no check. `false`
 /// doesn't say that they are wrong.
-fn knows_file(batch: &LogItemBatch, file: FileId) -> bool
+fn was_decoded_in(batch: &LogItemBatch, file: FileId) -> bool
     ensures { IsTrue result → AreInFile file batch.now }
 {
     match batch.decoded_in() {
@@ -95,7 +95,10 @@ fn knows_file(batch: &LogItemBatch, file: FileId) -> bool
 /// # Errors
 ///
 /// `Corruption` if the status of a marker is unknown; `Memory` if there is none for the text.
-fn group_marker(alloc: Global, items: &[LogItem]) -> Result<Option<(u64, AtomicGroupStatus)>>
+fn parse_first_group_marker(
+    alloc: Global,
+    items: &[LogItem],
+) -> Result<Option<(u64, AtomicGroupStatus)>>
     ensures markers { OnOk result (HaveStatus Rewrite (map item_of items.now)) }
     ensures marker { IfOk result (λ marker. marker ≡ first_marker (map item_of items.now)) }
     ensures refused { IfErr result

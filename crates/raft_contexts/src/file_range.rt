@@ -15,7 +15,7 @@ pub(crate) struct FileRange {
 
 impl FileRange {
     /// Returns the range that has `file` alone.
-    pub(crate) fn of(file: FileId) -> FileRange
+    pub(crate) fn of_file(file: FileId) -> FileRange
         ensures { range_shown result
             ≡ record { queue = file.queue; first_seq = file.seq; last_seq = file.seq } }
     {
@@ -27,7 +27,7 @@ impl FileRange {
     }
 
     /// Tests whether the files `files` are of `queue`. True for `None`, which stands for no files.
-    pub(crate) fn suits(files: Option<FileRange>, queue: LogQueue) -> bool
+    pub(crate) fn is_of_queue(files: Option<FileRange>, queue: LogQueue) -> bool
         ensures { IsTrue result ↔ Suits queue (ranges_shown files) }
     {
         match files {
@@ -38,7 +38,7 @@ impl FileRange {
 
     /// Tests whether the `newer` files begin at or above the last of the `older` ones. True if there are no
     /// older or no newer ones (`None`). Two segments may share a file, so the same number is allowed.
-    pub(crate) fn follows(older: Option<FileRange>, newer: Option<FileRange>) -> bool
+    pub(crate) fn is_followed_by(older: Option<FileRange>, newer: Option<FileRange>) -> bool
         ensures { result ≡ follows (ranges_shown older) (ranges_shown newer) }
     {
         match (older, newer) {
@@ -49,7 +49,10 @@ impl FileRange {
 
     /// Returns the range of the `older` files and of the `newer` ones, which follow them. `None` stands for
     /// no files.
-    pub(crate) fn joined(older: Option<FileRange>, newer: Option<FileRange>) -> Option<FileRange>
+    pub(crate) fn join_ranges(
+        older: Option<FileRange>,
+        newer: Option<FileRange>,
+    ) -> Option<FileRange>
         ensures { ranges_shown result ≡ joined_files (ranges_shown older) (ranges_shown newer) }
     {
         match (older, newer) {

@@ -57,7 +57,7 @@ impl MarkedTables {
     /// `Corruption` if entries leave a hole in the append queue; `InvalidArgument` if a table has records of
     /// the other queue; `Full` if the live records and those that the items name are more than 2^64 - 1;
     /// `Memory`. Some of the items may have been applied then.
-    pub(crate) fn take_items(&mut self, file: FileId, items: LogItemBatch) -> Result<()>
+    pub(crate) fn apply_items(&mut self, file: FileId, items: LogItemBatch) -> Result<()>
         requires { AreInFile file items }
         ensures ok { OnOk result
             (regions_after file.queue (regions_in self.old) (steps_of_items items)
@@ -72,7 +72,7 @@ impl MarkedTables {
             (live_in_all (other file.queue) self.new.accessor.tables
             ≤ live_in_all (other file.queue) self.old.accessor.tables) }
     {
-        self.take_each(file.queue, items.into_items())
+        self.apply_each_item(file.queue, items.into_items())
     }
 
     /// Applies the steps of `whole`, an atomic group of the rewrite queue that became whole. Then sets the
@@ -83,7 +83,7 @@ impl MarkedTables {
     ///
     /// `InvalidArgument` if a table has records of the append queue; `Full` if the live records and those
     /// that the group names are more than 2^64 - 1; `Memory`. Some of the steps may have been applied then.
-    pub(crate) fn take_group(&mut self, whole: WholeGroup) -> Result<()>
+    pub(crate) fn apply_group(&mut self, whole: WholeGroup) -> Result<()>
         requires steps { AreStepsOfQueue Rewrite (whole_shown whole).steps }
         requires seqs { (whole_shown whole).first_seq ≤ (whole_shown whole).last_seq }
         ensures ok { OnOk result
@@ -104,8 +104,8 @@ impl MarkedTables {
             last_seq,
         } = whole;
         let regions = items.regions()?;
-        self.take_steps(LogQueue::Rewrite, items.into_steps())?;
-        self.take_seqs(&regions, first_seq, last_seq)
+        self.apply_steps(LogQueue::Rewrite, items.into_steps())?;
+        self.set_group_files(&regions, first_seq, last_seq)
     }
 
     /// Returns how many regions have a region mark, kept or implied by their table.
@@ -113,7 +113,7 @@ impl MarkedTables {
         ensures value { result ≡ finite.len (regions_in self.now).marks }
         ensures few { result < 2 ^ 73 }
     {
-        self.accessor.tables_count() + self.marks.count_absent(&self.accessor) as u128
+        self.accessor.tables_count() + self.marks.count_without_table(&self.accessor) as u128
     }
 
     /// Returns how many deleted keys all region marks have together.
@@ -124,20 +124,20 @@ impl MarkedTables {
     }
 
     /// Applies `items`, which stand in a batch of `queue`, one after another. This is the loop of
-    /// [`MarkedTables::take_items`].
+    /// [`MarkedTables::apply_items`].
     ///
     /// # Errors
     ///
-    /// Those of [`take_items`](MarkedTables::take_items). The items before the refused one have been applied
-    /// then.
-    fn take_each(&mut self, queue: LogQueue, items: Vec<LogItem>) -> Result<()>
+    /// Those of [`apply_items`](MarkedTables::apply_items). The items before the refused one have been
+    /// applied then.
+    fn apply_each_item(&mut self, queue: LogQueue, items: Vec<LogItem>) -> Result<()>
         requires { AreStepsOfQueue queue (steps_of_items (map item_of items.items)) }
         ensures { AreStepsTaken queue (steps_of_items (map item_of items.items)) result self.old
             self.new }
     {
         for item in items {
-            if !self.try_run(queue, &item)? {
-                self.take_item(queue, item)?;
+            if !self.try_apply_run(queue, &item)? {
+                self.apply_item(queue, item)?;
             }
         }
         Ok(())
@@ -145,14 +145,14 @@ impl MarkedTables {
 
     /// Applies `item` if it is a run of entries, and returns whether it did. Returns false, and changes
     /// nothing, for any other item, for a run without entries, and for one that the table refuses, for lack
-    /// of memory too. [`take_item`](MarkedTables::take_item), which is slower, then applies it or gives the
+    /// of memory too. [`apply_item`](MarkedTables::apply_item), which is slower, then applies it or gives the
     /// error.
     ///
     /// # Errors
     ///
     /// `AllocError` if there is no memory for the region mark. The run is in its table then, and not in the
     /// mark.
-    fn try_run(&mut self, queue: LogQueue, item: &LogItem) -> AllocResult<bool>
+    fn try_apply_run(&mut self, queue: LogQueue, item: &LogItem) -> AllocResult<bool>
         requires { AreStepsOfQueue queue (steps_of_items (item_of item.now ∷ [])) }
         ensures { IfOk result (λ taken. MatchBool taken
             (AreStepsTaken queue (steps_of_items (item_of item.now ∷ [])) (Ok tt) self.old self.new)
@@ -165,7 +165,7 @@ impl MarkedTables {
         let Some(first) = entries.0.first() else {
             return Ok(false);
         };
-        let (start, _) = self.ends_of(id);
+        let (start, _) = self.ends_of_region(id);
         let Some(end) = self.accessor.try_replay_run(queue, id, &entries.0) else {
             return Ok(false);
         };
@@ -179,7 +179,12 @@ impl MarkedTables {
     /// # Errors
     ///
     /// `Memory` alone. Some of the regions have them then.
-    fn take_seqs(&mut self, regions: &[u64], first_seq: FileSeq, last_seq: FileSeq) -> Result<()>
+    fn set_group_files(
+        &mut self,
+        regions: &[u64],
+        first_seq: FileSeq,
+        last_seq: FileSeq,
+    ) -> Result<()>
         ensures { AreStepsTaken Rewrite (on_each regions.now (AtomicGroup first_seq last_seq))
             result self.old self.new }
     {
@@ -188,7 +193,7 @@ impl MarkedTables {
                 first_seq,
                 last_seq,
             };
-            self.take_step(LogQueue::Rewrite, *id, step)?;
+            self.apply_step(LogQueue::Rewrite, *id, step)?;
         }
         Ok(())
     }
@@ -198,15 +203,15 @@ impl MarkedTables {
     ///
     /// # Errors
     ///
-    /// Those of [`take_items`](MarkedTables::take_items). The step may be in the region mark then, and not in
-    /// the table.
-    fn take_item(&mut self, queue: LogQueue, item: LogItem) -> Result<()>
+    /// Those of [`apply_items`](MarkedTables::apply_items). The step may be in the region mark then, and not
+    /// in the table.
+    fn apply_item(&mut self, queue: LogQueue, item: LogItem) -> Result<()>
         requires { AreStepsOfQueue queue (steps_of_items (item_of item ∷ [])) }
         ensures { AreStepsTaken queue (steps_of_items (item_of item ∷ [])) result self.old
             self.new }
     {
         match RegionStep::of_item(item) {
-            Some(step) => self.take_step(queue, step.region, step.step),
+            Some(step) => self.apply_step(queue, step.region, step.step),
             None => Ok(()),
         }
     }
@@ -215,14 +220,14 @@ impl MarkedTables {
     ///
     /// # Errors
     ///
-    /// Those of [`take_items`](MarkedTables::take_items). The steps before the refused one have been applied
-    /// then.
-    fn take_steps(&mut self, queue: LogQueue, steps: Vec<RegionStep>) -> Result<()>
+    /// Those of [`apply_items`](MarkedTables::apply_items). The steps before the refused one have been
+    /// applied then.
+    fn apply_steps(&mut self, queue: LogQueue, steps: Vec<RegionStep>) -> Result<()>
         requires { AreStepsOfQueue queue (map region_step_shown steps.items) }
         ensures { AreStepsTaken queue (map region_step_shown steps.items) result self.old self.new }
     {
         for step in steps {
-            self.take_step(queue, step.region, step.step)?;
+            self.apply_step(queue, step.region, step.step)?;
         }
         Ok(())
     }
@@ -233,38 +238,38 @@ impl MarkedTables {
     ///
     /// # Errors
     ///
-    /// Those of [`take_items`](MarkedTables::take_items). The step may be in the region mark then, and not in
-    /// the table.
-    fn take_step(&mut self, queue: LogQueue, id: u64, step: Step) -> Result<()>
+    /// Those of [`apply_items`](MarkedTables::apply_items). The step may be in the region mark then, and not
+    /// in the table.
+    fn apply_step(&mut self, queue: LogQueue, id: u64, step: Step) -> Result<()>
         requires { IsStepOfQueue queue (step_shown step) }
         ensures { AreStepsTaken queue (one_step id (step_shown step)) result self.old self.new }
     {
         if is_put(&step) {
             return self.accessor.take_step(queue, id, step);
         }
-        let end = self.end_before(id, &step);
-        self.marks.keep(id, &self.accessor)?;
+        let end = self.end_before_run(id, &step);
+        self.marks.keep_implied_mark(id, &self.accessor)?;
         self.marks.add_step(id, queue, end, &step)?;
         self.accessor.take_step(queue, id, step)
     }
 
     /// Returns the index after the last entry of the region `id` if `step` is a run, whose region mark
     /// depends on it. Returns 0 for any other step, and if the region has no entries.
-    fn end_before(&self, id: u64, step: &Step) -> u64
+    fn end_before_run(&self, id: u64, step: &Step) -> u64
         ensures { (queue : LogQueue) (m : Mark)
             → joined_at queue result m (mark_of (step_shown step.now))
             ≡ joined_mark queue id m (finite.get self.now.accessor.tables id)
             (mark_of (step_shown step.now)) }
     {
         match step {
-            Step::Run(_) => self.ends_of(id).1,
+            Step::Run(_) => self.ends_of_region(id).1,
             _ => 0,
         }
     }
 
     /// Returns the index of the first entry of the region `id`, and the index after the last one. Both are 0
     /// if it has none.
-    fn ends_of(&self, id: u64) -> (u64, u64)
+    fn ends_of_region(&self, id: u64) -> (u64, u64)
         ensures ends { result ≡ (
           start_of (table_in self.now.accessor.tables id).entries,
           end_of (table_in self.now.accessor.tables id).entries,

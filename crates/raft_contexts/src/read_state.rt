@@ -63,8 +63,8 @@ impl ReadState {
     {
         self.check_file(file)?;
         match check_batch(self.alloc, &batch, file)? {
-            None => self.take_lone_batch(batch, file),
-            Some((id, status)) => self.take_group_batch(id, status, batch, file),
+            None => self.apply_lone_batch(batch, file),
+            Some((id, status)) => self.add_group_batch(id, status, batch, file),
         }
     }
 
@@ -84,8 +84,8 @@ impl ReadState {
             return self.replay(batch, file);
         }
         self.check_file(file)?;
-        self.regions.take_read(self.alloc, file, batch)?;
-        self.files = FileRange::joined(self.files, Some(FileRange::of(file)));
+        self.regions.apply_read_batch(self.alloc, file, batch)?;
+        self.files = FileRange::join_ranges(self.files, Some(FileRange::of_file(file)));
         Ok(())
     }
 
@@ -102,10 +102,10 @@ impl ReadState {
         ensures fault { IfErr result (λ e. (items : List Item)
             → IsBatchFault (reading_on (context_in self.now)) (event items file) e) }
     {
-        if !FileRange::suits(self.files, file.queue) {
+        if !FileRange::is_of_queue(self.files, file.queue) {
             return Err(Error::corruption(self.alloc, "a batch of the other queue"));
         }
-        if !FileRange::follows(self.files, Some(FileRange::of(file))) {
+        if !FileRange::is_followed_by(self.files, Some(FileRange::of_file(file))) {
             return Err(Error::corruption(self.alloc, "a batch of a file below the last one"));
         }
         Ok(())
@@ -117,14 +117,14 @@ impl ReadState {
     /// # Errors
     ///
     /// Those of [`ReadState::replay`]. Some of the items may have been applied then.
-    fn take_lone_batch(&mut self, batch: LogItemBatch, file: FileId) -> Result<()>
+    fn apply_lone_batch(&mut self, batch: LogItemBatch, file: FileId) -> Result<()>
         requires history { IsOfHistory (context_in self.old) }
         requires next { MayFollow (context_in self.old) (event batch file) }
         requires without_marker { marker_found file.queue batch ≡ None }
         ensures { IsTakenIn (event batch file) result self.old self.new }
     {
-        self.regions.take_items(file, batch)?;
-        self.files = FileRange::joined(self.files, Some(FileRange::of(file)));
+        self.regions.apply_items(file, batch)?;
+        self.files = FileRange::join_ranges(self.files, Some(FileRange::of_file(file)));
         Ok(())
     }
 
@@ -135,7 +135,7 @@ impl ReadState {
     /// # Errors
     ///
     /// Those of [`ReadState::replay`]. What is known of the group may be lost then.
-    fn take_group_batch(
+    fn add_group_batch(
         &mut self,
         id: u64,
         status: AtomicGroupStatus,
@@ -148,9 +148,9 @@ impl ReadState {
         ensures { IsTakenIn (event batch file) result self.old self.new }
     {
         let items = WaitingItems::of_items(batch.into_items())?;
-        let whole = self.groups.take_in(id, status, items, file.seq)?;
-        take_whole(&mut self.regions, whole)?;
-        self.files = FileRange::joined(self.files, Some(FileRange::of(file)));
+        let whole = self.groups.add_batch(id, status, items, file.seq)?;
+        apply_group_if_whole(&mut self.regions, whole)?;
+        self.files = FileRange::join_ranges(self.files, Some(FileRange::of_file(file)));
         Ok(())
     }
 
@@ -182,15 +182,15 @@ impl ReadState {
             ..
         } = newer;
         let wholes = self.groups.join(groups)?;
-        take_wholes(&mut self.regions, wholes)?;
+        apply_whole_groups(&mut self.regions, wholes)?;
         self.regions.join(queue, regions)?;
-        self.files = FileRange::joined(self.files, files);
+        self.files = FileRange::join_ranges(self.files, files);
         Ok(())
     }
 
     /// Returns how much the state holds: records, region marks and groups, deleted keys, cleaned regions and
     /// waiting items. Region marks that tables only imply count too.
-    pub(crate) fn kept(&self) -> Kept
+    pub(crate) fn count_kept(&self) -> Kept
         ensures { kept_shown result ≡ kept_of (context_in self.now) }
     {
         let accessor = &self.regions.accessor;
@@ -207,14 +207,14 @@ impl ReadState {
 
     /// Returns how much the state holds once the append queue was put over it. Only region marks that are
     /// kept count then, as tables imply none any more.
-    pub(crate) fn kept_overlaid(&self) -> Kept
+    pub(crate) fn count_kept_overlaid(&self) -> Kept
         ensures { kept_shown result ≡ kept_of (shown_with self.now.regions.marks self.now) }
     {
         let marks = &self.regions.marks;
         Kept {
             marks: marks.len() as u128 + self.groups.len() as u128,
             deleted_keys: marks.deleted_keys(),
-            ..self.kept()
+            ..self.count_kept()
         }
     }
 
@@ -231,10 +231,12 @@ impl ReadState {
         ensures fault { IfErr result (IsNeighborFault queue (reading_on (context_in self.now))
             (reading_on (context_in newer.now))) }
     {
-        if !FileRange::suits(self.files, queue) || !FileRange::suits(newer.files, queue) {
+        if !FileRange::is_of_queue(self.files, queue)
+            || !FileRange::is_of_queue(newer.files, queue)
+        {
             return Err(Error::invalid_argument(self.alloc, "a context of the other queue"));
         }
-        if !FileRange::follows(self.files, newer.files) {
+        if !FileRange::is_followed_by(self.files, newer.files) {
             return Err(Error::corruption(
                 self.alloc,
                 "the newer context begins in a file below the last one",
@@ -248,8 +250,8 @@ impl ReadState {
 ///
 /// # Errors
 ///
-/// Those of [`MarkedTables::take_group`]. Some of its steps may have been applied then.
-fn take_whole(regions: &mut MarkedTables, whole: Option<WholeGroup>) -> Result<()>
+/// Those of [`MarkedTables::apply_group`]. Some of its steps may have been applied then.
+fn apply_group_if_whole(regions: &mut MarkedTables, whole: Option<WholeGroup>) -> Result<()>
     requires { CanTakeEffectIfAny (option_map whole_shown whole) }
     ensures wholes { AreWholesTaken (region_steps_or (option_map whole_shown whole)) result
         regions.old regions.new }
@@ -258,7 +260,7 @@ fn take_whole(regions: &mut MarkedTables, whole: Option<WholeGroup>) -> Result<(
         regions.new.accessor.counts) }
 {
     match whole {
-        Some(whole) => regions.take_group(whole),
+        Some(whole) => regions.apply_group(whole),
         None => Ok(()),
     }
 }
@@ -267,16 +269,16 @@ fn take_whole(regions: &mut MarkedTables, whole: Option<WholeGroup>) -> Result<(
 ///
 /// # Errors
 ///
-/// Those of [`MarkedTables::take_group`]. The groups before the refused one, and some of its own steps, may
+/// Those of [`MarkedTables::apply_group`]. The groups before the refused one, and some of its own steps, may
 /// have been applied then.
-fn take_wholes(regions: &mut MarkedTables, wholes: Vec<WholeGroup>) -> Result<()>
+fn apply_whole_groups(regions: &mut MarkedTables, wholes: Vec<WholeGroup>) -> Result<()>
     requires { AllByRecursion CanTakeEffect (map whole_shown wholes.items) }
     ensures wholes { AreWholesTaken (region_steps_of_wholes (map whole_shown wholes.items)) result
         regions.old regions.new }
     ensures none { OnErr result (map whole_shown wholes.items ≢ []) }
 {
     for whole in wholes {
-        regions.take_group(whole)?;
+        regions.apply_group(whole)?;
     }
     Ok(())
 }

@@ -234,8 +234,8 @@ impl MemTableRecoverContext {
         ensures failed { IfErr result (λ e. (e ≡ Error.Failed) × (self.now.stage ≡ Failed)) }
     {
         match self.stage {
-            ContextStage::Reading => Ok(self.state.kept()),
-            ContextStage::Overlaid => Ok(self.state.kept_overlaid()),
+            ContextStage::Reading => Ok(self.state.count_kept()),
+            ContextStage::Overlaid => Ok(self.state.count_kept_overlaid()),
             ContextStage::Failed => Err(Error::Failed),
         }
     }

@@ -18,7 +18,7 @@ use std::alloc::Global;
 use std::marker::Model;
 
 /// The region marks that are kept, each under its region's id. Other regions may have a mark that isn't kept:
-/// their table implies it ([`implied_by`](RegionMarks::implied_by)).
+/// their table implies it ([`mark_implied_by`](RegionMarks::mark_implied_by)).
 ///
 /// They stand in 128 slots, as the tables do, or in none while no mark was needed.
 #[derive(Drop)]
@@ -78,12 +78,12 @@ impl RegionMarks {
     }
 
     /// Returns how many of the regions whose mark is kept here have no table in `tables`.
-    pub(crate) fn count_absent(&self, tables: &MemTableAccessor) -> u64
+    pub(crate) fn count_without_table(&self, tables: &MemTableAccessor) -> u64
         ensures { result ≡ count_absent tables.now.tables (keys_of (finite.entries self.now)) }
     {
         let mut count = 0;
         for slot in &self.slots {
-            count += slot.count_absent(tables);
+            count += slot.count_without_table(tables);
         }
         count
     }
@@ -101,7 +101,7 @@ impl RegionMarks {
             (record fresh { reach = Some start; cut = Some start }))) }
         ensures err { OnErr result (self.new ≡ self.old) }
     {
-        make_slots(&mut self.slots, self.alloc)?;
+        fill_missing_slots(&mut self.slots, self.alloc)?;
         self.slots[slot_of(id)].add_run(id, queue, end, start)
     }
 
@@ -118,7 +118,7 @@ impl RegionMarks {
             (joined_at queue end (mark_in self.old id) (mark_of (step_shown step.now)))) }
         ensures err { OnErr result (self.new ≡ self.old) }
     {
-        make_slots(&mut self.slots, self.alloc)?;
+        fill_missing_slots(&mut self.slots, self.alloc)?;
         self.slots[slot_of(id)].add_step(id, queue, end, step)
     }
 
@@ -142,18 +142,18 @@ impl RegionMarks {
             ≡ finite.insert self.old id
             (joined_at queue end_at_reach (mark_in self.old id) newer)) }
     {
-        make_slots(&mut self.slots, self.alloc)?;
+        fill_missing_slots(&mut self.slots, self.alloc)?;
         self.slots[slot_of(id)].join(id, queue, end_at_reach, newer)
     }
 
     /// Tests whether a region mark is kept for the region `id`.
-    fn has(&self, id: u64) -> bool
+    fn has_mark(&self, id: u64) -> bool
         ensures { result ≡ is_some (finite.get self.now id) }
     {
         if self.slots.is_empty() {
             return false;
         }
-        self.slots[slot_of(id)].has(id)
+        self.slots[slot_of(id)].has_mark(id)
     }
 
     /// Returns the region mark that is kept for the region `id`, or `None` if none is.
@@ -172,12 +172,12 @@ impl RegionMarks {
     /// # Errors
     ///
     /// `AllocError` if there is no memory. The region marks are unchanged then.
-    fn put_run(&mut self, id: u64, start: u64) -> AllocResult<()>
+    fn keep_run_mark(&mut self, id: u64, start: u64) -> AllocResult<()>
         ensures ok { OnOk result (self.new ≡ finite.insert self.old id (run_at start)) }
         ensures err { OnErr result (self.new ≡ self.old) }
     {
-        make_slots(&mut self.slots, self.alloc)?;
-        self.slots[slot_of(id)].put_run(id, start)
+        fill_missing_slots(&mut self.slots, self.alloc)?;
+        self.slots[slot_of(id)].keep_run_mark(id, start)
     }
 
     /// Keeps the region mark of the region `id`, if only its table in `tables` has implied it so far. Call it
@@ -187,18 +187,22 @@ impl RegionMarks {
     /// # Errors
     ///
     /// `AllocError` if there is no memory. The table still implies the mark then.
-    pub(crate) fn keep(&mut self, id: u64, tables: &MemTableAccessor) -> AllocResult<()>
+    pub(crate) fn keep_implied_mark(
+        &mut self,
+        id: u64,
+        tables: &MemTableAccessor,
+    ) -> AllocResult<()>
         ensures same { all_marks tables.now.tables self.new ≡ all_marks tables.now.tables self.old }
         ensures kept { OnOk result (mark_in self.new id ≡ mark_in (all_marks tables.now.tables self.old) id) }
     {
-        if self.has(id) {
+        if self.has_mark(id) {
             return Ok(());
         }
         let Some(table) = tables.get(id) else {
             return Ok(());
         };
         match table.first_index() {
-            Some(start) => self.put_run(id, start),
+            Some(start) => self.keep_run_mark(id, start),
             None => Ok(()),
         }
     }
@@ -221,7 +225,7 @@ impl RegionMarks {
     ) -> AllocResult<()>
         ensures { OnOk result (IsRunKept queue id start end first self.old self.new) }
     {
-        if self.has(id) {
+        if self.has_mark(id) {
             return self.add_run(id, queue, end, first);
         }
         if end == 0 {
@@ -230,13 +234,13 @@ impl RegionMarks {
         if start <= first && first <= end {
             return Ok(());
         }
-        self.put_run(id, start)?;
+        self.keep_run_mark(id, start)?;
         self.add_run(id, queue, end, first)
     }
 
     /// Returns the region mark that `table` implies, as long as none is kept for its region: the mark of one
     /// run of all its entries, or that of no step if it has none.
-    pub(crate) fn implied_by(&self, table: &MemTable) -> Mark
+    pub(crate) fn mark_implied_by(&self, table: &MemTable) -> Mark
         ensures { result ≡ implied_mark table.now }
     {
         match table.first_index() {
@@ -246,7 +250,7 @@ impl RegionMarks {
     }
 
     /// Returns the region mark of no step, which leaves older tables as they are.
-    pub(crate) fn of_no_step(&self) -> Mark
+    pub(crate) fn mark_of_no_step(&self) -> Mark
         ensures { result ≡ fresh }
     {
         Mark::new(self.alloc)
@@ -262,7 +266,7 @@ impl RegionMarks {
         requires { slot < 128 }
         ensures { self.new ≡ self.old }
     {
-        make_slots(&mut self.slots, self.alloc)?;
+        fill_missing_slots(&mut self.slots, self.alloc)?;
         self.slots[slot].make_room(count)
     }
 
@@ -282,7 +286,7 @@ impl RegionMarks {
 /// # Errors
 ///
 /// `AllocError` if there is no memory. `slots` is still empty then.
-fn make_slots(slots: &mut Vec<SlotMarks>, alloc: Global) -> AllocResult<()>
+fn fill_missing_slots(slots: &mut Vec<SlotMarks>, alloc: Global) -> AllocResult<()>
     ensures ok { OnOk result (slots.new.items ≡ with_slots slots.old.items) }
     ensures err { OnErr result (slots.new.items ≡ slots.old.items) }
 {

@@ -52,7 +52,7 @@ impl MarkedTables {
         };
         let tables = rewritten.tables()?;
         for table in &tables {
-            self.tell_table(table, &mut taken)?;
+            self.add_taken_from_table(table, &mut taken)?;
         }
         Ok(taken)
     }
@@ -62,15 +62,15 @@ impl MarkedTables {
     /// # Errors
     ///
     /// `Memory` alone. Some of it may have been added then.
-    fn tell_table(&self, table: &MemTable, taken: &mut TakenAway) -> Result<()>
+    fn add_taken_from_table(&self, table: &MemTable, taken: &mut TakenAway) -> Result<()>
         requires { AreOpen taken.old }
         ensures ok { OnOk result (taken.new ≡ with_table_told (regions_in self.now) table.now taken.old) }
         ensures memory { IfErr result (λ e. e ≡ Error.Memory) }
     {
         let region = table.region_id();
         match self.marks.get(region) {
-            Some(mark) => mark.tell(self.first_appended(region), table, taken),
-            None => self.tell_unmarked(table, taken),
+            Some(mark) => mark.add_taken_away(self.first_appended_index(region), table, taken),
+            None => self.add_taken_by_implied_mark(table, taken),
         }
     }
 
@@ -81,22 +81,22 @@ impl MarkedTables {
     /// # Errors
     ///
     /// `Memory` alone. Some of it may have been added then.
-    fn tell_unmarked(&self, table: &MemTable, taken: &mut TakenAway) -> Result<()>
+    fn add_taken_by_implied_mark(&self, table: &MemTable, taken: &mut TakenAway) -> Result<()>
         requires none_kept { finite.get self.now.marks table.now.region_id ≡ None }
         requires open { AreOpen taken.old }
         ensures ok { OnOk result (taken.new ≡ with_table_told (regions_in self.now) table.now taken.old) }
         ensures memory { IfErr result (λ e. e ≡ Error.Memory) }
     {
         let region = table.region_id();
-        let first = self.first_appended(region);
+        let first = self.first_appended_index(region);
         match self.accessor.get(region) {
-            Some(own) => tell_mark(&self.marks.implied_by(own), first, table, taken),
-            None => tell_mark(&self.marks.of_no_step(), first, table, taken),
+            Some(own) => add_taken_by_mark(&self.marks.mark_implied_by(own), first, table, taken),
+            None => add_taken_by_mark(&self.marks.mark_of_no_step(), first, table, taken),
         }
     }
 
     /// Returns the index of the first entry that `region` has in the append queue, or `None` if it has none.
-    fn first_appended(&self, region: u64) -> Option<u64>
+    fn first_appended_index(&self, region: u64) -> Option<u64>
         ensures { result ≡ first_of (table_in self.now.accessor.tables region).entries }
     {
         match self.accessor.get(region) {
@@ -113,7 +113,7 @@ impl MarkedTables {
 /// # Errors
 ///
 /// `Memory` alone. Some of it may have been added then.
-pub(crate) fn tell_mark(
+pub(crate) fn add_taken_by_mark(
     mark: &Mark,
     first: Option<u64>,
     table: &MemTable,
@@ -123,9 +123,9 @@ pub(crate) fn tell_mark(
     ensures ok { OnOk result (taken.new ≡ with_mark_told mark.now first table.now taken.old) }
     ensures memory { IfErr result (λ e. e ≡ Error.Memory) }
 {
-    match dropped_before(mark, first, table) {
-        Some(index) => tell_front(mark, index, table, taken),
-        None => tell_steps(mark, table, &mut taken.later),
+    match first_if_front_dropped(mark, first, table) {
+        Some(index) => add_dropped_front(mark, index, table, taken),
+        None => add_steps_of_mark(mark, table, &mut taken.later),
     }
 }
 
@@ -136,15 +136,15 @@ pub(crate) fn tell_mark(
 /// # Errors
 ///
 /// `Memory` alone. Some of it may have been added then.
-fn tell_front(mark: &Mark, index: u64, table: &MemTable, taken: &mut TakenAway) -> Result<()>
+fn add_dropped_front(mark: &Mark, index: u64, table: &MemTable, taken: &mut TakenAway) -> Result<()>
     requires dropped { is_front_dropped mark.now (Some index) table.now ≡ true }
     requires open { AreOpen taken.old }
     ensures ok { OnOk result (taken.new ≡ with_mark_told mark.now (Some index) table.now taken.old) }
     ensures memory { IfErr result (λ e. e ≡ Error.Memory) }
 {
-    tell_steps(mark, table, &mut taken.at_once)?;
-    let compacts = begins_below(table, index);
-    tell_if(
+    add_steps_of_mark(mark, table, &mut taken.at_once)?;
+    let compacts = has_entry_below(table, index);
+    add_command_if(
         compacts,
         table.region_id(),
         Command::Compact { index },
@@ -155,7 +155,7 @@ fn tell_front(mark: &Mark, index: u64, table: &MemTable, taken: &mut TakenAway) 
 /// Returns `first`, the index at which the appended entries begin, if rewritten entries that `mark` lets stay
 /// go because the appended ones don't join them ([`drops_front`]). Returns `None` otherwise, and if there are
 /// no appended entries.
-fn dropped_before(mark: &Mark, first: Option<u64>, table: &MemTable) -> Option<u64>
+fn first_if_front_dropped(mark: &Mark, first: Option<u64>, table: &MemTable) -> Option<u64>
     ensures { MatchOption result (is_front_dropped mark.now first table.now ≡ false)
         (λ index. (first ≡ Some index) × (is_front_dropped mark.now (Some index) table.now ≡ true)) }
 {
@@ -176,13 +176,14 @@ fn drops_front(mark: &Mark, first: u64, table: &MemTable) -> bool
         return false;
     }
     match mark.cut() {
-        Some(cut) => (first != cut || table.end() < cut) && has_between(table, mark.floor(), cut),
+        Some(cut) => (first != cut || table.end() < cut)
+            && has_entry_between(table, mark.floor(), cut),
         None => false,
     }
 }
 
 /// Tests whether `table` has an entry at or above index `from` and below index `below`.
-fn has_between(table: &MemTable, from: u64, below: u64) -> bool
+fn has_entry_between(table: &MemTable, from: u64, below: u64) -> bool
     ensures { result ≡ list_any (λ (e : EntryIndex). nat_le from e.index && nat_lt e.index below) table.now.entries }
 {
     table.holds_one_run();
@@ -198,16 +199,16 @@ fn has_between(table: &MemTable, from: u64, below: u64) -> bool
 /// # Errors
 ///
 /// `Memory` alone. Some of it may have been added then.
-fn tell_steps(mark: &Mark, table: &MemTable, told: &mut LogBatch) -> Result<()>
+fn add_steps_of_mark(mark: &Mark, table: &MemTable, told: &mut LogBatch) -> Result<()>
     requires { told.old.stage ≡ is_open }
     ensures ok { OnOk result (told.new ≡ record told.old {
       items = told.old.items ++ items_of_steps table.now.region_id (told_by_mark mark.now table.now);
     }) }
     ensures memory { IfErr result (λ e. e ≡ Error.Memory) }
 {
-    tell_bounds(mark, table, told)?;
+    add_bounds_of_mark(mark, table, told)?;
     let keys = table.keys_deleted_by(mark)?;
-    tell_deletions(table.region_id(), keys, told)
+    add_deletions(table.region_id(), keys, told)
 }
 
 /// Adds the commands by which `mark` takes something away from `table`, the region's rewritten table, to the
@@ -216,7 +217,7 @@ fn tell_steps(mark: &Mark, table: &MemTable, told: &mut LogBatch) -> Result<()>
 /// # Errors
 ///
 /// `Memory` alone. Some of it may have been added then.
-fn tell_bounds(mark: &Mark, table: &MemTable, told: &mut LogBatch) -> Result<()>
+fn add_bounds_of_mark(mark: &Mark, table: &MemTable, told: &mut LogBatch) -> Result<()>
     requires { told.old.stage ≡ is_open }
     ensures ok { OnOk result (told.new ≡ record told.old {
       items = told.old.items
@@ -226,15 +227,15 @@ fn tell_bounds(mark: &Mark, table: &MemTable, told: &mut LogBatch) -> Result<()>
 {
     let region = table.region_id();
     if mark.is_cleaned() {
-        return tell_if(has_records(table), region, Command::Clean, told);
+        return add_command_if(has_records(table), region, Command::Clean, told);
     }
     let index = mark.floor();
-    let compacts = begins_below(table, index);
-    tell_if(compacts, region, Command::Compact { index }, told)?;
+    let compacts = has_entry_below(table, index);
+    add_command_if(compacts, region, Command::Compact { index }, told)?;
     match mark.cut() {
         Some(index) => {
-            let truncates = ends_behind(table, index);
-            tell_if(truncates, region, Command::Truncate { index }, told)
+            let truncates = has_entry_from(table, index);
+            add_command_if(truncates, region, Command::Truncate { index }, told)
         }
         None => Ok(()),
     }
@@ -246,7 +247,7 @@ fn tell_bounds(mark: &Mark, table: &MemTable, told: &mut LogBatch) -> Result<()>
 /// # Errors
 ///
 /// `Memory` alone. The batch is unchanged then.
-fn tell_if(takes: bool, region: u64, command: Command, told: &mut LogBatch) -> Result<()>
+fn add_command_if(takes: bool, region: u64, command: Command, told: &mut LogBatch) -> Result<()>
     requires { told.old.stage ≡ is_open }
     ensures ok { OnOk result (told.new ≡ record told.old {
       items = told.old.items ++ (if takes then command_item region command ∷ [] else []);
@@ -264,7 +265,7 @@ fn tell_if(takes: bool, region: u64, command: Command, told: &mut LogBatch) -> R
 /// # Errors
 ///
 /// `Memory` alone. Some of them may have been added then.
-fn tell_deletions(region: u64, keys: Vec<Vec<u8>>, told: &mut LogBatch) -> Result<()>
+fn add_deletions(region: u64, keys: Vec<Vec<u8>>, told: &mut LogBatch) -> Result<()>
     requires { told.old.stage ≡ is_open }
     ensures ok { OnOk result (told.new ≡ record told.old {
       items = told.old.items ++ items_of_steps region (map Del (map (λ k. k.items) keys.items));
@@ -285,7 +286,7 @@ fn has_records(table: &MemTable) -> bool
 }
 
 /// Tests whether `table` has an entry below `index`, which a compaction would drop.
-fn begins_below(table: &MemTable, index: u64) -> bool
+fn has_entry_below(table: &MemTable, index: u64) -> bool
     ensures { result ≡ takes_of table.now (Compact index) }
 {
     table.holds_one_run();
@@ -296,7 +297,7 @@ fn begins_below(table: &MemTable, index: u64) -> bool
 }
 
 /// Tests whether `table` has an entry at or above `index`, which a truncation would drop.
-fn ends_behind(table: &MemTable, index: u64) -> bool
+fn has_entry_from(table: &MemTable, index: u64) -> bool
     ensures { result ≡ takes_of table.now (Truncate index) }
 {
     index < table.end()

@@ -72,7 +72,7 @@ impl GroupFront {
     /// # Errors
     ///
     /// `AllocError` if there is no memory. All items are dropped then.
-    fn led_by(self, mut items: WaitingItems) -> AllocResult<GroupFront>
+    fn with_older(self, mut items: WaitingItems) -> AllocResult<GroupFront>
         ensures { IfOk result (λ r. front_shown r ≡ led_by items (front_shown self)) }
     {
         match self {
@@ -102,7 +102,11 @@ impl WaitingGroup {
 
     /// Returns what one batch tells of a group: the batch has a marker of it with this `status`, has these
     /// `items`, and is in the file numbered `seq`.
-    pub fn one_marker(status: AtomicGroupStatus, items: WaitingItems, seq: FileSeq) -> WaitingGroup
+    pub fn of_one_marker(
+        status: AtomicGroupStatus,
+        items: WaitingItems,
+        seq: FileSeq,
+    ) -> WaitingGroup
         ensures { group_shown result ≡ one_marker status items seq }
     {
         let (front, stretch) = match status {
@@ -143,10 +147,10 @@ impl WaitingGroup {
             ≡ whole_group (group_shown self) (group_shown newer)) }
     {
         let (front, stretch, whole) = match (self.front, newer.front) {
-            (GroupFront::Open(items), front) => (front.led_by(items)?, newer.stretch, None),
-            (front, GroupFront::Open(items)) => (front, going_on(self.stretch, items)?, None),
+            (GroupFront::Open(items), front) => (front.with_older(items)?, newer.stretch, None),
+            (front, GroupFront::Open(items)) => (front, extend_stretch(self.stretch, items)?, None),
             (front, GroupFront::Ended(items, last_seq)) => {
-                let whole = ended(self.stretch, items, last_seq)?;
+                let whole = end_stretch(self.stretch, items, last_seq)?;
                 (front, newer.stretch, whole)
             }
             (front, GroupFront::Begun) => (front, newer.stretch, None),
@@ -161,7 +165,10 @@ impl WaitingGroup {
 /// # Errors
 ///
 /// `AllocError` if there is no memory. Stretch and items are dropped then.
-fn going_on(stretch: Option<OpenStretch>, items: WaitingItems) -> AllocResult<Option<OpenStretch>>
+fn extend_stretch(
+    stretch: Option<OpenStretch>,
+    items: WaitingItems,
+) -> AllocResult<Option<OpenStretch>>
     ensures { IfOk result (λ r. stretch_shown r ≡ carried_stretch (stretch_shown stretch) items) }
 {
     let Some(mut open) = stretch else {
@@ -177,7 +184,7 @@ fn going_on(stretch: Option<OpenStretch>, items: WaitingItems) -> AllocResult<Op
 /// # Errors
 ///
 /// `AllocError` if there is no memory. Stretch and items are dropped then.
-fn ended(
+fn end_stretch(
     stretch: Option<OpenStretch>,
     items: WaitingItems,
     last_seq: FileSeq,
@@ -185,7 +192,7 @@ fn ended(
     ensures { IfOk result (λ r. option_map whole_shown r ≡ whole_of (stretch_shown stretch)
         (Ended items last_seq)) }
 {
-    let open = going_on(stretch, items)?;
+    let open = extend_stretch(stretch, items)?;
     Ok(open.map(|open| WholeGroup {
         items: open.items,
         first_seq: open.first_seq,

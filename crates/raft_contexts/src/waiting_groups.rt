@@ -71,7 +71,7 @@ impl WaitingGroups {
     /// # Errors
     ///
     /// `AllocError` if there is no memory. What is known of the group may be lost then.
-    pub fn take_in(
+    pub fn add_batch(
         &mut self,
         id: u64,
         status: AtomicGroupStatus,
@@ -89,7 +89,7 @@ impl WaitingGroups {
             → IfOk result (λ w. steps_of r (h ++ batch_with_marker items id status seq ∷ [])
             ≡ steps_of r h ++ steps_or r (option_map whole_shown w)) }
     {
-        self.join_one(id, WaitingGroup::one_marker(status, items, seq))
+        self.join_group(id, WaitingGroup::of_one_marker(status, items, seq))
     }
 
     /// Joins `newer`, what is known of the groups of the history that follows directly, to this. Returns the
@@ -111,8 +111,8 @@ impl WaitingGroups {
         let mut rest = newer;
         let mut wholes = Vec::new(self.alloc);
         while let Some((id, group)) = rest.take_first() {
-            let whole = self.join_one(id, group)?;
-            push_some(&mut wholes, whole)?;
+            let whole = self.join_group(id, group)?;
+            push_if_some(&mut wholes, whole)?;
         }
         Ok(wholes)
     }
@@ -123,13 +123,13 @@ impl WaitingGroups {
     /// # Errors
     ///
     /// `AllocError` if there is no memory. What is known of the group may be lost then.
-    fn join_one(&mut self, id: u64, newer: WaitingGroup) -> AllocResult<Option<WholeGroup>>
+    fn join_group(&mut self, id: u64, newer: WaitingGroup) -> AllocResult<Option<WholeGroup>>
         ensures known { OnOk result (self.new
             ≡ finite.insert self.old id (joined_group (known_of self.old id) (group_shown newer))) }
         ensures whole { IfOk result (λ w. option_map whole_shown w
             ≡ whole_group (known_of self.old id) (group_shown newer)) }
     {
-        let older = take_out(&mut self.groups, self.alloc, id);
+        let older = remove_group(&mut self.groups, self.alloc, id);
         let (group, whole) = older.join(newer)?;
         self.groups.insert(id, group)?;
         Ok(whole)
@@ -150,7 +150,7 @@ impl WaitingGroups {
 
 /// Removes the group `id` from `groups` and returns what is known of it. If `groups` doesn't have it, that is
 /// nothing: a group without items, which uses `alloc`.
-fn take_out(groups: &mut BTreeMap<u64, WaitingGroup>, alloc: Global, id: u64) -> WaitingGroup
+fn remove_group(groups: &mut BTreeMap<u64, WaitingGroup>, alloc: Global, id: u64) -> WaitingGroup
     requires { IsOrdered nat_cmp groups.old }
     ensures known { group_shown result ≡ known_of (seen_entries groups.old.entries) id }
     ensures rest { groups.new.entries ≡ remove_entry (is_at (nat_cmp id)) groups.old.entries }
@@ -167,7 +167,7 @@ fn take_out(groups: &mut BTreeMap<u64, WaitingGroup>, alloc: Global, id: u64) ->
 /// # Errors
 ///
 /// `AllocError` if there is no memory. `wholes` is unchanged then, and the group is dropped.
-fn push_some(wholes: &mut Vec<WholeGroup>, whole: Option<WholeGroup>) -> AllocResult<()>
+fn push_if_some(wholes: &mut Vec<WholeGroup>, whole: Option<WholeGroup>) -> AllocResult<()>
     ensures { OnOk result (map whole_shown wholes.new.items
         ≡ map whole_shown wholes.old.items ++ option_to_list (option_map whole_shown whole)) }
 {

@@ -88,7 +88,7 @@ impl WaitingItems {
         let mut ids: Vec<u64> = Vec::new(*self.steps.allocator());
         for step in &self.steps {
             let id = step.region;
-            if !is_last(&ids, id) {
+            if !ends_with_id(&ids, id) {
                 ids.push(id)?;
             }
         }
@@ -104,7 +104,7 @@ impl WaitingItems {
 }
 
 /// Tests whether the last of `ids` is `id`. False if there are none.
-fn is_last(ids: &[u64], id: u64) -> bool
+fn ends_with_id(ids: &[u64], id: u64) -> bool
     ensures { (r : ℕ) → IsTrue result → list_any (λ i. r == i) (ids.now ++ id ∷ []) ≡ list_any
         (λ i. r == i) ids.now }
 {

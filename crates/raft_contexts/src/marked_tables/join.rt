@@ -37,19 +37,19 @@ impl MarkedTables {
             mut accessor,
             marks,
         } = newer;
-        self.join_regions(queue, marks, &mut accessor)?;
+        self.join_marked(queue, marks, &mut accessor)?;
         self.accessor.append_cleaned(&mut accessor)?;
-        self.join_rest(queue, accessor)
+        self.join_unmarked(queue, accessor)
     }
 
     /// Joins each region whose newer region mark is kept in `marks`: its mark, and its newer table, which is
     /// taken out of `tables`. The tables of the other regions stay there, for
-    /// [`join_rest`](MarkedTables::join_rest).
+    /// [`join_unmarked`](MarkedTables::join_unmarked).
     ///
     /// # Errors
     ///
     /// Those of [`join`](MarkedTables::join). Some of the regions may have been joined then.
-    fn join_regions(
+    fn join_marked(
         &mut self,
         queue: LogQueue,
         marks: RegionMarks,
@@ -62,7 +62,7 @@ impl MarkedTables {
         let mut number = 0;
         for slot in marks.into_slots() {
             self.make_room(number, slot.len())?;
-            self.join_slot(queue, slot, tables)?;
+            self.join_marked_slot(queue, slot, tables)?;
             number += 1;
         }
         Ok(())
@@ -88,7 +88,7 @@ impl MarkedTables {
     /// # Errors
     ///
     /// Those of [`join`](MarkedTables::join). Some of the regions may have been joined then.
-    fn join_slot(
+    fn join_marked_slot(
         &mut self,
         queue: LogQueue,
         marks: SlotMarks,
@@ -138,8 +138,8 @@ impl MarkedTables {
         ensures cleaned { self.new.accessor.cleaned ≡ self.old.accessor.cleaned }
     {
         self.accessor.counts_are_exact();
-        self.marks.keep(id, &self.accessor)?;
-        let start = mark.run_alone();
+        self.marks.keep_implied_mark(id, &self.accessor)?;
+        let start = mark.kept_run_start();
         let mark = mark.into_mark();
         let ends = self.accessor.join_table(queue, id, newer, &mark)?;
         if let Some(start) = start {
@@ -154,7 +154,7 @@ impl MarkedTables {
     /// # Errors
     ///
     /// Those of [`join`](MarkedTables::join). Some of the regions may have been joined then.
-    fn join_rest(&mut self, queue: LogQueue, tables: MemTableAccessor) -> Result<()>
+    fn join_unmarked(&mut self, queue: LogQueue, tables: MemTableAccessor) -> Result<()>
         requires older { live_in_all (other queue) self.old.accessor.tables ≡ 0 }
         requires newer { live_in_all (other queue) tables.tables ≡ 0 }
         ensures ok { AreRunsOver queue (implied_marks tables.tables) tables.tables
@@ -172,7 +172,7 @@ impl MarkedTables {
         let mut number = 0;
         for slot in tables.into_slots() {
             self.accessor.make_room(number, slot.len())?;
-            self.join_tables(queue, slot)?;
+            self.join_unmarked_slot(queue, slot)?;
             number += 1;
         }
         Ok(())
@@ -184,7 +184,7 @@ impl MarkedTables {
     /// # Errors
     ///
     /// Those of [`join`](MarkedTables::join). Some of the regions may have been joined then.
-    fn join_tables(&mut self, queue: LogQueue, tables: RegionTables) -> Result<()>
+    fn join_unmarked_slot(&mut self, queue: LogQueue, tables: RegionTables) -> Result<()>
         requires older { live_in_all (other queue) self.old.accessor.tables ≡ 0 }
         requires newer { live_in_all (other queue) tables ≡ 0 }
         ensures ok { AreRunsOver queue (implied_marks tables) tables self.old.accessor.tables
@@ -199,7 +199,7 @@ impl MarkedTables {
     {
         tables.tables_are_own();
         for (id, table) in tables.into_entries() {
-            self.join_implied(queue, id, table)?;
+            self.join_unmarked_region(queue, id, table)?;
         }
         Ok(())
     }
@@ -210,7 +210,7 @@ impl MarkedTables {
     /// # Errors
     ///
     /// Those of [`join`](MarkedTables::join). The table may have been joined then, and the mark not.
-    fn join_implied(&mut self, queue: LogQueue, id: u64, newer: BoxedTable) -> Result<()>
+    fn join_unmarked_region(&mut self, queue: LogQueue, id: u64, newer: BoxedTable) -> Result<()>
         requires region { newer.region_id ≡ id }
         requires own { live_of (other queue) newer ≡ 0 }
         requires older { queue ≡ Rewrite → live_in_all Append self.old.accessor.tables ≡ 0 }
@@ -232,7 +232,7 @@ impl MarkedTables {
     {
         let table = newer.get();
         let first = table.first_index();
-        let mark = self.marks.implied_by(table);
+        let mark = self.marks.mark_implied_by(table);
         let ends = self.accessor.join_table(queue, id, Some(newer), &mark)?;
         match first {
             Some(first) => Ok(self.marks.mark_run(queue, id, ends.0, ends.1, first)?),

@@ -30,25 +30,25 @@ impl MarkedTables {
             mut accessor,
             marks,
         } = appended;
-        self.overlay_regions(marks, &mut accessor)?;
+        self.overlay_marked(marks, &mut accessor)?;
         self.accessor.take_cleaned(&mut accessor);
-        self.overlay_rest(accessor)
+        self.overlay_unmarked(accessor)
     }
 
     /// Puts each region of the append queue whose region mark is kept in `marks` over the rewritten one, and
     /// takes its table, if it has one, out of `appended`. The tables of the other regions stay there, for
-    /// [`overlay_rest`](MarkedTables::overlay_rest).
+    /// [`overlay_unmarked`](MarkedTables::overlay_unmarked).
     ///
     /// # Errors
     ///
     /// Those of [`overlay`](MarkedTables::overlay). Some of the regions may have been overlaid then.
-    fn overlay_regions(&mut self, marks: RegionMarks, appended: &mut MemTableAccessor) -> Result<()>
+    fn overlay_marked(&mut self, marks: RegionMarks, appended: &mut MemTableAccessor) -> Result<()>
         requires own { live_in_all Rewrite appended.old.tables ≡ 0 }
         ensures { AreMarksOverlaid marks result self.old.accessor.tables self.new.accessor.tables
             appended.old appended.new }
     {
         for slot in marks.into_slots() {
-            self.overlay_slot(slot, appended)?;
+            self.overlay_marked_slot(slot, appended)?;
         }
         Ok(())
     }
@@ -59,7 +59,11 @@ impl MarkedTables {
     /// # Errors
     ///
     /// Those of [`overlay`](MarkedTables::overlay). Some of the regions may have been overlaid then.
-    fn overlay_slot(&mut self, marks: SlotMarks, appended: &mut MemTableAccessor) -> Result<()>
+    fn overlay_marked_slot(
+        &mut self,
+        marks: SlotMarks,
+        appended: &mut MemTableAccessor,
+    ) -> Result<()>
         requires own { live_in_all Rewrite appended.old.tables ≡ 0 }
         ensures { AreMarksOverlaid marks result self.old.accessor.tables self.new.accessor.tables
             appended.old appended.new }
@@ -78,7 +82,7 @@ impl MarkedTables {
     /// # Errors
     ///
     /// Those of [`overlay`](MarkedTables::overlay). Some of the regions may have been overlaid then.
-    fn overlay_rest(&mut self, appended: MemTableAccessor) -> Result<()>
+    fn overlay_unmarked(&mut self, appended: MemTableAccessor) -> Result<()>
         requires own { live_in_all Rewrite appended.tables ≡ 0 }
         ensures ok { AreRunsOverlaid (implied_marks appended.tables) appended.tables
             self.old.accessor.tables
@@ -91,7 +95,7 @@ impl MarkedTables {
             + live_in_all q appended.tables) e) }
     {
         for slot in appended.into_slots() {
-            self.overlay_tables(slot)?;
+            self.overlay_unmarked_slot(slot)?;
         }
         Ok(())
     }
@@ -102,7 +106,7 @@ impl MarkedTables {
     /// # Errors
     ///
     /// Those of [`overlay`](MarkedTables::overlay). Some of the regions may have been overlaid then.
-    fn overlay_tables(&mut self, appended: RegionTables) -> Result<()>
+    fn overlay_unmarked_slot(&mut self, appended: RegionTables) -> Result<()>
         requires own { live_in_all Rewrite appended ≡ 0 }
         ensures ok { AreRunsOverlaid (implied_marks appended) appended self.old.accessor.tables
             → OnOk result (AreOverlaid
@@ -116,7 +120,7 @@ impl MarkedTables {
     {
         appended.tables_are_own();
         for (id, table) in appended.into_entries() {
-            let mark = self.marks.implied_by(table.get());
+            let mark = self.marks.mark_implied_by(table.get());
             self.accessor.overlay_table(id, Some(table), &mark)?;
         }
         Ok(())

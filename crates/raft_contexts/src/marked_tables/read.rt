@@ -16,8 +16,8 @@ impl MarkedTables {
     ///
     /// # Errors
     ///
-    /// Those of [`take_items`](MarkedTables::take_items). Some of the items may have been applied then.
-    pub(crate) fn take_read(
+    /// Those of [`apply_items`](MarkedTables::apply_items). Some of the items may have been applied then.
+    pub(crate) fn apply_read_batch(
         &mut self,
         alloc: Global,
         file: FileId,
@@ -35,7 +35,7 @@ impl MarkedTables {
         for item in items {
             // each item takes its spans from the front of those that are left
             let (own, behind) = rest.split_at(item.span_count());
-            self.take_read_item(alloc, file.queue, place, item, own)?;
+            self.apply_read_item(alloc, file.queue, place, item, own)?;
             rest = behind;
         }
         Ok(())
@@ -46,9 +46,9 @@ impl MarkedTables {
     ///
     /// # Errors
     ///
-    /// Those of [`take_items`](MarkedTables::take_items). The step may be in the table or the region mark
+    /// Those of [`apply_items`](MarkedTables::apply_items). The step may be in the table or the region mark
     /// alone then.
-    fn take_read_item(
+    fn apply_read_item(
         &mut self,
         alloc: Global,
         queue: LogQueue,
@@ -63,14 +63,14 @@ impl MarkedTables {
         ensures { AreStepsTaken queue (steps_of_items (item_shown place item.now spans.now ∷ []))
             result self.old self.new }
     {
-        if self.try_spans(queue, place, item, spans)? {
+        if self.try_apply_spans(queue, place, item, spans)? {
             return Ok(());
         }
-        if self.try_put(place, item) {
+        if self.try_apply_put(place, item) {
             return Ok(());
         }
         let item = item.to_item(alloc, place, spans)?;
-        self.take_item(queue, item)
+        self.apply_item(queue, item)
     }
 
     /// Applies `item` if it is a run of entries, and returns whether it did. The entries stand at `place`,
@@ -83,7 +83,7 @@ impl MarkedTables {
     ///
     /// `AllocError` if there is no memory for the region mark. The run is in its table then, and not in the
     /// mark.
-    fn try_spans(
+    fn try_apply_spans(
         &mut self,
         queue: LogQueue,
         place: FileBlockHandle,
@@ -122,7 +122,7 @@ impl MarkedTables {
     /// Applies `item` if it puts a value in a region that has entries, and returns whether it did. The batch
     /// stands at `place`. Returns false, and changes nothing, for any other item, for a group marker, and if
     /// the table refuses the put, for lack of memory too.
-    fn try_put(&mut self, place: FileBlockHandle, item: &ReadItem<'_>) -> bool
+    fn try_apply_put(&mut self, place: FileBlockHandle, item: &ReadItem<'_>) -> bool
         ensures { (queue : LogQueue) (spans : List (ℕ × ℕ)) → MatchBool result
             (AreStepsTaken queue (steps_of_items (item_shown place item.now spans ∷ []))
             (Ok tt) self.old self.new)

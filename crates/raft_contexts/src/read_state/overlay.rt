@@ -29,8 +29,8 @@ impl ReadState {
         ensures fault { IfErr result (IsMergeAppendFault (reading_on (context_in self.old))
             (reading_on (context_in append))) }
     {
-        self.check_append(&append)?;
-        self.put_append(append)
+        self.check_queues(&append)?;
+        self.overlay_append_tables(append)
     }
 
     /// Checks that this was read of the rewrite queue, and `append` of the append queue. What has read
@@ -39,14 +39,14 @@ impl ReadState {
     /// # Errors
     ///
     /// `InvalidArgument` if they weren't; `Memory` if there is none for its text.
-    fn check_append(&self, append: &ReadState) -> Result<()>
+    fn check_queues(&self, append: &ReadState) -> Result<()>
         ensures queues { OnOk result (AreOfBothQueues (context_in self.now)
             (context_in append.now)) }
         ensures fault { IfErr result (IsMergeAppendFault (reading_on (context_in self.now))
             (reading_on (context_in append.now))) }
     {
-        if !FileRange::suits(self.files, LogQueue::Rewrite)
-            || !FileRange::suits(append.files, LogQueue::Append)
+        if !FileRange::is_of_queue(self.files, LogQueue::Rewrite)
+            || !FileRange::is_of_queue(append.files, LogQueue::Append)
         {
             return Err(Error::invalid_argument(self.alloc, "a context of the other queue"));
         }
@@ -60,7 +60,7 @@ impl ReadState {
     ///
     /// `Full` if both together have more than 2^64 - 1 records; `Memory`. Some of the regions may have been
     /// overlaid then.
-    fn put_append(&mut self, append: ReadState) -> Result<()>
+    fn overlay_append_tables(&mut self, append: ReadState) -> Result<()>
         requires rewritten { IsOfHistory (context_in self.old) }
         requires appended { IsOfHistory (context_in append) }
         requires queues { AreOfBothQueues (context_in self.old) (context_in append) }

@@ -62,7 +62,7 @@ impl SlotMarks {
     }
 
     /// Tests whether a region mark is kept for the region `id`.
-    pub(crate) fn has(&self, id: u64) -> bool
+    pub(crate) fn has_mark(&self, id: u64) -> bool
         ensures { result ≡ is_some (finite.get self.now id) }
     {
         self.marks.contains_key(&id)
@@ -82,11 +82,11 @@ impl SlotMarks {
     ///
     /// `AllocError` if there is no memory, or too many marks are kept (`MOST_MARKS`). The region marks are
     /// unchanged then.
-    pub(crate) fn put_run(&mut self, id: u64, start: u64) -> AllocResult<()>
+    pub(crate) fn keep_run_mark(&mut self, id: u64, start: u64) -> AllocResult<()>
         ensures ok { OnOk result (self.new ≡ finite.insert self.old id (run_at start)) }
         ensures err { OnErr result (self.new ≡ self.old) }
     {
-        self.put(id, SmallMark::of_run(self.alloc, start))
+        self.keep_mark(id, SmallMark::of_run(self.alloc, start))
     }
 
     /// Returns how many deleted keys all kept region marks have together.
@@ -102,13 +102,13 @@ impl SlotMarks {
     }
 
     /// Returns how many of the regions whose mark is kept here have no table in `tables`.
-    pub(crate) fn count_absent(&self, tables: &MemTableAccessor) -> u64
+    pub(crate) fn count_without_table(&self, tables: &MemTableAccessor) -> u64
         ensures value { result ≡ count_absent tables.now.tables (keys_of (finite.entries self.now)) }
         ensures few { result < 2 ^ 57 }
     {
         let mut count = 0;
         for id in self.marks.keys() {
-            count += absent(tables, *id);
+            count += one_if_absent(tables, *id);
         }
         count
     }
@@ -136,7 +136,7 @@ impl SlotMarks {
         if let Some(mark) = self.marks.get_mut(&id) {
             return mark.add_run(queue, end, start);
         }
-        self.put(id, SmallMark::of_run(self.alloc, start))
+        self.keep_mark(id, SmallMark::of_run(self.alloc, start))
     }
 
     /// Adds `step` to the region mark of the region `id`, or to that of no step if none is kept, and keeps
@@ -228,8 +228,8 @@ impl SlotMarks {
         if let Some(mark) = self.marks.get_mut(&id) {
             return mark.update(change);
         }
-        let mark = SmallMark::changed(self.alloc, Mark::new(self.alloc), change)?;
-        self.put(id, mark)
+        let mark = SmallMark::from_changed(self.alloc, Mark::new(self.alloc), change)?;
+        self.keep_mark(id, mark)
     }
 
     /// Keeps `mark` as the region mark of the region `id`, in place of the one that is kept.
@@ -238,7 +238,7 @@ impl SlotMarks {
     ///
     /// `AllocError` if there is no memory, or `MOST_MARKS` are kept already. The region marks are unchanged
     /// then.
-    fn put(&mut self, id: u64, mark: SmallMark) -> AllocResult<()>
+    fn keep_mark(&mut self, id: u64, mark: SmallMark) -> AllocResult<()>
         ensures ok { OnOk result (self.new ≡ finite.insert self.old id mark) }
         ensures err { OnErr result (self.new ≡ self.old) }
     {
@@ -251,7 +251,7 @@ impl SlotMarks {
 }
 
 /// Returns 1 if the region `id` has no table in `tables`, else 0.
-fn absent(tables: &MemTableAccessor, id: u64) -> u64
+fn one_if_absent(tables: &MemTableAccessor, id: u64) -> u64
     ensures { result ≡ absent_in tables.now.tables id }
 {
     u64::from(tables.get(id).is_none())

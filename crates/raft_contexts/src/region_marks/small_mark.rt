@@ -5,7 +5,7 @@ ghost use Rattle.raft_contexts.specs.Common.{LogQueue, fresh, joined_at, MayChan
 ghost use Rattle.raft_contexts.specs.TakenBatches.{AreOpen, with_mark_told};
 ghost use Rattle.std.specs.FinSet as finset;
 
-use crate::taken_away::{TakenAway, tell_mark};
+use crate::taken_away::{TakenAway, add_taken_by_mark};
 use raft_base::{AllocResult, Error, LogQueue, Result};
 use raft_table::{Mark, MemTable};
 use std::alloc::Global;
@@ -60,10 +60,10 @@ impl SmallMark {
     /// # Errors
     ///
     /// `AllocError` if there is no memory for the box. `mark` is dropped then.
-    fn of(alloc: Global, mark: Mark) -> AllocResult<SmallMark>
+    fn from_mark(alloc: Global, mark: Mark) -> AllocResult<SmallMark>
         ensures { IfOk result (λ kept. kept ≡ mark) }
     {
-        if let Some(start) = only_run(&mark) {
+        if let Some(start) = find_only_run(&mark) {
             return Ok(SmallMark::of_run(alloc, start));
         }
         let form = Form::Whole(Box::new(alloc, mark)?);
@@ -81,13 +81,13 @@ impl SmallMark {
     }
 
     /// Adds what this region mark takes away from `table`, the region's rewritten table, to `taken`, as
-    /// [`tell_mark`] does. `first` is the index of the region's first entry in the append queue, or `None` if
-    /// it has none.
+    /// [`add_taken_by_mark`] does. `first` is the index of the region's first entry in the append queue, or
+    /// `None` if it has none.
     ///
     /// # Errors
     ///
     /// `Memory` alone. Some of it may have been added then.
-    pub(crate) fn tell(
+    pub(crate) fn add_taken_away(
         &self,
         first: Option<u64>,
         table: &MemTable,
@@ -98,13 +98,18 @@ impl SmallMark {
         ensures memory { IfErr result (λ e. e ≡ Error.Memory) }
     {
         match &self.form {
-            Form::Run(start) => tell_mark(&Mark::of_run(self.alloc, *start), first, table, taken),
-            Form::Whole(mark) => tell_mark(mark, first, table, taken),
+            Form::Run(start) => add_taken_by_mark(
+                &Mark::of_run(self.alloc, *start),
+                first,
+                table,
+                taken,
+            ),
+            Form::Whole(mark) => add_taken_by_mark(mark, first, table, taken),
         }
     }
 
     /// Returns the start of the run if the mark is kept as that of one run alone, else `None`.
-    pub(crate) fn run_alone(&self) -> Option<u64>
+    pub(crate) fn kept_run_start(&self) -> Option<u64>
         ensures { IfSome result (λ start. self.now
             ≡ record fresh { reach = Some start; cut = Some start }) }
     {
@@ -120,7 +125,7 @@ impl SmallMark {
     {
         match &self.form {
             Form::Run(_) => 0,
-            Form::Whole(mark) => mark.deleted().len(),
+            Form::Whole(mark) => mark.deleted_keys().len(),
         }
     }
 
@@ -135,7 +140,7 @@ impl SmallMark {
             (record fresh { reach = Some start; cut = Some start })) }
         ensures err { OnErr result (self.new ≡ self.old) }
     {
-        if self.covers(end, start) {
+        if self.covers_run(end, start) {
             return Ok(());
         }
         self.update(move |mark: &mut Mark| {
@@ -164,7 +169,7 @@ impl SmallMark {
             Form::Whole(mark) => change(mark),
             Form::Run(start) => {
                 let mark = Mark::of_run(self.alloc, *start);
-                *self = SmallMark::changed(self.alloc, mark, change)?;
+                *self = SmallMark::from_changed(self.alloc, mark, change)?;
                 Ok(())
             }
         }
@@ -176,7 +181,7 @@ impl SmallMark {
     ///
     /// That of `change`, or `AllocError` if there is no memory to keep the result. `mark` is dropped then.
     #[inline(always)]
-    pub(crate) fn changed<F: FnOnce(&mut Mark) -> AllocResult<()>>(
+    pub(crate) fn from_changed<F: FnOnce(&mut Mark) -> AllocResult<()>>(
         alloc: Global,
         mut mark: Mark,
         change: F,
@@ -187,13 +192,13 @@ impl SmallMark {
         ensures { IfOk result (ChangesMark F.FnOnce change mark (Ok tt)) }
     {
         change(&mut mark)?;
-        SmallMark::of(alloc, mark)
+        SmallMark::from_mark(alloc, mark)
     }
 
     /// Tests, at little cost, whether a newer run, which starts at index `start`, leaves the region mark as
     /// it is, where the entries that the context gave the region end before index `end`. `false` doesn't say
     /// that it changes it. So most runs need no larger mark.
-    fn covers(&self, end: u64, start: u64) -> bool
+    fn covers_run(&self, end: u64, start: u64) -> bool
         ensures { MatchBool result ((queue : LogQueue) → joined_at queue end self.now
             (record fresh { reach = Some start; cut = Some start }) ≡ self.now) (Unit {0}) }
     {
@@ -205,7 +210,7 @@ impl SmallMark {
 }
 
 /// Returns the start of the run if `mark` is seen to be that of one run alone, else `None`.
-fn only_run(mark: &Mark) -> Option<u64>
+fn find_only_run(mark: &Mark) -> Option<u64>
     ensures { IfSome result (λ start. mark.now
         ≡ record fresh { reach = Some start; cut = Some start }) }
 {
@@ -215,7 +220,11 @@ fn only_run(mark: &Mark) -> Option<u64>
     if reach != cut || mark.is_cleaned() || mark.reach_floor() != 0 || mark.floor() != 0 {
         return None;
     }
-    match (mark.reach_cut(), mark.barred(), mark.deleted().len()) {
+    match (
+        mark.reach_cut(),
+        mark.barred_indexes(),
+        mark.deleted_keys().len(),
+    ) {
         (None, None, 0) => Some(reach),
         _ => None,
     }

@@ -7,8 +7,8 @@ use Rattle.raft_contexts.proofs.marked_tables.MarkedTables.join_region.Goals as 
 run_joined : (c : goal.After-drop-mark-inside-in-Some) →
     all_marks c.join_table.new.self.tables c.add_run.new.self ≡ finite.insert (regions_in c.args.self.now).marks c.args.id
     (joined_at c.args.queue c.in_ok-ends.ends.1 (mark_in (regions_in c.args.self.now).marks c.args.id) c.into_mark-mark.result)
-run_joined c = joined_all c.args.queue c.args.id c.args.self.now.accessor.tables c.join_table.new.self.tables c.args.self.now.marks c.keep.new.self c.add_run.new.self c.in_ok-ends.ends.1 _ c.into_mark-mark.result
-    c.in_ok-ends.ensures.joined.one c.keep.ensures.same c.in_ok-keep.ensures.kept c.in_ok-add_run.ensures.ok (sym (c.into_mark-mark.ensures ∙ c.in-Some.ensures))
+run_joined c = joined_all c.args.queue c.args.id c.args.self.now.accessor.tables c.join_table.new.self.tables c.args.self.now.marks c.keep_implied_mark.new.self c.add_run.new.self c.in_ok-ends.ends.1 _ c.into_mark-mark.result
+    c.in_ok-ends.ensures.joined.one c.keep_implied_mark.ensures.same c.in_ok-keep_implied_mark.ensures.kept c.in_ok-add_run.ensures.ok (sym (c.into_mark-mark.ensures ∙ c.in-Some.ensures))
 
 pub returns-in-Some-clause-ok : goal.returns-in-Some-clause-ok
 returns-in-Some-clause-ok c =
@@ -32,13 +32,13 @@ returns-clause-ok c =
     joined_region c.args.queue c.args.id (region_in (regions_in c.args.self.now) c.args.id) (record { mark = m; table = c.args.newer }) ≡ Some
     (region_in new c.args.id)) c.into_mark-mark.ensures
     (λ run. region_joined c.args.queue (regions_in c.args.self.now) new c.args.id c.into_mark-mark.result c.args.newer c.in_ok-ends.ends.1 (ap (λ (p : ℕ × ℕ). p.1) c.in_ok-ends.ensures.joined.answer.ends)
-    (joined_all c.args.queue c.args.id c.args.self.now.accessor.tables c.join_table.new.self.tables c.args.self.now.marks c.keep.new.self c.join.new.self c.in_ok-ends.ends.1 _ c.into_mark-mark.result
-    c.in_ok-ends.ensures.joined.one c.keep.ensures.same c.in_ok-keep.ensures.kept c.in_ok-join.ensures.ok refl) (c.in_ok-ends.ensures.joined.ok run))
+    (joined_all c.args.queue c.args.id c.args.self.now.accessor.tables c.join_table.new.self.tables c.args.self.now.marks c.keep_implied_mark.new.self c.join.new.self c.in_ok-ends.ends.1 _ c.into_mark-mark.result
+    c.in_ok-ends.ensures.joined.one c.keep_implied_mark.ensures.same c.in_ok-keep_implied_mark.ensures.kept c.in_ok-join.ensures.ok refl) (c.in_ok-ends.ensures.joined.ok run))
 
 pub returns-clause-others : goal.returns-clause-others
 returns-clause-others c = region_with (regions_in c.args.self.now) (regions_in (record { accessor = c.join_table.new.self; marks = c.join.new.self })) c.args.id _ c.in_ok-ends.ensures.joined.one
-    (joined_all c.args.queue c.args.id c.args.self.now.accessor.tables c.join_table.new.self.tables c.args.self.now.marks c.keep.new.self c.join.new.self c.in_ok-ends.ends.1 _ c.into_mark-mark.result
-    c.in_ok-ends.ensures.joined.one c.keep.ensures.same c.in_ok-keep.ensures.kept c.in_ok-join.ensures.ok refl)
+    (joined_all c.args.queue c.args.id c.args.self.now.accessor.tables c.join_table.new.self.tables c.args.self.now.marks c.keep_implied_mark.new.self c.join.new.self c.in_ok-ends.ends.1 _ c.into_mark-mark.result
+    c.in_ok-ends.ensures.joined.one c.keep_implied_mark.ensures.same c.in_ok-keep_implied_mark.ensures.kept c.in_ok-join.ensures.ok refl)
 
 pub returns-clause-few : goal.returns-clause-few
 returns-clause-few c = λ q. live_joined q c.args.self.now.accessor.tables c.join_table.new.self.tables c.args.id c.args.newer c.in_ok-ends.ensures.joined.one (c.in_ok-ends.ensures.joined.few q)

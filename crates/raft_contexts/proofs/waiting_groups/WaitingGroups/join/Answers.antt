@@ -7,9 +7,9 @@ loop-id-smaller c = len-first c.loop-id.rest c.take_first.new.self _ c.in-Some.e
 
 pub loop-id-preserved : goal.loop-id-preserved
 loop-id-preserved c = record {
-  known = joined-step c.loop-id.self c.join_one.new.self c.loop-id.rest c.take_first.new.self c.in-Some.id (group_shown c.in-Some.group) c.in-Some.ensures.first c.in_ok-whole.ensures.known ∙ c.loop-id.invariant.known;
-  wholes = ap (λ l. l ++ whole_groups c.join_one.new.self c.take_first.new.self) c.in_ok-push_some.ensures
-      ∙ wholes-step c.loop-id.self c.join_one.new.self c.loop-id.rest c.take_first.new.self c.in-Some.id (group_shown c.in-Some.group)
+  known = joined-step c.loop-id.self c.join_group.new.self c.loop-id.rest c.take_first.new.self c.in-Some.id (group_shown c.in-Some.group) c.in-Some.ensures.first c.in_ok-whole.ensures.known ∙ c.loop-id.invariant.known;
+  wholes = ap (λ l. l ++ whole_groups c.join_group.new.self c.take_first.new.self) c.in_ok-push_if_some.ensures
+      ∙ wholes-step c.loop-id.self c.join_group.new.self c.loop-id.rest c.take_first.new.self c.in-Some.id (group_shown c.in-Some.group)
       (map whole_shown c.loop-id.wholes.items) (option_map whole_shown c.in_ok-whole.whole) c.in-Some.ensures.first c.in_ok-whole.ensures.known
       c.in_ok-whole.ensures.whole
       ∙ c.loop-id.invariant.wholes;

@@ -29,10 +29,10 @@ returns-clause-ok c =
     let joined : c.of_run.result ≡ joined_at c.args.queue c.args.end (mark_in c.args.self.now c.args.id) run = c.of_run.ensures
     ∙ sym (first_run c.args.queue c.args.end c.args.start)
     ∙ ap (λ m. joined_at c.args.queue c.args.end m run) (sym (mark_of_none c.args.self.now c.args.id none)) in
-    subst (λ m. OnOk c.put-2.result (c.put-2.new.self ≡ finite.insert c.args.self.now c.args.id m)) joined (subst (λ m. OnOk c.put-2.result (c.put-2.new.self ≡ finite.insert m c.args.id c.of_run.result)) same c.put-2.ensures.ok)
+    subst (λ m. OnOk c.keep_mark-2.result (c.keep_mark-2.new.self ≡ finite.insert c.args.self.now c.args.id m)) joined (subst (λ m. OnOk c.keep_mark-2.result (c.keep_mark-2.new.self ≡ finite.insert m c.args.id c.of_run.result)) same c.keep_mark-2.ensures.ok)
 
 pub returns-clause-err : goal.returns-clause-err
 returns-clause-err c =
     let before : Inside = record c.self.inside { marks = c.get_mut.follows.lender-at-none } in
     let same : slot_shown before ≡ c.args.self.now = shown-same c.self.inside before c.args.self.now c.self.view_is (λ q. ap (λ m. lookup (nat_eq q) m.entries) c.get_mut.follows.holds-at-none) in
-    subst (λ m. OnErr c.put-2.result (c.put-2.new.self ≡ m)) same c.put-2.ensures.err
+    subst (λ m. OnErr c.keep_mark-2.result (c.keep_mark-2.new.self ≡ m)) same c.keep_mark-2.ensures.err

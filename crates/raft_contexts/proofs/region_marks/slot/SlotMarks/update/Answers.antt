@@ -14,8 +14,8 @@ returns-in-Some g c =
     c.update.new.self c.self.view_is
     ((c.get_mut.follows.holds c.update.new.self).3 (ap is_some (sym c.get_mut.ensures.value ∙ ap option_copied_mut c.in-Some.is))).0)
 
-pub changed-requires : goal.changed-requires
-changed-requires g c = subst (MayChangeMark g.F.FnOnce c.args.change)
+pub from_changed-requires : goal.from_changed-requires
+from_changed-requires g c = subst (MayChangeMark g.F.FnOnce c.args.change)
     (mark_of_none c.args.self.now c.args.id (absent c.self.inside c.args.self.now c.args.id _ c.self.view_is c.get_mut.ensures.value c.in_default.is)
     ∙ sym c.new.ensures) c.requires
 
@@ -30,6 +30,6 @@ pub returns : goal.returns
 returns g c =
     let before : Inside = record c.self.inside { marks = c.get_mut.follows.lender-at-none } in
     let same : slot_shown before ≡ c.args.self.now = shown-same c.self.inside before c.args.self.now c.self.view_is (λ q. ap (λ m. lookup (nat_eq q) m.entries) c.get_mut.follows.holds-at-none) in
-    made g.F.FnOnce c.args.change c.args.self.now c.args.id c.put.result c.in_ok-mark.mark _ (absent c.self.inside c.args.self.now c.args.id _ c.self.view_is c.get_mut.ensures.value c.in_default.is)
+    made g.F.FnOnce c.args.change c.args.self.now c.args.id c.keep_mark.result c.in_ok-mark.mark _ (absent c.self.inside c.args.self.now c.args.id _ c.self.view_is c.get_mut.ensures.value c.in_default.is)
     (subst (λ w. ChangesMark g.F.FnOnce c.args.change w (Ok tt) c.in_ok-mark.mark) c.new.ensures c.in_ok-mark.ensures)
-    (subst (λ m. OnOk c.put.result (c.put.new.self ≡ finite.insert m c.args.id c.in_ok-mark.mark)) same c.put.ensures.ok) (subst (λ m. OnErr c.put.result (c.put.new.self ≡ m)) same c.put.ensures.err)
+    (subst (λ m. OnOk c.keep_mark.result (c.keep_mark.new.self ≡ finite.insert m c.args.id c.in_ok-mark.mark)) same c.keep_mark.ensures.ok) (subst (λ m. OnErr c.keep_mark.result (c.keep_mark.new.self ≡ m)) same c.keep_mark.ensures.err)

@@ -1,0 +1,26 @@
+use Rattle.raft_contexts.proofs.Common.{length, refl, ap, arith, with_item, run_at}
+use Rattle.raft_contexts.specs.declared.region_marks.RegionMarks.TheInside.{Inside}
+use Rattle.raft_contexts.proofs.RegionMarksLemmas.{InSlot, all_slots, kept-same, kept-in, ok-in, err-in, one_put}
+use Rattle.raft_contexts.proofs.region_marks.RegionMarks.keep_run_mark.Goals as goal
+
+pub index_mut-requires : goal.index_mut-requires
+index_mut-requires c = omega (arith, c.slot_of.ensures.bound, ap length c.in_ok-fill_missing_slots.ensures.ok, all_slots c.self.inside.slots.items c.self.invariant.all)
+
+abbrev after : goal.After-self-1 → Inside
+after c = record c.self.inside { slots = with_item c.fill_missing_slots.new.slots c.slot_of.result c.keep_run_mark.new.self }
+
+slotted : (c : goal.After-self-1) → InSlot c.self.inside (after c) c.fill_missing_slots.new.slots.items c.slot_of.result c.index_mut.result.now c.keep_run_mark.new.self
+slotted c = record { made = c.in_ok-fill_missing_slots.ensures.ok; bound = c.slot_of.ensures.bound; lent = c.index_mut.ensures.value; set = refl }
+
+pub invariant_of-self : goal.invariant_of-self
+invariant_of-self c = kept-same c.self.inside (record c.self.inside { slots = c.fill_missing_slots.new.slots }) c.self.invariant c.in_err-fill_missing_slots.ensures.err
+
+pub invariant_of-self-2 : goal.invariant_of-self-2
+invariant_of-self-2 c = kept-in c.self.inside (after c) _ _ _ _ c.self.invariant (slotted c) c.args.id c.slot_of.ensures.value (one_put c.keep_run_mark.result _ _ c.args.id _ c.keep_run_mark.ensures.ok c.keep_run_mark.ensures.err)
+
+pub returns-clause-ok : goal.returns-clause-ok
+returns-clause-ok c = ok-in c.self.inside (after c) _ _ _ _ c.self.invariant (slotted c) c.args.id c.slot_of.ensures.value c.args.self.now c.self.view_is c.keep_run_mark.result
+    (λ _. run_at c.args.start) c.keep_run_mark.ensures.ok
+
+pub returns-clause-err : goal.returns-clause-err
+returns-clause-err c = err-in c.self.inside (after c) _ _ _ _ c.self.invariant (slotted c) c.args.self.now c.self.view_is c.keep_run_mark.result c.keep_run_mark.ensures.err

@@ -45,7 +45,7 @@ impl SharedAccessor {
     pub fn from_core(alloc: Global, core: MemTableAccessor) -> Result<SharedAccessor>
         ensures { IfErr result (λ e. e ≡ Error.Memory) }
     {
-        let slots = share_out(alloc, core)?;
+        let slots = divide_among_slots(alloc, core)?;
         let mut shared = SharedAccessor::new(alloc);
         for (lock, slot) in shared.slots.iter_mut().zip(slots) {
             *lock.get_mut() = slot;
@@ -67,7 +67,7 @@ impl SharedAccessor {
         let mut shared = self;
         let mut core = MemTableAccessor::new(shared.alloc)?;
         for slot in &mut shared.slots {
-            move_slot(slot.get_mut(), shared.alloc, &mut core)?;
+            move_slot_into(slot.get_mut(), shared.alloc, &mut core)?;
         }
         core.counts_are_exact();
         Ok(core)
@@ -92,7 +92,7 @@ impl SharedAccessor {
         if slot.number() != number {
             return None;
         }
-        answer_of(&slot, id, f)
+        call_with_table(&slot, id, f)
     }
 
     /// Calls `f` with the table of the region `id`, or with an empty one if it has none, and makes the change
@@ -115,7 +115,7 @@ impl SharedAccessor {
         ensures number { IfOk result (IsChangeAnswer F.FnOnce f id) }
         ensures fault { IfErr result (IsChangeRefusal F.FnOnce f id) }
     {
-        change_by(&mut *self.lock(rt, id)?, self.alloc, id, f)
+        make_asked_change(&mut *self.lock_slot(rt, id)?, self.alloc, id, f)
     }
 
     /// Makes one change of the table of the region `id`, for which an empty one is made first if it has none.
@@ -148,7 +148,7 @@ impl SharedAccessor {
     pub fn get_or_insert<R: Wait>(&self, rt: &R, id: u64) -> Result<()>
         ensures { IfErr result IsLockFault }
     {
-        self.lock(rt, id)?.get_or_insert(id)
+        self.lock_slot(rt, id)?.get_or_insert(id)
     }
 
     /// Puts `table` under its region's id `id`, and counts its records as live. Returns the table that it
@@ -163,7 +163,7 @@ impl SharedAccessor {
         ensures handed_back { IfOk result (λ t. IfSome t (IsSlotTable (slot_of id) id)) }
         ensures fault { IfErr result (λ e. IsLockFault e ⊎ (e ≡ Error.Full)) }
     {
-        self.lock(rt, id)?.insert(id, table)
+        self.lock_slot(rt, id)?.insert(id, table)
     }
 
     /// Removes the table of the region `id` and returns it, or `None` if there is none. Its records are
@@ -184,7 +184,7 @@ impl SharedAccessor {
         ensures fault { IfErr result
             (λ e. ((e ≡ Error.Memory) × IsTrue record_tombstone) ⊎ (e ≡ Error.Failed)) }
     {
-        self.lock(rt, id)?.remove(id, record_tombstone)
+        self.lock_slot(rt, id)?.remove(id, record_tombstone)
     }
 
     /// Sets the first and the last file of the atomic group of the region `id` in the rewrite queue to
@@ -205,7 +205,7 @@ impl SharedAccessor {
         requires { start ≤ end }
         ensures { IfErr result IsLockFault }
     {
-        self.lock(rt, id)?
+        self.lock_slot(rt, id)?
             .apply_rewrite_atomic_group(id, start, end)
     }
 
@@ -359,7 +359,7 @@ impl SharedAccessor {
     ///
     /// `Failed` if the slot has another number, which never happens: it is tested because a lock promises
     /// nothing of what it guards.
-    fn lock<R: Wait>(&self, rt: &R, id: u64) -> Result<RwLockWriteGuard<'_, Slot>>
+    fn lock_slot<R: Wait>(&self, rt: &R, id: u64) -> Result<RwLockWriteGuard<'_, Slot>>
         ensures number { IfOk result (λ slot. (write_guard_value slot).number ≡ slot_of id) }
         ensures fault { IfErr result (λ e. e ≡ Error.Failed) }
     {
@@ -410,7 +410,8 @@ impl SharedAccessor {
         ensures ok { OnOk result (MayBeWritten (writing_shown how) (item_of item)) }
         ensures fault { IfErr result (IsSharedItemFault (writing_shown how) (item_of item)) }
     {
-        self.lock(rt, item.raft_group_id)?.write_item(how, item)
+        self.lock_slot(rt, item.raft_group_id)?
+            .write_item(how, item)
     }
 }
 
@@ -420,16 +421,16 @@ impl SharedAccessor {
 /// # Errors
 ///
 /// `Memory` alone. The tables are dropped then.
-fn share_out(alloc: Global, core: MemTableAccessor) -> Result<Vec<Slot>>
+fn divide_among_slots(alloc: Global, core: MemTableAccessor) -> Result<Vec<Slot>>
     ensures shares { IfOk result (λ slots. HaveShares core.tables core.cleaned 0 slots.items) }
     ensures all { IfOk result (λ slots. length slots.items ≡ 128) }
     ensures memory { IfErr result (λ e. e ≡ Error.Memory) }
 {
     let mut core = core;
-    let mut slots = share_tables(alloc, &mut core)?;
+    let mut slots = divide_tables(alloc, &mut core)?;
     let ids = core.cleaned_regions();
     for id in ids {
-        slots[slot_of(*id)].list(*id)?;
+        slots[slot_of(*id)].push_cleaned(*id)?;
     }
     Ok(slots)
 }
@@ -440,7 +441,7 @@ fn share_out(alloc: Global, core: MemTableAccessor) -> Result<Vec<Slot>>
 /// # Errors
 ///
 /// `Memory` alone. Some of the tables are dropped then.
-fn share_tables(alloc: Global, core: &mut MemTableAccessor) -> Result<Vec<Slot>>
+fn divide_tables(alloc: Global, core: &mut MemTableAccessor) -> Result<Vec<Slot>>
     ensures shares { IfOk result (λ slots. HaveShares core.old.tables [] 0 slots.items) }
     ensures all { IfOk result (λ slots. length slots.items ≡ 128) }
     ensures cleaned { core.new.cleaned ≡ core.old.cleaned }
@@ -462,7 +463,7 @@ fn share_tables(alloc: Global, core: &mut MemTableAccessor) -> Result<Vec<Slot>>
 /// `Memory`; `Full` if a queue would have more than 2^64 - 1 live records; `Failed` if the slot has a region
 /// that belongs to another slot, which never happens. Some of the cleaned regions may be listed and some of
 /// the tables moved then, and one table may be lost.
-fn move_slot(slot: &mut Slot, alloc: Global, core: &mut MemTableAccessor) -> Result<()>
+fn move_slot_into(slot: &mut Slot, alloc: Global, core: &mut MemTableAccessor) -> Result<()>
     ensures tables { OnOk result
         (AreSlotTablesAdded slot.old core.old.tables core.new.tables) }
     ensures cleaned { OnOk result
@@ -531,7 +532,7 @@ fn move_table(slot: &mut Slot, id: u64, core: &mut MemTableAccessor) -> Result<(
 
 /// Calls `f` with the table of the region `id` in `slot`, and returns what `f` returns. Returns `None`,
 /// without a call, if the region has no table.
-fn answer_of<X: Drop, F: FnOnce(&MemTable) -> X>(slot: &Slot, id: u64, f: F) -> Option<X>
+fn call_with_table<X: Drop, F: FnOnce(&MemTable) -> X>(slot: &Slot, id: u64, f: F) -> Option<X>
 where
     F: Drop,
     requires callable { F.IsAlwaysCallable f }
@@ -549,7 +550,7 @@ where
 /// # Errors
 ///
 /// Those of [`Slot::change`]. The slot is unchanged then.
-fn change_by<F: FnOnce(&MemTable) -> TableChange>(
+fn make_asked_change<F: FnOnce(&MemTable) -> TableChange>(
     slot: &mut Slot,
     alloc: Global,
     id: u64,
@@ -562,13 +563,13 @@ where
     ensures number { IfOk result (IsChangeAnswer F.FnOnce f id) }
     ensures fault { IfErr result (IsChangeRefusal F.FnOnce f id) }
 {
-    let change = answer_at(slot, alloc, id, f);
+    let change = ask_for_change(slot, alloc, id, f);
     slot.change(id, change)
 }
 
 /// Calls `f` with the table of the region `id` in `slot`, or with an empty one if it has none, and returns
 /// the change that `f` returns.
-fn answer_at<F: FnOnce(&MemTable) -> TableChange>(
+fn ask_for_change<F: FnOnce(&MemTable) -> TableChange>(
     slot: &Slot,
     alloc: Global,
     id: u64,

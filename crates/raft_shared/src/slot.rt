@@ -173,7 +173,7 @@ impl Slot {
         ensures counts { self.new.content.counts ≡ self.old.content.counts }
         ensures number { self.new.number ≡ self.old.number }
     {
-        self.tables.make(id, &mut self.stats)
+        self.tables.make_if_missing(id, &mut self.stats)
     }
 
     /// Sets the first and the last file of the atomic group of the region `id` in the rewrite queue to
@@ -267,9 +267,9 @@ impl Slot {
         ensures number { self.new.number ≡ self.old.number }
     {
         if record_tombstone {
-            self.list(id)?;
+            self.push_cleaned(id)?;
         }
-        Ok(self.take(id))
+        Ok(self.take_table(id))
     }
 
     /// Checks that [`apply_append_write`](Slot::apply_append_write) would accept these items, one after
@@ -368,7 +368,7 @@ impl Slot {
         ensures memory { IfErr result (λ e. e ≡ Error.Memory) }
         ensures number { self.new.number ≡ self.old.number }
     {
-        move_cleans(*self.cleaned.allocator(), &self.cleaned, logs)?;
+        append_cleans(*self.cleaned.allocator(), &self.cleaned, logs)?;
         self.cleaned.clear();
         Ok(())
     }
@@ -378,7 +378,7 @@ impl Slot {
     /// # Errors
     ///
     /// `Memory` alone. The slot is unchanged then.
-    pub(crate) fn list(&mut self, id: u64) -> Result<()>
+    pub(crate) fn push_cleaned(&mut self, id: u64) -> Result<()>
         requires { slot_of id ≡ self.old.number }
         ensures ok { OnOk result (self.new ≡ record self.old {
           content = record self.old.content { cleaned = self.old.content.cleaned ++ id ∷ [] };
@@ -392,7 +392,7 @@ impl Slot {
 
     /// Removes the table of the region `id` and returns it, or `None` if there is none. Its records are
     /// subtracted from the live counts.
-    fn take(&mut self, id: u64) -> Option<MemTable>
+    fn take_table(&mut self, id: u64) -> Option<MemTable>
         requires { slot_of id ≡ self.old.number }
         ensures tables { self.new.content.tables ≡ finite.remove self.old.content.tables id }
         ensures removed { result ≡ finite.get self.old.content.tables id }
@@ -411,7 +411,7 @@ impl Slot {
 /// # Errors
 ///
 /// `Memory` alone. The batch is unchanged then.
-fn move_cleans(alloc: Global, ids: &[u64], logs: &mut LogBatch) -> Result<()>
+fn append_cleans(alloc: Global, ids: &[u64], logs: &mut LogBatch) -> Result<()>
     requires { logs.old.stage ≡ is_open }
     ensures ok { OnOk result (logs.new
         ≡ record logs.old { items = logs.old.items ++ map (λ id. command_item id Clean) ids.now }) }

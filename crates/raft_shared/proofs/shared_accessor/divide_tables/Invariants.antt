@@ -1,6 +1,6 @@
 use Rattle.raft_shared.proofs.Common.{◌≡◌, [], length, HaveShares}
 use Rattle.raft_shared.proofs.SharedLemmas.{AreLeft}
-use Rattle.raft_shared.proofs.shared_accessor.share_tables.Given as goal
+use Rattle.raft_shared.proofs.shared_accessor.divide_tables.Given as goal
 
 abbrev pub invariant-loop-number : goal.invariant-loop-number
 invariant-loop-number l =

@@ -1,6 +1,6 @@
 use Rattle.std.proofs.Common.{◌≡◌, ℕ, ◌++◌, drop}
 use Rattle.raft_shared.proofs.SharedLemmas.{HasOnly, either}
-use Rattle.raft_shared.proofs.shared_accessor.move_slot.Given as goal
+use Rattle.raft_shared.proofs.shared_accessor.move_slot_into.Given as goal
 
 abbrev pub invariant-loop-id : goal.invariant-loop-id
 invariant-loop-id l =

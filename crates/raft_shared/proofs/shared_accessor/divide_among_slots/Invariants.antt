@@ -1,5 +1,5 @@
 use Rattle.raft_shared.proofs.Common.{◌≡◌, ℕ, List, ◌++◌, drop, length, HaveShares}
-use Rattle.raft_shared.proofs.shared_accessor.share_out.Given as goal
+use Rattle.raft_shared.proofs.shared_accessor.divide_among_slots.Given as goal
 
 -- the regions that are listed and those that are left make up the whole
 abbrev pub invariant-loop-id : goal.invariant-loop-id

@@ -1,6 +1,6 @@
 use Rattle.raft_shared.proofs.Common.{◌≡◌, ℕ, ◌∷◌, [], ◌++◌, ◌+◌, drop, map, slice_index_or, refl, sym, ap, subst, ◌∙◌, arith, at_drop_more, drop_of_length-le, Table}
 use Rattle.raft_shared.proofs.SharedLemmas.{HasOnly, kept-all, only-ids, either-moved, only-moved, added-all}
-use Rattle.raft_shared.proofs.shared_accessor.move_slot.Goals as goal
+use Rattle.raft_shared.proofs.shared_accessor.move_slot_into.Goals as goal
 
 pub list_cleaned-requires : goal.list_cleaned-requires
 list_cleaned-requires c = rw (c.number.ensures, c.cleaned_regions.ensures) c.holds_own_tables.ensures.cleaned

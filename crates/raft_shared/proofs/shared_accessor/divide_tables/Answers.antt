@@ -1,6 +1,6 @@
 use Rattle.raft_shared.proofs.Common.{◌∷◌, [], length, sym, ap, subst, ◌∙◌, arith, length-append, HasShare, HaveShares}
 use Rattle.raft_shared.proofs.SharedLemmas.{shares-more, share-taken, left-taken}
-use Rattle.raft_shared.proofs.shared_accessor.share_tables.Goals as goal
+use Rattle.raft_shared.proofs.shared_accessor.divide_tables.Goals as goal
 
 pub loop-number-preserved : goal.loop-number-preserved
 loop-number-preserved c =

@@ -1,5 +1,5 @@
 use Rattle.raft_shared.proofs.Common.{ap, ◌∙◌, table_of}
-use Rattle.raft_shared.proofs.shared_accessor.answer_at.Goals as goal
+use Rattle.raft_shared.proofs.shared_accessor.ask_for_change.Goals as goal
 
 pub returns-in-Some-clause-gave : goal.returns-in-Some-clause-gave
 returns-in-Some-clause-gave g c = (c.in-Some.table, c.f.ensures, ap (table_of c.args.id) c.in-Some.ensures.value)

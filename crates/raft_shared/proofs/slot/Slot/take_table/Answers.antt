@@ -1,7 +1,7 @@
 use Rattle.raft_shared.proofs.Common.{◌≡◌, Some, None, IfSome, refl, sym, ap, ◌∙◌, Slot, IsSlotTable, table-counted}
 use Rattle.std.specs.FinMap as finite
 use Rattle.raft_shared.proofs.SharedLemmas.{kept-taken}
-use Rattle.raft_shared.proofs.slot.Slot.take.Goals as goal
+use Rattle.raft_shared.proofs.slot.Slot.take_table.Goals as goal
 
 pub remove-requires : goal.remove-requires
 remove-requires c = table-counted c.self.inside.tables c.self.inside.stats c.args.id c.self.invariant.counted

@@ -29,7 +29,7 @@ pub(crate) struct Program {
 impl Program {
     /// Prints the hint at the words that the program understands on `err`. Returns the status 2, also if it
     /// can't be printed.
-    pub(crate) fn misused<E: Write>(&self, err: &mut E) -> u8
+    pub(crate) fn print_usage<E: Write>(&self, err: &mut E) -> u8
         ensures { result ≡ 2 }
     {
         let _ = err.write_all(self.usage.as_bytes());
@@ -38,7 +38,7 @@ impl Program {
 
     /// Prints `NAME: refused: WORD` on `err`, with the word for `error` ([`refusal`]). Returns the status 1,
     /// also if it can't be printed.
-    pub(crate) fn refused<E: Write>(&self, error: &Error, err: &mut E) -> u8
+    pub(crate) fn print_refusal<E: Write>(&self, error: &Error, err: &mut E) -> u8
         ensures { result ≡ 1 }
     {
         let name = self.name;
@@ -50,14 +50,14 @@ impl Program {
     /// Reports on `err` that the words of a command line couldn't be read, and returns the status. If `error`
     /// is lack of memory, it prints that as a refusal, and returns 1; else it prints the hint at the words,
     /// and returns 2.
-    pub(crate) fn without_words<E: Write>(&self, error: &io::Error, err: &mut E) -> u8
+    pub(crate) fn report_unreadable_words<E: Write>(&self, error: &io::Error, err: &mut E) -> u8
         ensures memory { error_kind error.now ≡ ErrorKind.OutOfMemory → result ≡ 1 }
         ensures misused { error_kind error.now ≢ ErrorKind.OutOfMemory → result ≡ 2 }
     {
         if error.kind() == ErrorKind::OutOfMemory {
-            return self.refused(&Error::Memory, err);
+            return self.print_refusal(&Error::Memory, err);
         }
-        self.misused(err)
+        self.print_usage(err)
     }
 }
 

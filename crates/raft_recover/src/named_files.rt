@@ -29,14 +29,15 @@ impl<D: SharedFiles> ReadFiles for NamedFiles<'_, D> {
 
     ghost gives = { λ files. NamedGives (D.gives files.disk.now) (map path_shown files.paths.now) };
 
-    /// Appends `len` bytes of the file numbered `file.seq`, from `offset` on, to `bytes`, or fewer if the file ends before. The
-    /// queue of `file` isn't looked at.
+    /// Appends `len` bytes of the file numbered `file.seq`, from `offset` on, to `bytes`, or fewer if the file
+    /// ends before. The queue of `file` isn't looked at.
     ///
     /// # Errors
     ///
-    /// `NotFound` if no file has that number, and those of the file. Some of the bytes may have been appended then.
+    /// `NotFound` if no file has that number, and those of the file. Some of the bytes may have been appended
+    /// then.
     fn read(&self, file: FileId, offset: u64, len: usize, bytes: &mut Vec<u8>) -> io::Result<()> {
-        let Some(path) = path_of(self.paths, file.seq) else {
+        let Some(path) = path_of_file(self.paths, file.seq) else {
             return Err(io::Error::from(ErrorKind::NotFound));
         };
         self.disk.read_file(path, offset, len, bytes)
@@ -44,7 +45,7 @@ impl<D: SharedFiles> ReadFiles for NamedFiles<'_, D> {
 }
 
 /// Returns the path of the file numbered `seq`, or `None` if there is none. The numbers in `paths` must rise.
-fn path_of<'a>(paths: &[(FileSeq, &'a str)], seq: FileSeq) -> Option<&'a str>
+fn path_of_file<'a>(paths: &[(FileSeq, &'a str)], seq: FileSeq) -> Option<&'a str>
     ensures { IfSome result (λ path. IsNamed (map path_shown paths.now) seq path.now) }
 {
     match paths.binary_search_by_key(&seq, |named| named.0) {
@@ -59,7 +60,7 @@ fn path_of<'a>(paths: &[(FileSeq, &'a str)], seq: FileSeq) -> Option<&'a str>
 /// # Errors
 ///
 /// `Io` if the length of a file can't be read; `Memory`.
-pub(crate) fn sizes_of<D: SharedFiles>(
+pub(crate) fn sizes_of_files<D: SharedFiles>(
     disk: &D,
     alloc: Global,
     paths: &[(FileSeq, &str)],
@@ -86,7 +87,7 @@ pub(crate) fn sizes_of<D: SharedFiles>(
 /// # Errors
 ///
 /// `InvalidArgument` for another number of workers than 1 to 256; then those of [`print_files`].
-pub(crate) fn print_named<S: SharedFiles + Threads, W: Write>(
+pub(crate) fn print_named_files<S: SharedFiles + Threads, W: Write>(
     rt: &S,
     alloc: Global,
     ask: &RecoverWords<'_>,

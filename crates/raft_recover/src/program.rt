@@ -57,12 +57,12 @@ pub fn run<S: Files + AllocGlobal + Threads + Sync, R: Read, W: Write, E: Write>
 {
     let request = match Request::parse(rt.alloc(), words) {
         Ok(Some(request)) => request,
-        Ok(None) => return RAFTLOG.misused(err),
-        Err(memory) => return RAFTLOG.refused(&memory, err),
+        Ok(None) => return RAFTLOG.print_usage(err),
+        Err(memory) => return RAFTLOG.print_refusal(&memory, err),
     };
-    match answer(rt, request, input, out) {
+    match answer_request(rt, request, input, out) {
         Ok(()) => Status::Done as u8,
-        Err(error) => RAFTLOG.refused(&error, err),
+        Err(error) => RAFTLOG.print_refusal(&error, err),
     }
 }
 
@@ -87,7 +87,7 @@ pub fn run_without_words<E: Write>(error: &io::Error, err: &mut E) -> u8
     ensures memory { error_kind error.now ≡ ErrorKind.OutOfMemory → result ≡ 1 }
     ensures misused { error_kind error.now ≢ ErrorKind.OutOfMemory → result ≡ 2 }
 {
-    RAFTLOG.without_words(error, err)
+    RAFTLOG.report_unreadable_words(error, err)
 }
 
 /// Prints what `request` asks for on `out`. Files are read as a whole.
@@ -96,7 +96,7 @@ pub fn run_without_words<E: Write>(error: &io::Error, err: &mut E) -> u8
 ///
 /// Those of [`print_batch`], or of reading the files and [`recover_bytes`]. A part of the lines, from the
 /// first byte on, may have been printed then.
-fn answer<S: Files + AllocGlobal + Threads + Sync, R: Read, W: Write>(
+fn answer_request<S: Files + AllocGlobal + Threads + Sync, R: Read, W: Write>(
     rt: &S,
     request: Request<'_>,
     input: &mut R,

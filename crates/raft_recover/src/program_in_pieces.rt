@@ -4,7 +4,7 @@ ghost use Rattle.std.specs.Prelude.{◌≡◌, ◌≤◌, ◌↔◌, ◌⊎◌, 
 ghost use Rattle.raft_recover.specs.Common.{Keeps, AsksNothing, AsksRecovery, IsAsked, IsPrinted, IsFrontPrinted, IsRecoveryFrontPrinted, IsRecoveryPrinted, asks_for};
 
 use crate::ending::Status;
-use crate::named_files::{print_named, sizes_of};
+use crate::named_files::{print_named_files, sizes_of_files};
 use crate::program::RAFTLOG;
 use crate::recovery::recover_bytes;
 use crate::request::{RecoverWords, Request, read_files};
@@ -41,12 +41,12 @@ pub fn run_in_pieces<
 {
     let request = match Request::parse(rt.alloc(), words) {
         Ok(Some(request)) => request,
-        Ok(None) => return RAFTLOG.misused(err),
-        Err(memory) => return RAFTLOG.refused(&memory, err),
+        Ok(None) => return RAFTLOG.print_usage(err),
+        Err(memory) => return RAFTLOG.print_refusal(&memory, err),
     };
-    match answer(rt, request, input, out) {
+    match answer_request_in_pieces(rt, request, input, out) {
         Ok(()) => Status::Done as u8,
-        Err(error) => RAFTLOG.refused(&error, err),
+        Err(error) => RAFTLOG.print_refusal(&error, err),
     }
 }
 
@@ -56,12 +56,11 @@ pub fn run_in_pieces<
 ///
 /// Those of [`print_batch`], or of reading the files and recovering them. A part of the lines, from the first
 /// byte on, may have been printed then.
-fn answer<S: SharedFiles + Files + AllocGlobal + Threads + Sync, R: Read, W: Write>(
-    rt: &S,
-    request: Request<'_>,
-    input: &mut R,
-    out: &mut W,
-) -> Result<()>
+fn answer_request_in_pieces<
+    S: SharedFiles + Files + AllocGlobal + Threads + Sync,
+    R: Read,
+    W: Write,
+>(rt: &S, request: Request<'_>, input: &mut R, out: &mut W) -> Result<()>
     ensures done { (words : List (List ℕ)) → IsAsked words request.entry
         → OnOk result
         (IsPrinted words (R.remaining input.old) (W.contents out.old) (W.contents out.new)) }
@@ -96,8 +95,8 @@ fn print_tables<S: SharedFiles + Files + AllocGlobal + Threads + Sync, W: Write>
 {
     let alloc = rt.alloc();
     let paths = ask.paths.as_slice();
-    if let Some(sizes) = sizes_of(rt, alloc, paths)? {
-        return print_named(rt, alloc, ask, sizes.as_slice(), out);
+    if let Some(sizes) = sizes_of_files(rt, alloc, paths)? {
+        return print_named_files(rt, alloc, ask, sizes.as_slice(), out);
     }
     let files = read_files(rt, paths)?;
     recover_bytes(rt, alloc, ask.queue, ask.version, ask.workers, files, out)

@@ -51,8 +51,8 @@ pub fn recovered_text(alloc: Global, accessor: &MemTableAccessor) -> Result<Stri
     sort_by_region(&mut tables);
     let mut text = String::new(alloc);
     append_tables(tables.as_slice(), &mut text)?;
-    append_cleaned(accessor.cleaned_regions(), &mut text)?;
-    append_live(accessor.stats(), &mut text)?;
+    append_cleaned_regions(accessor.cleaned_regions(), &mut text)?;
+    append_live_counts(accessor.stats(), &mut text)?;
     Ok(text)
 }
 
@@ -94,11 +94,11 @@ pub fn append_table(table: &MemTable, text: &mut String) -> AllocResult<()>
     ensures { OnOk result (string_bytes text.new ≡ string_bytes text.old ++ table_line table.now) }
 {
     write!(text, "{} entries ", table.region_id())?;
-    append_range(table, text)?;
+    append_index_range(table, text)?;
     write!(text, " keys {} append ", table.key_count())?;
-    append_seq(table.min_file_seq(LogQueue::Append), text)?;
+    append_file_seq(table.min_file_seq(LogQueue::Append), text)?;
     text.push_str(" rewrite ")?;
-    append_seq(table.min_file_seq(LogQueue::Rewrite), text)?;
+    append_file_seq(table.min_file_seq(LogQueue::Rewrite), text)?;
     text.push('\n')
 }
 
@@ -108,7 +108,7 @@ pub fn append_table(table: &MemTable, text: &mut String) -> AllocResult<()>
 /// # Errors
 ///
 /// `AllocError` if there is no memory. Some of the text may have been appended then.
-fn append_range(table: &MemTable, text: &mut String) -> AllocResult<()>
+fn append_index_range(table: &MemTable, text: &mut String) -> AllocResult<()>
     ensures { OnOk result (string_bytes text.new ≡ string_bytes text.old ++ range_text
         table.now.entries) }
 {
@@ -125,7 +125,7 @@ fn append_range(table: &MemTable, text: &mut String) -> AllocResult<()>
 /// # Errors
 ///
 /// `AllocError` if there is no memory. Some of the text may have been appended then.
-fn append_seq(seq: Option<FileSeq>, text: &mut String) -> AllocResult<()>
+fn append_file_seq(seq: Option<FileSeq>, text: &mut String) -> AllocResult<()>
     ensures { OnOk result (string_bytes text.new ≡ string_bytes text.old ++ seq_text seq) }
 {
     match seq {
@@ -140,7 +140,7 @@ fn append_seq(seq: Option<FileSeq>, text: &mut String) -> AllocResult<()>
 /// # Errors
 ///
 /// `AllocError` if there is no memory. Some of the text may have been appended then.
-fn append_cleaned(regions: &[u64], text: &mut String) -> AllocResult<()>
+fn append_cleaned_regions(regions: &[u64], text: &mut String) -> AllocResult<()>
     ensures { OnOk result (string_bytes text.new ≡ string_bytes text.old ++ cleaned_line
         regions.now) }
 {
@@ -159,7 +159,7 @@ fn append_cleaned(regions: &[u64], text: &mut String) -> AllocResult<()>
 /// # Errors
 ///
 /// `AllocError` if there is no memory. Some of the text may have been appended then.
-fn append_live(stats: &GlobalStats, text: &mut String) -> AllocResult<()>
+fn append_live_counts(stats: &GlobalStats, text: &mut String) -> AllocResult<()>
     ensures { OnOk result (string_bytes text.new ≡ string_bytes text.old ++ live_line stats.now) }
 {
     let append = stats.live_entries(LogQueue::Append);

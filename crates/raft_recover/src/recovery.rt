@@ -7,7 +7,7 @@ ghost use Rattle.raft_recover.specs.Common.{IsReplayedOrStopped, file_shown};
 
 use crate::files::file_segments;
 use crate::recovered::print_recovered;
-use crate::shares::{bytes_of, equal_shares};
+use crate::shares::{equal_shares, total_bytes};
 use raft_accessor::MemTableAccessor;
 use raft_base::{Error, FileSeq, LogQueue, Result, Version};
 use raft_contexts::{MemTableRecoverContext, MemTableRecoverContextFactory};
@@ -59,7 +59,7 @@ pub fn recover<R: Threads + Sync>(
         → IfErr result (λ e. e ≢ Error.Memory → IsInvalidArgument e) }
 {
     check_arguments(alloc, segments, queue, workers)?;
-    let context = replayed(rt, alloc, segments, queue, workers)?;
+    let context = replay_in_shares(rt, alloc, segments, queue, workers)?;
     context.finish()
 }
 
@@ -137,7 +137,7 @@ pub fn replay_both<R: Threads + Sync>(
 {
     check_arguments(alloc, rewrite, LogQueue::Rewrite, workers)?;
     check_arguments(alloc, append, LogQueue::Append, workers)?;
-    both_replayed(rt, alloc, rewrite, append, workers)
+    replay_both_queues(rt, alloc, rewrite, append, workers)
 }
 
 /// Reads the segments `rewrite` and `append` of both queues: at the same time with two `workers` or more, one
@@ -146,7 +146,7 @@ pub fn replay_both<R: Threads + Sync>(
 /// # Errors
 ///
 /// Those of [`recover`] for either queue. If both are refused, the error is that of the rewrite queue.
-fn both_replayed<R: Threads + Sync>(
+fn replay_both_queues<R: Threads + Sync>(
     rt: &R,
     alloc: Global,
     rewrite: &[Segment],
@@ -163,20 +163,20 @@ fn both_replayed<R: Threads + Sync>(
         ⊎ StopsAmong IsNothing Sound (parts_within append.entry.now) e) }
 {
     if workers == 1 {
-        let both = replayed(rt, alloc, rewrite, LogQueue::Rewrite, workers)?;
-        let appended = replayed(rt, alloc, append, LogQueue::Append, workers)?;
+        let both = replay_in_shares(rt, alloc, rewrite, LogQueue::Rewrite, workers)?;
+        let appended = replay_in_shares(rt, alloc, append, LogQueue::Append, workers)?;
         return Ok((both, appended));
     }
-    let rewriters = part_of_workers(workers, bytes_of(rewrite), bytes_of(append));
+    let rewriters = part_of_workers(workers, total_bytes(rewrite), total_bytes(append));
     let appenders = workers - rewriters;
     let read_rewrite = || -> Result<MemTableRecoverContext>
         requires { IsSync R.row × MayReplay Rewrite rewriters rewrite.now }
         ensures { IsReplayedOrStopped rewrite.entry.now result }
-    { replayed(rt, alloc, rewrite, LogQueue::Rewrite, rewriters) };
+    { replay_in_shares(rt, alloc, rewrite, LogQueue::Rewrite, rewriters) };
     let read_append = || -> Result<MemTableRecoverContext>
         requires { IsSync R.row × MayReplay Append appenders append.now }
         ensures { IsReplayedOrStopped append.entry.now result }
-    { replayed(rt, alloc, append, LogQueue::Append, appenders) };
+    { replay_in_shares(rt, alloc, append, LogQueue::Append, appenders) };
     let (rewritten, appended) = join(rt, read_rewrite, read_append);
     let both = rewritten?;
     let appended = appended?;
@@ -200,7 +200,7 @@ pub fn part_of_workers(workers: usize, first: usize, second: usize) -> usize
 /// # Errors
 ///
 /// Those of [`recover`].
-fn replayed<R: Threads + Sync>(
+fn replay_in_shares<R: Threads + Sync>(
     rt: &R,
     alloc: Global,
     segments: &[Segment],
@@ -211,7 +211,7 @@ fn replayed<R: Threads + Sync>(
     ensures { IsReplayedOrStopped segments.entry.now result }
 {
     let shares = equal_shares(alloc, segments, workers, LEAST_SHARE)?;
-    replayed_as(rt, alloc, segments, shares.as_slice(), queue, workers)
+    replay_given_shares(rt, alloc, segments, shares.as_slice(), queue, workers)
 }
 
 /// Reads the segments of a queue by `workers` workers, divided into `shares`, and returns the context.
@@ -222,7 +222,7 @@ fn replayed<R: Threads + Sync>(
 /// # Errors
 ///
 /// Those of [`recover`].
-fn replayed_as<R: Threads + Sync>(
+fn replay_given_shares<R: Threads + Sync>(
     rt: &R,
     alloc: Global,
     segments: &[Segment],
@@ -238,7 +238,7 @@ fn replayed_as<R: Threads + Sync>(
     match replay_accepted(rt, alloc, &factory, shares, queue, workers, &OpenGate) {
         Ok(context) => Ok(context),
         Err(Error::Memory) => Err(Error::Memory),
-        Err(_) => replayed_in_turn(alloc, segments),
+        Err(_) => replay_one_by_one(alloc, segments),
     }
 }
 
@@ -247,7 +247,7 @@ fn replayed_as<R: Threads + Sync>(
 /// # Errors
 ///
 /// Those of [`replay_segment`](raft_replay::replay_segment) at the first batch that is refused.
-fn replayed_in_turn(alloc: Global, segments: &[Segment]) -> Result<MemTableRecoverContext>
+fn replay_one_by_one(alloc: Global, segments: &[Segment]) -> Result<MemTableRecoverContext>
     ensures { IsReplayedOrStopped segments.entry.now result }
 {
     let mut context = MemTableRecoverContext::new(alloc)?;
@@ -282,7 +282,7 @@ pub fn recover_segments<R: Threads + Sync>(
         → IfErr result (λ e. e ≢ Error.Memory → IsInvalidArgument e) }
 {
     check_arguments(alloc, segments, queue, workers)?;
-    let context = replayed_as(rt, alloc, segments, segments, queue, workers)?;
+    let context = replay_given_shares(rt, alloc, segments, segments, queue, workers)?;
     context.finish()
 }
 

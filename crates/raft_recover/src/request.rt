@@ -44,10 +44,10 @@ impl<'a> Request<'a> {
         ensures memory { IfErr result
             (λ e. (e ≡ Error.Memory) × (AsksNothing (map string_bytes words.now) → ⊥)) }
     {
-        if let Some(context) = batch_request(words) {
+        if let Some(context) = parse_batch_request(words) {
             return Ok(Some(Request::Batch(context)));
         }
-        match recovery_request(alloc, words)? {
+        match parse_recover_request(alloc, words)? {
             Some(recovery) => Ok(Some(Request::Recover(recovery))),
             None => Ok(None),
         }
@@ -56,7 +56,7 @@ impl<'a> Request<'a> {
 
 /// Returns the file that the words `batch <queue> <seq> <version>` name, whose item batch is to be printed.
 /// Returns `None` for other words.
-fn batch_request(words: &[String]) -> Option<LogFileContext>
+fn parse_batch_request(words: &[String]) -> Option<LogFileContext>
     ensures asked { IfSome result (AsksBatch (map string_bytes words.now)) }
     ensures refused { IfNone result
         ((context : LogFileContext) → AsksBatch (map string_bytes words.now) context → ⊥) }
@@ -67,19 +67,19 @@ fn batch_request(words: &[String]) -> Option<LogFileContext>
     if command.as_str() != "batch" {
         return None;
     }
-    context_named(queue.as_str(), seq.as_str(), version.as_str())
+    parse_file_context(queue.as_str(), seq.as_str(), version.as_str())
 }
 
 /// Returns the file whose queue, number and version the three words name, or `None` if one of them isn't
 /// understood.
-fn context_named(queue: &str, seq: &str, version: &str) -> Option<LogFileContext>
+fn parse_file_context(queue: &str, seq: &str, version: &str) -> Option<LogFileContext>
     ensures named { IfSome result (NamesContext queue.now seq.now version.now) }
     ensures refused { IfNone result
         ((context : LogFileContext) → NamesContext queue.now seq.now version.now context → ⊥) }
 {
-    let queue = queue_named(queue)?;
-    let seq = number_named(seq)?;
-    let version = version_named(version)?;
+    let queue = parse_queue(queue)?;
+    let seq = parse_number(seq)?;
+    let version = parse_version(version)?;
     Some(LogFileContext::new(FileId::new(queue, seq), version))
 }
 
@@ -89,7 +89,7 @@ fn context_named(queue: &str, seq: &str, version: &str) -> Option<LogFileContext
 /// # Errors
 ///
 /// `Memory` alone, and only if the words ask for one.
-fn recovery_request<'a>(alloc: Global, words: &'a [String]) -> Result<Option<RecoverWords<'a>>>
+fn parse_recover_request<'a>(alloc: Global, words: &'a [String]) -> Result<Option<RecoverWords<'a>>>
     ensures asked { IfOk result (λ r. IfSome r (λ recovery.
         AsksRecovery (map string_bytes words.now) (asks_for recovery))) }
     ensures refused { IfOk result (λ r. IfNone r
@@ -103,16 +103,16 @@ fn recovery_request<'a>(alloc: Global, words: &'a [String]) -> Result<Option<Rec
     if command.as_str() != "recover" {
         return Ok(None);
     }
-    let Some(queue) = queue_named(queue.as_str()) else {
+    let Some(queue) = parse_queue(queue.as_str()) else {
         return Ok(None);
     };
-    let Some(version) = version_named(version.as_str()) else {
+    let Some(version) = parse_version(version.as_str()) else {
         return Ok(None);
     };
-    let Some(workers) = number_named(workers.as_str()) else {
+    let Some(workers) = parse_number(workers.as_str()) else {
         return Ok(None);
     };
-    let Some(paths) = paths_named(alloc, path_words)? else {
+    let Some(paths) = parse_paths(alloc, path_words)? else {
         return Ok(None);
     };
     Ok(Some(RecoverWords {
@@ -129,7 +129,7 @@ fn recovery_request<'a>(alloc: Global, words: &'a [String]) -> Result<Option<Rec
 /// # Errors
 ///
 /// `Memory` alone, and only if each word names a file.
-pub(crate) fn paths_named(alloc: Global, words: &[String]) -> Result<Option<Vec<(FileSeq, &str)>>>
+pub(crate) fn parse_paths(alloc: Global, words: &[String]) -> Result<Option<Vec<(FileSeq, &str)>>>
     ensures named { IfOk result (λ r. IfSome r (λ paths.
         ArePathsNamed (map string_bytes words.now) (map path_shown paths.items))) }
     ensures refused { IfOk result (λ r. IfNone r
@@ -139,10 +139,10 @@ pub(crate) fn paths_named(alloc: Global, words: &[String]) -> Result<Option<Vec<
 {
     let mut paths = Ok(Vec::new(alloc));
     for word in words {
-        let Some(path) = path_named(word.as_str()) else {
+        let Some(path) = parse_path(word.as_str()) else {
             return Ok(None);
         };
-        paths = with_path(paths, path);
+        paths = append_path(paths, path);
     }
     Ok(Some(paths?))
 }
@@ -153,7 +153,7 @@ pub(crate) fn paths_named(alloc: Global, words: &[String]) -> Result<Option<Vec<
 /// # Errors
 ///
 /// `Memory`, now or for an earlier path.
-fn with_path<'a>(
+fn append_path<'a>(
     paths: Result<Vec<(FileSeq, &'a str)>>,
     path: (FileSeq, &'a str),
 ) -> Result<Vec<(FileSeq, &'a str)>>
@@ -171,12 +171,12 @@ fn with_path<'a>(
 
 /// Returns the number and the path of the file that `word` names, as `SEQ=PATH`. Returns `None` for any other
 /// word.
-fn path_named(word: &str) -> Option<(FileSeq, &str)>
+fn parse_path(word: &str) -> Option<(FileSeq, &str)>
     ensures named { IfSome result (λ file. NamesPath word.now file.0 file.1.now) }
     ensures refused { IfNone result (IsPathWord word.now → ⊥) }
 {
     let (seq, path) = word.split_once('=')?;
-    Some((number_named(seq)?, path))
+    Some((parse_number(seq)?, path))
 }
 
 /// Reads the files whose numbers and paths are in `named`, one after another. Returns the number and all
@@ -202,7 +202,7 @@ pub fn read_files<R: Files + AllocGlobal>(
 }
 
 /// Returns the queue that `word` names, `append` or `rewrite`, or `None` for any other word.
-pub(crate) fn queue_named(word: &str) -> Option<LogQueue>
+pub(crate) fn parse_queue(word: &str) -> Option<LogQueue>
     ensures named { IfSome result (λ queue. word.now ≡ queue_word queue) }
     ensures refused { IfNone result ((queue : LogQueue) → word.now ≡ queue_word queue → ⊥) }
 {
@@ -214,7 +214,7 @@ pub(crate) fn queue_named(word: &str) -> Option<LogQueue>
 }
 
 /// Returns the format version that `word` names, `1` or `2`, or `None` for any other word.
-pub(crate) fn version_named(word: &str) -> Option<Version>
+pub(crate) fn parse_version(word: &str) -> Option<Version>
     ensures named { IfSome result (λ version. word.now ≡ version_word version) }
     ensures refused { IfNone result ((version : Version) → word.now ≡ version_word version → ⊥) }
 {
@@ -227,7 +227,7 @@ pub(crate) fn version_named(word: &str) -> Option<Version>
 
 /// Returns the number that `word` spells in decimal digits, without a sign. Returns `None` for any other
 /// word, and for a number above 2^64 - 1.
-fn number_named(word: &str) -> Option<u64>
+fn parse_number(word: &str) -> Option<u64>
     ensures named { IfSome result (IsNumberWord word.now) }
     ensures refused { IfNone result ((n : ℕ) → IsNumberWord word.now n → ⊥) }
 {

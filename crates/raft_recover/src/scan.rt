@@ -60,7 +60,7 @@ impl Finding {
     /// Returns the position at which a scan goes on after it found this at position `at`: after a batch and,
     /// with `past_damage`, after damage with a header that gives its length. Returns `None` if the scan ends
     /// there.
-    fn next_after(self, at: usize, past_damage: bool) -> Option<usize>
+    fn next_scan_position(self, at: usize, past_damage: bool) -> Option<usize>
         requires { EndsWithin (2 ^ 64 - 1) at self }
         ensures { result ≡ next_after past_damage at self }
     {
@@ -95,20 +95,20 @@ pub fn append_scan(
     let mut at = 0;
     let mut undamaged = true;
     while at < part.bytes().len() {
-        let finding = found_at(alloc, part, at)?;
+        let finding = finding_at(alloc, part, at)?;
         append_finding(part, at, &finding, text)?;
-        undamaged = both(undamaged, finding.is_undamaged());
-        let Some(next) = finding.next_after(at, past_damage) else {
+        undamaged = are_both_true(undamaged, finding.is_undamaged());
+        let Some(next) = finding.next_scan_position(at, past_damage) else {
             return Ok(undamaged);
         };
         at = next;
     }
-    append_end(part, text)?;
+    append_end_line(part, text)?;
     Ok(undamaged)
 }
 
 /// Tests whether `first` and `second` are both true. Unlike with `&&`, the second is always computed.
-pub(crate) fn both(first: bool, second: bool) -> bool
+pub(crate) fn are_both_true(first: bool, second: bool) -> bool
     ensures { result ≡ first && second }
 {
     first && second
@@ -119,21 +119,27 @@ pub(crate) fn both(first: bool, second: bool) -> bool
 /// # Errors
 ///
 /// `Memory` alone.
-fn found_at(alloc: Global, part: &FilePart, at: usize) -> Result<Finding>
+fn finding_at(alloc: Global, part: &FilePart, at: usize) -> Result<Finding>
     requires { at < length part.now.bytes }
     ensures ok { IfOk result (IsFound part.now at) }
     ensures memory { IfErr result (λ e. e ≡ Error.Memory) }
 {
     match next_batch(part, at) {
-        Ok(Some((batch, next))) => Ok(batch_at(alloc, part, at, &batch, next)),
+        Ok(Some((batch, next))) => Ok(batch_finding(alloc, part, at, &batch, next)),
         Ok(None) => unreachable!(),
-        Err(reason) => damage_found(alloc, part, at, reason),
+        Err(reason) => damage_finding(alloc, part, at, reason),
     }
 }
 
 /// Returns the finding for `batch`, which can be read at position `at` of `part`. `next` is the position
 /// after it; only the contract needs it.
-fn batch_at(alloc: Global, part: &FilePart, at: usize, batch: &LogItemBatch, next: usize) -> Finding
+fn batch_finding(
+    alloc: Global,
+    part: &FilePart,
+    at: usize,
+    batch: &LogItemBatch,
+    next: usize,
+) -> Finding
     requires { IsBatchAt part.now at batch.now next }
     ensures { IsFound part.now at result }
 {
@@ -153,7 +159,7 @@ fn batch_at(alloc: Global, part: &FilePart, at: usize, batch: &LogItemBatch, nex
 /// # Errors
 ///
 /// `Memory`, if that is the reason.
-fn damage_found(alloc: Global, part: &FilePart, at: usize, reason: Error) -> Result<Finding>
+fn damage_finding(alloc: Global, part: &FilePart, at: usize, reason: Error) -> Result<Finding>
     requires inside { at ≤ length part.now.bytes }
     requires none { reason ≢ Error.Memory
         → HasNoFront (λ bytes. IsReadable bytes (signature_in part.now.version part.now.id.seq))
@@ -223,7 +229,7 @@ fn append_finding(part: &FilePart, at: usize, found: &Finding, text: &mut String
 /// # Errors
 ///
 /// `AllocError` if there is no memory. Some of the text may have been appended then.
-fn append_end(part: &FilePart, text: &mut String) -> AllocResult<()>
+fn append_end_line(part: &FilePart, text: &mut String) -> AllocResult<()>
     ensures { OnOk result (string_bytes text.new ≡ string_bytes text.old ++ end_line part.now) }
 {
     append_place(part, part.bytes().len(), text)?;

@@ -4,8 +4,8 @@ ghost use Rattle.std.specs.Prelude.{◌≡◌, ◌≢◌, ◌≤◌, ◌↔◌, 
 ghost use Rattle.raft_recover.specs.Common.{Keeps, error_kind, AskedScan, NamesFiles, AsksScan, AsksNoScan, AreScanned, IsScanPrinted, IsScanFrontPrinted, scan_asked, file_shown};
 
 use crate::ending::{Program, Status};
-use crate::request::{paths_named, queue_named, read_files, version_named};
-use crate::scan::{append_scan, both};
+use crate::request::{parse_paths, parse_queue, parse_version, read_files};
+use crate::scan::{append_scan, are_both_true};
 use raft_base::{Error, FileId, FileSeq, LogQueue, Result, Version};
 use raft_records::{FilePart, write_whole};
 use std::alloc::Global;
@@ -55,15 +55,15 @@ pub fn run_scan<S: Files + AllocGlobal, W: Write, E: Write>(
     ensures misused { (result ≡ 2) ↔ AsksNoScan (map string_bytes words.now) }
     ensures untouched { result ≡ 2 → Keeps (W.contents out.old) (W.contents out.new) }
 {
-    let scan = match scan_request(rt.alloc(), words) {
+    let scan = match parse_scan_request(rt.alloc(), words) {
         Ok(Some(scan)) => scan,
-        Ok(None) => return SCAN.misused(err),
-        Err(memory) => return SCAN.refused(&memory, err),
+        Ok(None) => return SCAN.print_usage(err),
+        Err(memory) => return SCAN.print_refusal(&memory, err),
     };
-    match print(rt, scan, out) {
+    match print_scan(rt, scan, out) {
         Ok(true) => Status::Done as u8,
         Ok(false) => Status::Refused as u8,
-        Err(error) => SCAN.refused(&error, err),
+        Err(error) => SCAN.print_refusal(&error, err),
     }
 }
 
@@ -74,7 +74,7 @@ pub fn scan_without_words<E: Write>(error: &io::Error, err: &mut E) -> u8
     ensures memory { error_kind error.now ≡ ErrorKind.OutOfMemory → result ≡ 1 }
     ensures misused { error_kind error.now ≢ ErrorKind.OutOfMemory → result ≡ 2 }
 {
-    SCAN.without_words(error, err)
+    SCAN.report_unreadable_words(error, err)
 }
 
 /// Returns the scan that the words `[--past-damage] <queue> <version> <seq>=<path>..` ask for, or `None` for
@@ -83,7 +83,7 @@ pub fn scan_without_words<E: Write>(error: &io::Error, err: &mut E) -> u8
 /// # Errors
 ///
 /// `Memory` alone, and only if the words ask for one.
-fn scan_request<'a>(alloc: Global, words: &'a [String]) -> Result<Option<ScanWords<'a>>>
+fn parse_scan_request<'a>(alloc: Global, words: &'a [String]) -> Result<Option<ScanWords<'a>>>
     ensures asked { IfOk result (λ r. IfSome r (λ scan.
         AsksScan (map string_bytes words.now) (scan_asked scan))) }
     ensures refused { IfOk result (λ r. IfNone r (AsksNoScan (map string_bytes words.now))) }
@@ -94,9 +94,9 @@ fn scan_request<'a>(alloc: Global, words: &'a [String]) -> Result<Option<ScanWor
         return Ok(None);
     };
     if first.as_str() == PAST_DAMAGE {
-        return files_request(alloc, true, rest);
+        return parse_scanned_files(alloc, true, rest);
     }
-    files_request(alloc, false, words)
+    parse_scanned_files(alloc, false, words)
 }
 
 /// Returns the scan of the files that the words `<queue> <version> <seq>=<path>..` name, or `None` for other
@@ -105,7 +105,7 @@ fn scan_request<'a>(alloc: Global, words: &'a [String]) -> Result<Option<ScanWor
 /// # Errors
 ///
 /// `Memory` alone, and only if the words name files.
-fn files_request(alloc: Global, past: bool, words: &[String]) -> Result<Option<ScanWords<'_>>>
+fn parse_scanned_files(alloc: Global, past: bool, words: &[String]) -> Result<Option<ScanWords<'_>>>
     ensures asked { IfOk result (λ r. IfSome r (λ scan. (scan.past_damage ≡ past)
         × NamesFiles (map string_bytes words.now) (scan_asked scan))) }
     ensures refused { IfOk result (λ r. IfNone r
@@ -117,13 +117,13 @@ fn files_request(alloc: Global, past: bool, words: &[String]) -> Result<Option<S
     let [queue, version, path_words @ ..] = words else {
         return Ok(None);
     };
-    let Some(queue) = queue_named(queue.as_str()) else {
+    let Some(queue) = parse_queue(queue.as_str()) else {
         return Ok(None);
     };
-    let Some(version) = version_named(version.as_str()) else {
+    let Some(version) = parse_version(version.as_str()) else {
         return Ok(None);
     };
-    let Some(paths) = paths_named(alloc, path_words)? else {
+    let Some(paths) = parse_paths(alloc, path_words)? else {
         return Ok(None);
     };
     Ok(Some(ScanWords {
@@ -141,7 +141,11 @@ fn files_request(alloc: Global, past: bool, words: &[String]) -> Result<Option<S
 ///
 /// `Io` if a file can't be read or the writer fails; `Memory`. A part of the lines, from the first byte on,
 /// may have been printed then.
-fn print<S: Files + AllocGlobal, W: Write>(rt: &S, scan: ScanWords<'_>, out: &mut W) -> Result<bool>
+fn print_scan<S: Files + AllocGlobal, W: Write>(
+    rt: &S,
+    scan: ScanWords<'_>,
+    out: &mut W,
+) -> Result<bool>
     ensures done { (words : List (List ℕ)) → AsksScan words (scan_asked scan.entry)
         → IfOk result
         (λ undamaged. IsScanPrinted undamaged words (W.contents out.old) (W.contents out.new)) }
@@ -179,7 +183,7 @@ fn append_scans(
     for (seq, bytes) in files {
         let part = FilePart::new(FileId::new(scan.queue, seq), scan.version, 0, bytes)?;
         let undamaged = append_scan(alloc, &part, scan.past_damage, text)?;
-        all_undamaged = both(all_undamaged, undamaged);
+        all_undamaged = are_both_true(all_undamaged, undamaged);
     }
     Ok(all_undamaged)
 }

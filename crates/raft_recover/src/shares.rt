@@ -37,13 +37,13 @@ pub fn equal_shares(
     ensures few { IfOk result (λ shares. length shares.items ≤ count) }
     ensures memory { IfErr result (λ e. e ≡ Error.Memory) }
 {
-    let share = (bytes_of(segments) / count).max(least);
-    shares_of(short_parts(alloc, segments, share)?, share, count)
+    let share = (total_bytes(segments) / count).max(least);
+    group_into_shares(cut_long_parts(alloc, segments, share)?, share, count)
 }
 
 /// Returns how many bytes all parts hold, capped at 2^64 - 1.
 /// The parts are those of all `segments`.
-pub(crate) fn bytes_of(segments: &[Segment]) -> usize {
+pub(crate) fn total_bytes(segments: &[Segment]) -> usize {
     let mut bytes = 0usize;
     for segment in segments {
         for part in segment {
@@ -58,14 +58,14 @@ pub(crate) fn bytes_of(segments: &[Segment]) -> usize {
 /// # Errors
 ///
 /// `Memory` alone.
-fn short_parts(alloc: Global, segments: &[Segment], share: usize) -> Result<Vec<FilePart>>
+fn cut_long_parts(alloc: Global, segments: &[Segment], share: usize) -> Result<Vec<FilePart>>
     requires { 0 < share }
     ensures cut { IfOk result (λ parts. AreDivided (parts_within segments.entry.now) parts.items) }
     ensures memory { IfErr result (λ e. e ≡ Error.Memory) }
 {
     let mut parts = Vec::new(alloc);
     for segment in segments {
-        append_short(alloc, segment, share, &mut parts)?;
+        append_cut_parts(alloc, segment, share, &mut parts)?;
     }
     Ok(parts)
 }
@@ -75,7 +75,12 @@ fn short_parts(alloc: Global, segments: &[Segment], share: usize) -> Result<Vec<
 /// # Errors
 ///
 /// `Memory` alone. Some parts may have been appended then.
-fn append_short(alloc: Global, from: &Segment, share: usize, to: &mut Vec<FilePart>) -> Result<()>
+fn append_cut_parts(
+    alloc: Global,
+    from: &Segment,
+    share: usize,
+    to: &mut Vec<FilePart>,
+) -> Result<()>
     requires { 0 < share }
     ensures cut { (these : List Part) → AreDivided these to.old.items
         → OnOk result (AreDivided (these ++ from.now.items) to.new.items) }
@@ -94,7 +99,7 @@ fn append_short(alloc: Global, from: &Segment, share: usize, to: &mut Vec<FilePa
 /// # Errors
 ///
 /// `Memory` alone. The parts are dropped then.
-fn shares_of(parts: Vec<FilePart>, share: usize, count: usize) -> Result<Vec<Segment>>
+fn group_into_shares(parts: Vec<FilePart>, share: usize, count: usize) -> Result<Vec<Segment>>
     requires { (0 < share) × (0 < count) }
     ensures same { IfOk result (λ shares. parts_within shares.items ≡ parts.items) }
     ensures few { IfOk result (λ shares. length shares.items ≤ count) }

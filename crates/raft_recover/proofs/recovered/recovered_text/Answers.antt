@@ -6,8 +6,8 @@ pub returns-clause-ok : goal.returns-clause-ok
 returns-clause-ok c =
     let moved = IsPermutation-map (λ t. t.now) c.in_ok-tables.tables.items c.sort_by_region.new.tables.items c.sort_by_region.ensures.moved in
     let lines = rw (c.as_slice.ensures.value) at c.in_ok-append_tables.ensures in
-    let cleaned = rw (c.cleaned_regions.ensures) at c.in_ok-append_cleaned.ensures in
-    let live = rw (c.stats.ensures) at c.in_ok-append_live.ensures in
+    let cleaned = rw (c.cleaned_regions.ensures) at c.in_ok-append_cleaned_regions.ensures in
+    let live = rw (c.stats.ensures) at c.in_ok-append_live_counts.ensures in
     record {
       tables = map (λ t. t.now) c.sort_by_region.new.tables.items;
       by_region = record {

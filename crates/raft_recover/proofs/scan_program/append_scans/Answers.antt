@@ -32,11 +32,11 @@ goes_on c =
     before found.1 scanned)
 
 pub loop-seq-preserved : goal.loop-seq-preserved
-loop-seq-preserved c = goes_on (at.loop-seq-preserved c).In_ok-undamaged c.both-all_undamaged.result c.both-all_undamaged.ensures
+loop-seq-preserved c = goes_on (at.loop-seq-preserved c).In_ok-undamaged c.are_both_true-all_undamaged.result c.are_both_true-all_undamaged.ensures
 
 pub loop-seq-preserved-in_ok-undamaged : goal.loop-seq-preserved-in_ok-undamaged
 loop-seq-preserved-in_ok-undamaged c =
-    goes_on (at.loop-seq-preserved-in_ok-undamaged c).In_ok-undamaged c.both-all_undamaged.result c.both-all_undamaged.ensures
+    goes_on (at.loop-seq-preserved-in_ok-undamaged c).In_ok-undamaged c.are_both_true-all_undamaged.result c.are_both_true-all_undamaged.ensures
 
 pub returns-clause-ok : goal.returns-clause-ok
 returns-clause-ok c =

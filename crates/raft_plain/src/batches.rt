@@ -4,8 +4,8 @@ ghost use Rattle.std.specs.Prelude.{◌≡◌, ◌≢◌, ◌++◌, ◌∷◌, [
 ghost use Rattle.raft_plain.specs.Common.{nat_cmp, IsOrdered, AreDecodedIn, event, Event, Sound, HasRead, tables_shown, tables_after, region_step_shown, steps_of_items};
 
 use crate::Reading;
-use crate::groups::{after_marker, join_steps, marker_in};
-use crate::region::{Regions, after_step, or_new, take_region, with_region};
+use crate::groups::{apply_marker, find_group_marker, join_steps};
+use crate::region::{Regions, apply_step_to_region, region_or_empty, set_region, take_region};
 use raft_base::{AllocResult, Error, FileId, LogQueue, Result};
 use raft_history::RegionStep;
 use raft_records::LogItemBatch;
@@ -18,7 +18,7 @@ use std::alloc::Global;
 ///
 /// `Corruption` if the file is numbered below the last one, a group marker has an unknown status, or a run
 /// leaves a hole in the append queue; `Memory`.
-pub(crate) fn with_batch(
+pub(crate) fn apply_batch(
     alloc: Global,
     queue: LogQueue,
     reading: Reading,
@@ -35,10 +35,10 @@ pub(crate) fn with_batch(
     if file.seq < reading.last {
         return Err(Error::corruption(alloc, "a file out of order"));
     }
-    let marker = marker_in(alloc, queue, batch.as_slice())?;
-    let own = steps_of(alloc, batch)?;
-    let (waiting, effect) = after_marker(alloc, reading.waiting, marker, own, file.seq)?;
-    let regions = with_steps(alloc, queue, reading.regions, effect.as_slice())?;
+    let marker = find_group_marker(alloc, queue, batch.as_slice())?;
+    let own = steps_in_batch(alloc, batch)?;
+    let (waiting, effect) = apply_marker(alloc, reading.waiting, marker, own, file.seq)?;
+    let regions = apply_steps(alloc, queue, reading.regions, effect.as_slice())?;
     let steps = join_steps(reading.steps, effect)?;
     let last = file.seq;
     Ok(Reading {
@@ -55,7 +55,7 @@ pub(crate) fn with_batch(
 /// # Errors
 ///
 /// `AllocError` if there is no memory.
-fn steps_of(alloc: Global, batch: LogItemBatch) -> AllocResult<Vec<RegionStep>>
+fn steps_in_batch(alloc: Global, batch: LogItemBatch) -> AllocResult<Vec<RegionStep>>
     ensures { IfOk result (λ steps. map region_step_shown steps.items ≡ steps_of_items batch) }
 {
     let mut steps = Vec::new(alloc);
@@ -72,7 +72,7 @@ fn steps_of(alloc: Global, batch: LogItemBatch) -> AllocResult<Vec<RegionStep>>
 /// # Errors
 ///
 /// `Corruption` if a run leaves a hole in the append queue; `Memory`.
-fn with_steps(
+fn apply_steps(
     alloc: Global,
     queue: LogQueue,
     mut regions: Regions,
@@ -86,7 +86,7 @@ fn with_steps(
         (tables_shown regions) (map region_step_shown steps.now) ≡ None) }
 {
     for step in steps {
-        regions = with_step(alloc, queue, regions, step)?;
+        regions = apply_step(alloc, queue, regions, step)?;
     }
     Ok(regions)
 }
@@ -97,7 +97,12 @@ fn with_steps(
 /// # Errors
 ///
 /// `Corruption` if a run leaves a hole in the append queue; `Memory`.
-fn with_step(alloc: Global, queue: LogQueue, regions: Regions, step: &RegionStep) -> Result<Regions>
+fn apply_step(
+    alloc: Global,
+    queue: LogQueue,
+    regions: Regions,
+    step: &RegionStep,
+) -> Result<Regions>
     requires { IsOrdered nat_cmp regions }
     ensures ordered { IfOk result (IsOrdered nat_cmp) }
     ensures ok { IfOk result (λ new. tables_after queue (tables_shown regions)
@@ -106,6 +111,6 @@ fn with_step(alloc: Global, queue: LogQueue, regions: Regions, step: &RegionStep
         (tables_shown regions) (region_step_shown step.now ∷ []) ≡ None) }
 {
     let (own, others) = take_region(regions, step.region);
-    let new = after_step(alloc, queue, or_new(alloc, own), &step.step)?;
-    Ok(with_region(others, step.region, new)?)
+    let new = apply_step_to_region(alloc, queue, region_or_empty(alloc, own), &step.step)?;
+    Ok(set_region(others, step.region, new)?)
 }

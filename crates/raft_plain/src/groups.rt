@@ -34,7 +34,7 @@ pub type Stretches = BTreeMap<u64, Stretch>;
 /// # Errors
 ///
 /// `Corruption` if the status of a marker is unknown; `Memory` if there is none for the text.
-pub(crate) fn marker_in(
+pub(crate) fn find_group_marker(
     alloc: Global,
     queue: LogQueue,
     items: &[LogItem],
@@ -79,7 +79,7 @@ fn first_marker(alloc: Global, items: &[LogItem]) -> Result<Option<(u64, AtomicG
 /// # Errors
 ///
 /// `AllocError` if there is no memory. Stretches and steps are dropped then.
-pub(crate) fn after_marker(
+pub(crate) fn apply_marker(
     alloc: Global,
     waiting: Stretches,
     marker: Option<(u64, AtomicGroupStatus)>,
@@ -118,7 +118,7 @@ pub(crate) fn after_marker(
             Some(stretch) => {
                 let first_seq = stretch.first_seq;
                 let steps = join_steps(stretch.steps, steps)?;
-                let whole = whole_steps(alloc, steps, first_seq, seq)?;
+                let whole = append_group_marks(alloc, steps, first_seq, seq)?;
                 Ok((others, whole))
             }
             None => Ok((others, Vec::new(alloc))),
@@ -144,7 +144,12 @@ fn take_stretch(mut waiting: Stretches, group: u64) -> (Option<Stretch>, Stretch
 /// # Errors
 ///
 /// `AllocError` if there is no memory.
-fn whole_steps(alloc: Global, steps: Steps, first_seq: u64, last_seq: u64) -> AllocResult<Steps>
+fn append_group_marks(
+    alloc: Global,
+    steps: Steps,
+    first_seq: u64,
+    last_seq: u64,
+) -> AllocResult<Steps>
     ensures { IfOk result (λ all. map region_step_shown all.items ≡ marked_steps
         (map region_step_shown steps.items) first_seq last_seq) }
 {

@@ -5,7 +5,7 @@ ghost use Rattle.std.specs.FinSet as finset;
 ghost use Rattle.raft_plain.specs.Common.{nat_cmp, IsOrdered, step_shown, region_step_shown, steps_on, has_clean, greatest_compaction, least_cut, lesser, is_unjoined, rewritten_within, overlaid_table, overlay, is_under, entries_within, end_of, keys_shown, table_shown, tables_shown, pairs_over, without, deleted_of, AreOverlaid};
 
 use crate::region::{
-    Entries, Keys, Region, Regions, end_of, or_new, take_region, with_region, without_key,
+    Entries, Keys, Region, Regions, end_of, region_or_empty, remove_key, set_region, take_region,
 };
 use raft_base::{AllocResult, EntryIndex};
 use raft_history::RegionStep;
@@ -19,7 +19,7 @@ use std::collections::BTreeMap;
 /// # Errors
 ///
 /// `AllocError` if there is no memory. The records are dropped then.
-pub(crate) fn overlay_all(
+pub(crate) fn overlay_regions(
     alloc: Global,
     mut appended: Regions,
     rewritten: Regions,
@@ -34,11 +34,11 @@ pub(crate) fn overlay_all(
         let (newer, others) = take_region(appended, id);
         appended = others;
         let region = overlay_region(alloc, id, steps, newer, Some(older))?;
-        both = with_region(both, id, region)?;
+        both = set_region(both, id, region)?;
     }
     for (id, newer) in appended {
         let region = overlay_region(alloc, id, steps, Some(newer), None)?;
-        both = with_region(both, id, region)?;
+        both = set_region(both, id, region)?;
     }
     Ok(both)
 }
@@ -61,20 +61,20 @@ fn overlay_region(
         ≡ overlaid_table id (steps_on id (map region_step_shown steps.now))
         (option_map (table_shown id) newer) (option_map (table_shown id) older)) }
 {
-    let own = steps_on(alloc, id, steps)?;
+    let own = steps_on_region(alloc, id, steps)?;
     if has_clean(own.as_slice()) {
         return Ok(newer);
     }
     match newer {
         Some(newer) => {
-            let older = or_new(alloc, older);
-            let both = overlay(alloc, own.as_slice(), newer, older)?;
+            let older = region_or_empty(alloc, older);
+            let both = overlay_records(alloc, own.as_slice(), newer, older)?;
             Ok(Some(both))
         }
         None => match older {
             Some(older) => {
-                let newer = or_new(alloc, None);
-                let both = overlay(alloc, own.as_slice(), newer, older)?;
+                let newer = region_or_empty(alloc, None);
+                let both = overlay_records(alloc, own.as_slice(), newer, older)?;
                 Ok(Some(both))
             }
             None => Ok(None),
@@ -88,7 +88,11 @@ fn overlay_region(
 ///
 /// `AllocError` if there is no memory.
 #[tactic(auto, unfolding(raft_history::specs::RegionSteps::steps_on))]
-fn steps_on<'a>(alloc: Global, id: u64, steps: &'a [RegionStep]) -> AllocResult<Vec<&'a Step>>
+fn steps_on_region<'a>(
+    alloc: Global,
+    id: u64,
+    steps: &'a [RegionStep],
+) -> AllocResult<Vec<&'a Step>>
     ensures { IfOk result (λ own. map (λ s. step_shown s.now) own.items
         ≡ steps_on id (map region_step_shown steps.now)) }
 {
@@ -109,18 +113,23 @@ fn steps_on<'a>(alloc: Global, id: u64, steps: &'a [RegionStep]) -> AllocResult<
 /// # Errors
 ///
 /// `AllocError` if there is no memory.
-fn overlay(alloc: Global, steps: &[&Step], newer: Region, older: Region) -> AllocResult<Region>
+fn overlay_records(
+    alloc: Global,
+    steps: &[&Step],
+    newer: Region,
+    older: Region,
+) -> AllocResult<Region>
     requires { has_clean (map (λ s. step_shown s.now) steps.now) ≡ false }
     ensures { IfOk result (λ both. (id : ℕ) → table_shown id both
         ≡ overlay (map (λ s. step_shown s.now) steps.now) (table_shown id newer) (table_shown id older)) }
 {
     let mut appended = newer.entries;
-    let mut entries = rewritten_within(alloc, steps, older.entries, appended.as_slice());
+    let mut entries = remaining_rewritten_entries(alloc, steps, older.entries, appended.as_slice());
     entries.append(&mut appended)?;
-    let keys = without_deleted(older.keys, steps);
+    let keys = remove_deleted_keys(older.keys, steps);
     Ok(Region {
         entries,
-        keys: with_pairs(keys, newer.keys)?,
+        keys: insert_pairs(keys, newer.keys)?,
         group: older.group,
     })
 }
@@ -128,7 +137,12 @@ fn overlay(alloc: Global, steps: &[&Step], newer: Region, older: Region) -> Allo
 /// Returns those of the rewritten entries, `older`, that stay: from the greatest compaction among `steps` on
 /// and below the least start of a run or index of a truncation, if there are any. None stay if the appended
 /// entries, `newer`, don't join them there.
-fn rewritten_within(alloc: Global, steps: &[&Step], older: Entries, newer: &[EntryIndex]) -> Entries
+fn remaining_rewritten_entries(
+    alloc: Global,
+    steps: &[&Step],
+    older: Entries,
+    newer: &[EntryIndex],
+) -> Entries
     ensures { result.items ≡ rewritten_within (greatest_compaction (map (λ s. step_shown s.now) steps.now))
         (least_cut (map (λ s. step_shown s.now) steps.now)) newer.now older.items }
 {
@@ -144,12 +158,12 @@ fn rewritten_within(alloc: Global, steps: &[&Step], older: Entries, newer: &[Ent
 fn entries_within(floor: u64, cut: Option<u64>, mut entries: Entries) -> Entries
     ensures { result.items ≡ entries_within floor cut entries.items }
 {
-    entries.retain(|entry| floor <= entry.index && is_under(cut, entry.index));
+    entries.retain(|entry| floor <= entry.index && is_below_cut(cut, entry.index));
     entries
 }
 
 /// Tests whether `index` is below `cut`. True if `cut` is `None`.
-fn is_under(cut: Option<u64>, index: u64) -> bool
+fn is_below_cut(cut: Option<u64>, index: u64) -> bool
     ensures { result ≡ is_under cut index }
 {
     match cut {
@@ -187,13 +201,13 @@ fn greatest_compaction(steps: &[&Step]) -> u64
 {
     let mut greatest: u64 = 0;
     for step in steps {
-        greatest = greatest.max(compaction_of(step));
+        greatest = greatest.max(compaction_index(step));
     }
     greatest
 }
 
 /// Returns the index below which `step` drops entries if it is a compaction, else 0.
-fn compaction_of(step: &Step) -> u64
+fn compaction_index(step: &Step) -> u64
     ensures { (steps : _) → max result (greatest_compaction steps)
         ≡ greatest_compaction (step_shown step.now ∷ steps) }
 {
@@ -210,14 +224,14 @@ fn least_cut(steps: &[&Step]) -> Option<u64>
 {
     let mut least = None;
     for step in steps {
-        least = lesser(least, cut_of(step));
+        least = min_of_options(least, cut_index(step));
     }
     least
 }
 
 /// Returns the index from which on `step` drops older entries: the start of a run, or the index of a
 /// truncation. Returns `None` for any other step, and for a run without entries.
-fn cut_of(step: &Step) -> Option<u64>
+fn cut_index(step: &Step) -> Option<u64>
     ensures { (steps : _) → lesser result (least_cut steps) ≡ least_cut (step_shown step.now ∷ steps) }
 {
     match step {
@@ -229,7 +243,7 @@ fn cut_of(step: &Step) -> Option<u64>
 
 /// Returns the lesser of the numbers `a` and `b`. If only one is there, it returns that one, and `None` if
 /// neither is.
-pub(crate) fn lesser(a: Option<u64>, b: Option<u64>) -> Option<u64>
+pub(crate) fn min_of_options(a: Option<u64>, b: Option<u64>) -> Option<u64>
     ensures { result ≡ lesser a b }
 {
     match (a, b) {
@@ -239,25 +253,25 @@ pub(crate) fn lesser(a: Option<u64>, b: Option<u64>) -> Option<u64>
 }
 
 /// Returns `keys` without those that one of `steps` deletes. None of `steps` cleans the region.
-fn without_deleted(mut keys: Keys, steps: &[&Step]) -> Keys
+fn remove_deleted_keys(mut keys: Keys, steps: &[&Step]) -> Keys
     requires { has_clean (map (λ s. step_shown s.now) steps.now) ≡ false }
     ensures { keys_shown result
         ≡ without (deleted_of finset.empty (map (λ s. step_shown s.now) steps.now)) (keys_shown keys) }
 {
     for step in steps {
-        keys = without_deleted_by(keys, step);
+        keys = remove_deleted_key(keys, step);
     }
     keys
 }
 
 /// Returns `keys` without the one that `step` deletes. Returns them all if it deletes none.
-fn without_deleted_by(keys: Keys, step: &Step) -> Keys
+fn remove_deleted_key(keys: Keys, step: &Step) -> Keys
     ensures { (steps : _) → has_clean (step_shown step.now ∷ steps) ≡ false
         → without (deleted_of finset.empty steps) (keys_shown result)
         ≡ without (deleted_of finset.empty (step_shown step.now ∷ steps)) (keys_shown keys) }
 {
     match step {
-        Step::Del { key } => without_key(keys, key),
+        Step::Del { key } => remove_key(keys, key),
         _ => keys,
     }
 }
@@ -267,7 +281,7 @@ fn without_deleted_by(keys: Keys, step: &Step) -> Keys
 /// # Errors
 ///
 /// `AllocError` if there is no memory.
-fn with_pairs(mut keys: Keys, newer: Keys) -> AllocResult<Keys>
+fn insert_pairs(mut keys: Keys, newer: Keys) -> AllocResult<Keys>
     ensures { IfOk result (λ all. keys_shown all ≡ pairs_over (keys_shown newer) (keys_shown keys)) }
 {
     for (key, stored) in newer {

@@ -4,7 +4,7 @@ ghost use Rattle.std.specs.Prelude.{◌≡◌, ◌≢◌, ◌+◌, ◌≤◌, �
 ghost use Rattle.raft_plain.specs.Common.{ArePartsOf, HasReplayed, CannotFollow, HasRead, HoldsFrom, EachHolds, IsInvalidArgument, IsPlaced, StopsIn, StopsAmong, IsNothing, Sound, IsReadOf};
 
 use crate::Reading;
-use crate::batches::with_batch;
+use crate::batches::apply_batch;
 use raft_base::{Error, FileId, LogQueue, Result};
 use raft_records::{FilePart, next_batch};
 use raft_replay::segment::corruption_at;
@@ -20,14 +20,14 @@ pub(crate) fn check_parts(alloc: Global, queue: LogQueue, parts: &[FilePart]) ->
     ensures err { OnErr result (¬ (ArePartsOf queue parts.entry.now)) }
     ensures fault { IfErr result (λ e. e ≢ Error.Memory → IsInvalidArgument e) }
 {
-    if are_of(queue, parts) {
+    if are_parts_of_queue(queue, parts) {
         return Ok(());
     }
     Err(Error::invalid_argument(alloc, "a part of another queue"))
 }
 
 /// Tests whether all of `parts` are of files of `queue`.
-fn are_of(queue: LogQueue, parts: &[FilePart]) -> bool
+fn are_parts_of_queue(queue: LogQueue, parts: &[FilePart]) -> bool
     ensures { IsTrue result ↔ ArePartsOf queue parts.now }
 {
     parts.iter().all(|part| part.id().queue == queue)
@@ -48,7 +48,7 @@ pub fn read_parts(alloc: Global, queue: LogQueue, parts: &[FilePart]) -> Result<
 {
     let mut reading = Reading::new(alloc);
     for part in parts {
-        reading = with_part(alloc, queue, reading, part)?;
+        reading = apply_part(alloc, queue, reading, part)?;
     }
     Ok(reading)
 }
@@ -58,7 +58,7 @@ pub fn read_parts(alloc: Global, queue: LogQueue, parts: &[FilePart]) -> Result<
 /// # Errors
 ///
 /// Those of [`read_parts`].
-fn with_part(
+fn apply_part(
     alloc: Global,
     queue: LogQueue,
     mut reading: Reading,
@@ -73,17 +73,22 @@ fn with_part(
     loop {
         match next_batch(part, at) {
             Ok(Some((batch, next))) => {
-                match with_batch(alloc, queue, reading, batch, part.id()) {
+                match apply_batch(alloc, queue, reading, batch, part.id()) {
                     Ok(read) => reading = read,
                     Err(error) => {
-                        return Err(with_place(alloc, error, part.id(), part.offset() + at as u64));
+                        return Err(error_with_place(
+                            alloc,
+                            error,
+                            part.id(),
+                            part.offset() + at as u64,
+                        ));
                     }
                 }
                 at = next;
             }
             Ok(None) => return Ok(reading),
             Err(error) => {
-                return Err(with_place(alloc, error, part.id(), part.offset() + at as u64));
+                return Err(error_with_place(alloc, error, part.id(), part.offset() + at as u64));
             }
         }
     }
@@ -92,7 +97,7 @@ fn with_part(
 /// Returns `error` with the queue, the file and the offset of a batch before its text if it is a
 /// `Corruption`, as `append file 3, offset 1024: `. Other errors are returned as they are. Returns `Memory`
 /// if there is none for the text.
-fn with_place(alloc: Global, error: Error, id: FileId, offset: u64) -> Error
+fn error_with_place(alloc: Global, error: Error, id: FileId, offset: u64) -> Error
     ensures placed { IsPlaced id offset result }
     ensures memory { result ≢ Error.Memory → error ≢ Error.Memory }
 {

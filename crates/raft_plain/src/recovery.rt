@@ -4,7 +4,7 @@ ghost use Rattle.std.specs.Prelude.{◌≡◌, ◌≢◌, ◌⊎◌, map, IfOk, 
 ghost use Rattle.raft_plain.specs.Common.{Append, ArePartsOf, Rewrite, IsInvalidArgument, IsRecovered, AreBothRecovered, CannotFollow, HoldsFrom, EachHolds, StopsAmong, IsNothing, Sound, recovered_shown, cleaned_by_steps, region_step_shown, live_in_all, tables_shown};
 
 use crate::live::count_live;
-use crate::overlay::overlay_all;
+use crate::overlay::overlay_regions;
 use crate::parts::{check_parts, read_parts};
 use crate::region::Regions;
 use raft_base::{AllocResult, Error, LogQueue, Result};
@@ -45,7 +45,7 @@ pub fn recover_plainly(alloc: Global, queue: LogQueue, parts: &[FilePart]) -> Re
     check_parts(alloc, queue, parts)?;
     let reading = read_parts(alloc, queue, parts)?;
     let cleaned = cleaned_regions(alloc, queue, reading.steps.as_slice())?;
-    Ok(with_counts(reading.regions, cleaned))
+    Ok(recovered_with_counts(reading.regions, cleaned))
 }
 
 /// Recovers the records of all regions from `rewrite` and `append`, parts of files of both queues: reads each
@@ -76,9 +76,9 @@ pub fn recover_both_plainly(
     check_parts(alloc, LogQueue::Append, append)?;
     let older = read_parts(alloc, LogQueue::Rewrite, rewrite)?;
     let newer = read_parts(alloc, LogQueue::Append, append)?;
-    let regions = overlay_all(alloc, newer.regions, older.regions, newer.steps.as_slice())?;
+    let regions = overlay_regions(alloc, newer.regions, older.regions, newer.steps.as_slice())?;
     let cleaned = cleaned_regions(alloc, LogQueue::Append, newer.steps.as_slice())?;
-    Ok(with_counts(regions, cleaned))
+    Ok(recovered_with_counts(regions, cleaned))
 }
 
 /// Returns the ids of the regions that `steps` of `queue` clean, in order. For the rewrite queue, whose
@@ -104,7 +104,7 @@ fn cleaned_regions(alloc: Global, queue: LogQueue, steps: &[RegionStep]) -> Allo
 }
 
 /// Returns `regions` and `cleaned` as what a recovery gives, with the counts of live records in both queues.
-fn with_counts(regions: Regions, cleaned: Vec<u64>) -> Recovered
+fn recovered_with_counts(regions: Regions, cleaned: Vec<u64>) -> Recovered
     ensures regions { result.regions ≡ regions }
     ensures cleaned { result.cleaned ≡ cleaned }
     ensures append { result.append ≡ live_in_all Append (tables_shown regions) }

@@ -43,7 +43,7 @@ pub type Regions = BTreeMap<u64, Region>;
 /// # Errors
 ///
 /// `Corruption` if a run leaves a hole in the append queue; `Memory`. The region is dropped then.
-pub(crate) fn after_step(
+pub(crate) fn apply_step_to_region(
     alloc: Global,
     queue: LogQueue,
     mut region: Region,
@@ -57,15 +57,15 @@ pub(crate) fn after_step(
 {
     match step {
         Step::Run(run) => {
-            region.entries = with_run(alloc, queue, region.entries, run)?;
+            region.entries = apply_run(alloc, queue, region.entries, run)?;
             Ok(Some(region))
         }
         Step::Compact { index } => {
-            region.entries = from(region.entries, *index);
+            region.entries = entries_from(region.entries, *index);
             Ok(Some(region))
         }
         Step::Truncate { index } => {
-            region.entries = below(region.entries, *index);
+            region.entries = entries_below(region.entries, *index);
             Ok(Some(region))
         }
         Step::Put {
@@ -73,11 +73,11 @@ pub(crate) fn after_step(
             value,
             file_id,
         } => {
-            region.keys = with_pair(alloc, region.keys, key, value, *file_id)?;
+            region.keys = insert_pair(alloc, region.keys, key, value, *file_id)?;
             Ok(Some(region))
         }
         Step::Del { key } => {
-            region.keys = without_key(region.keys, key);
+            region.keys = remove_key(region.keys, key);
             Ok(Some(region))
         }
         Step::AtomicGroup {
@@ -98,7 +98,7 @@ pub(crate) fn after_step(
 /// # Errors
 ///
 /// `Corruption` for a hole in the append queue; `Memory`.
-fn with_run(alloc: Global, queue: LogQueue, entries: Entries, run: &Entries) -> Result<Entries>
+fn apply_run(alloc: Global, queue: LogQueue, entries: Entries, run: &Entries) -> Result<Entries>
     ensures ok { IfOk result (λ es. entries_after_replay queue entries.items run.now.items
         ≡ Some es.items) }
     ensures refused { IfErr result (λ e. e ≢ Error.Memory
@@ -114,7 +114,7 @@ fn with_run(alloc: Global, queue: LogQueue, entries: Entries, run: &Entries) -> 
             LogQueue::Rewrite => Ok(Vec::from_slice(alloc, run.as_slice())?),
         };
     }
-    let mut kept = below(entries, start);
+    let mut kept = entries_below(entries, start);
     kept.extend_from_slice(run.as_slice())?;
     Ok(kept)
 }
@@ -139,7 +139,7 @@ pub(crate) fn end_of(entries: &[EntryIndex]) -> u128
 }
 
 /// Returns those of `entries` that are at or above `index`, in order.
-fn from(mut entries: Entries, index: u64) -> Entries
+fn entries_from(mut entries: Entries, index: u64) -> Entries
     ensures { result.items ≡ from index entries.items }
 {
     entries.retain(|entry| index <= entry.index);
@@ -147,7 +147,7 @@ fn from(mut entries: Entries, index: u64) -> Entries
 }
 
 /// Returns those of `entries` that are below `index`, in order.
-fn below(mut entries: Entries, index: u64) -> Entries
+fn entries_below(mut entries: Entries, index: u64) -> Entries
     ensures { result.items ≡ below index entries.items }
 {
     entries.retain(|entry| entry.index < index);
@@ -160,7 +160,7 @@ fn below(mut entries: Entries, index: u64) -> Entries
 /// # Errors
 ///
 /// `AllocError` if there is no memory.
-fn with_pair(
+fn insert_pair(
     alloc: Global,
     mut keys: Keys,
     key: &Vec<u8>,
@@ -177,7 +177,7 @@ fn with_pair(
 }
 
 /// Returns `keys` without `key` and its value.
-pub(crate) fn without_key(mut keys: Keys, key: &Vec<u8>) -> Keys
+pub(crate) fn remove_key(mut keys: Keys, key: &Vec<u8>) -> Keys
     ensures { keys_shown result ≡ finite.remove (keys_shown keys) key.now.items }
 {
     keys.retain(|own, _| own.as_slice().cmp(key.as_slice()).is_ne());
@@ -185,7 +185,7 @@ pub(crate) fn without_key(mut keys: Keys, key: &Vec<u8>) -> Keys
 }
 
 /// Returns `region` if it is there, else one without records.
-pub(crate) fn or_new(alloc: Global, region: Option<Region>) -> Region
+pub(crate) fn region_or_empty(alloc: Global, region: Option<Region>) -> Region
     ensures { (id : ℕ) → table_shown id result
         ≡ table_of id (option_map (table_shown id) region) }
 {
@@ -205,7 +205,7 @@ pub(crate) fn or_new(alloc: Global, region: Option<Region>) -> Region
 /// # Errors
 ///
 /// `AllocError` if there is no memory.
-pub(crate) fn with_region(
+pub(crate) fn set_region(
     mut regions: Regions,
     id: u64,
     region: Option<Region>,

@@ -7,7 +7,7 @@ ghost use Rattle.raft_plain.specs.Common.{nat_cmp, IsOrdered, Keeps, IsIoError, 
 
 use crate::Recovered;
 use crate::live::is_placed_in;
-use crate::overlay::lesser;
+use crate::overlay::min_of_options;
 use crate::region::{Keys, Region, Regions, end_of};
 use raft_base::{AllocResult, EntryIndex, Error, FileSeq, LogQueue, Result};
 use raft_records::write_whole;
@@ -47,8 +47,8 @@ fn recovered_text(alloc: Global, recovered: &Recovered) -> AllocResult<String>
 {
     let mut text = String::new(alloc);
     append_regions(&recovered.regions, &mut text)?;
-    append_cleaned(recovered.cleaned.as_slice(), &mut text)?;
-    append_live(recovered.append, recovered.rewrite, &mut text)?;
+    append_cleaned_regions(recovered.cleaned.as_slice(), &mut text)?;
+    append_live_counts(recovered.append, recovered.rewrite, &mut text)?;
     Ok(text)
 }
 
@@ -58,7 +58,7 @@ fn recovered_text(alloc: Global, recovered: &Recovered) -> AllocResult<String>
 /// # Errors
 ///
 /// `AllocError` if there is no memory. Some of the text may have been appended then.
-fn append_live(append: u128, rewrite: u128, text: &mut String) -> AllocResult<()>
+fn append_live_counts(append: u128, rewrite: u128, text: &mut String) -> AllocResult<()>
     ensures { OnOk result (string_bytes text.new ≡ string_bytes text.old ++ (codes "live "
         ++ decimal append ++ codes " " ++ decimal rewrite ++ codes "\n")) }
 {
@@ -91,12 +91,12 @@ fn append_region(id: u64, region: &Region, text: &mut String) -> AllocResult<()>
     ensures { OnOk result (string_bytes text.new ≡ string_bytes text.old ++ table_line (table_shown id region.now)) }
 {
     write!(text, "{id} entries ")?;
-    append_range(region.entries.as_slice(), text)?;
+    append_index_range(region.entries.as_slice(), text)?;
     write!(text, " keys {} append ", key_count(&region.keys))?;
-    append_seq(least_seq(LogQueue::Append, region), text)?;
+    append_file_seq(least_file_seq(LogQueue::Append, region), text)?;
     text.push_str(" rewrite ")?;
-    let rewritten = least_seq(LogQueue::Rewrite, region);
-    append_seq(at_most_group_seq(region.group, rewritten), text)?;
+    let rewritten = least_file_seq(LogQueue::Rewrite, region);
+    append_file_seq(cap_at_group_seq(region.group, rewritten), text)?;
     text.push('\n')
 }
 
@@ -113,7 +113,7 @@ fn key_count(keys: &Keys) -> usize
 /// # Errors
 ///
 /// `AllocError` if there is no memory. Some of the text may have been appended then.
-fn append_range(entries: &[EntryIndex], text: &mut String) -> AllocResult<()>
+fn append_index_range(entries: &[EntryIndex], text: &mut String) -> AllocResult<()>
     ensures { OnOk result (string_bytes text.new ≡ string_bytes text.old ++ range_text entries.now) }
 {
     match entries.first() {
@@ -127,7 +127,7 @@ fn append_range(entries: &[EntryIndex], text: &mut String) -> AllocResult<()>
 /// # Errors
 ///
 /// `AllocError` if there is no memory. Some of the text may have been appended then.
-fn append_seq(seq: Option<FileSeq>, text: &mut String) -> AllocResult<()>
+fn append_file_seq(seq: Option<FileSeq>, text: &mut String) -> AllocResult<()>
     ensures { OnOk result (string_bytes text.new ≡ string_bytes text.old ++ seq_text seq) }
 {
     match seq {
@@ -142,7 +142,7 @@ fn append_seq(seq: Option<FileSeq>, text: &mut String) -> AllocResult<()>
 /// # Errors
 ///
 /// `AllocError` if there is no memory. Some of the text may have been appended then.
-fn append_cleaned(cleaned: &[u64], text: &mut String) -> AllocResult<()>
+fn append_cleaned_regions(cleaned: &[u64], text: &mut String) -> AllocResult<()>
     ensures { OnOk result (string_bytes text.new ≡ string_bytes text.old ++ cleaned_line cleaned.now) }
 {
     text.push_str("cleaned")?;
@@ -158,7 +158,7 @@ fn append_cleaned(cleaned: &[u64], text: &mut String) -> AllocResult<()>
 /// Returns the lowest file number that a region needs in the rewrite queue, where `seq` is that of its
 /// records there: if `seq` is at or below the last file of its atomic group `group`, at most the first one of
 /// the group. Returns `None` if `seq` is `None`.
-fn at_most_group_seq(group: Option<(FileSeq, FileSeq)>, seq: Option<FileSeq>) -> Option<FileSeq>
+fn cap_at_group_seq(group: Option<(FileSeq, FileSeq)>, seq: Option<FileSeq>) -> Option<FileSeq>
     ensures { result ≡ at_most_group_seq group seq }
 {
     match (group, seq) {
@@ -169,11 +169,11 @@ fn at_most_group_seq(group: Option<(FileSeq, FileSeq)>, seq: Option<FileSeq>) ->
 
 /// Returns the file number of the region's first entry in `queue` or the lowest one of its key values there,
 /// whichever is lower. Returns `None` if the region has no record there.
-fn least_seq(queue: LogQueue, region: &Region) -> Option<FileSeq>
+fn least_file_seq(queue: LogQueue, region: &Region) -> Option<FileSeq>
     ensures { result ≡ least_seq queue (table_shown 0 region.now) }
 {
     let entry_seq = first_entry_seq(queue, region.entries.as_slice());
-    lesser(entry_seq, least_key_seq(queue, &region.keys))
+    min_of_options(entry_seq, least_key_seq(queue, &region.keys))
 }
 
 /// Returns the file number of the first of `entries` that has its place in `queue`, or `None` if there is
@@ -198,7 +198,7 @@ fn least_key_seq(queue: LogQueue, keys: &Keys) -> Option<FileSeq>
     let mut least = None;
     for stored in keys.values() {
         if stored.file.queue == queue {
-            least = lesser(least, Some(stored.file.seq));
+            least = min_of_options(least, Some(stored.file.seq));
         }
     }
     least

@@ -12,7 +12,7 @@ returns-in-Some c =
     (subst (λ l. Some (table_shown id c.in_ok-both-in-Some.both) ≡ overlaid_table id l a r) (ap (λ l. map (λ s. step_shown s.now) l) c.as_slice-in-Some.ensures.value ∙ c.in_ok-own.ensures)
     (both_overlaid id ss a r (table_shown id c.in_ok-both-in-Some.both)
     (ap (λ l. has_clean (map (λ s. step_shown s.now) l)) (c.as_slice-in-Some.ensures.value ∙ sym c.as_slice.ensures.value) ∙ sym c.has_clean.ensures ∙ c.if-has_clean.false) refl
-    (c.in_ok-both-in-Some.ensures id ∙ ap (overlay ss (table_shown id c.in-Some.newer)) (c.or_new-older.ensures id))))
+    (c.in_ok-both-in-Some.ensures id ∙ ap (overlay ss (table_shown id c.in-Some.newer)) (c.region_or_empty-older.ensures id))))
 
 pub returns-in-Some-older : goal.returns-in-Some-older
 returns-in-Some-older c =
@@ -23,4 +23,4 @@ returns-in-Some-older c =
     (subst (λ l. Some (table_shown id c.in_ok-both-in-Some-older.both) ≡ overlaid_table id l None r) (ap (λ l. map (λ s. step_shown s.now) l) c.as_slice-in-Some-older.ensures.value ∙ c.in_ok-own.ensures)
     (both_overlaid id ss None r (table_shown id c.in_ok-both-in-Some-older.both)
     (ap (λ l. has_clean (map (λ s. step_shown s.now) l)) (c.as_slice-in-Some-older.ensures.value ∙ sym c.as_slice.ensures.value) ∙ sym c.has_clean.ensures ∙ c.if-has_clean.false) refl
-    (c.in_ok-both-in-Some-older.ensures id ∙ ap (λ t. overlay ss t (table_shown id c.in-Some-older.older)) (c.or_new-newer.ensures id))))
+    (c.in_ok-both-in-Some-older.ensures id ∙ ap (λ t. overlay ss t (table_shown id c.in-Some-older.older)) (c.region_or_empty-newer.ensures id))))

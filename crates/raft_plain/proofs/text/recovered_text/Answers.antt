@@ -9,6 +9,6 @@ returns c =
     record {
       tables = all_tables r.regions;
       by_region = record { all = tables_are_all r.regions.entries c.append_regions.ensures.ordered; rising = tables_rise r.regions.entries c.append_regions.ensures.ordered };
-      lines = three_parts _ _ _ _ _ _ _ c.new-text.ensures.bytes c.in_ok-append_regions.ensures.lines (rw (c.as_slice.ensures.value) at c.in_ok-append_cleaned.ensures)
-          (c.in_ok-append_live.ensures ∙ ap (λ n. string_bytes c.append_cleaned.new.text ++ (codes "live " ++ decimal r.append ++ codes " " ++ decimal n ++ codes "\n")) same);
+      lines = three_parts _ _ _ _ _ _ _ c.new-text.ensures.bytes c.in_ok-append_regions.ensures.lines (rw (c.as_slice.ensures.value) at c.in_ok-append_cleaned_regions.ensures)
+          (c.in_ok-append_live_counts.ensures ∙ ap (λ n. string_bytes c.append_cleaned_regions.new.text ++ (codes "live " ++ decimal r.append ++ codes " " ++ decimal n ++ codes "\n")) same);
     }

@@ -5,7 +5,7 @@ use Rattle.raft_contexts.proofs.region_marks.small_mark.find_only_run.Goals as g
 pub returns-in-None-None-eq0 : goal.returns-in-None-None-eq0
 returns-in-None-None-eq0 c =
     let m : Mark = c.args.mark.now in
-    let none : m.deleted_keys ≡ finset.empty = finset.empty_of_len m.deleted_keys (cc) in
+    let none : m.deleted ≡ finset.empty = finset.empty_of_len m.deleted (cc) in
     let same : ◌≡◌ {A = Mark} (record {
       cleaned = m.cleaned;
       reach = m.reach;
@@ -14,6 +14,6 @@ returns-in-None-None-eq0 c =
       barred = m.barred_indexes;
       floor = m.floor;
       cut = m.cut;
-      deleted = m.deleted_keys;
+      deleted = m.deleted;
     }) (record fresh { reach = Some c.in-Some-Some.reach; cut = Some c.in-Some-Some.reach }) = cc in
     same

@@ -3,4 +3,4 @@ use Rattle.std.specs.FinSet as finset
 use Rattle.raft_contexts.proofs.region_marks.small_mark.SmallMark.deleted_keys.Goals as goal
 
 pub returns-in-Run : goal.returns-in-Run
-returns-in-Run c = sym (ap (λ (m : Mark). finset.len m.deleted_keys) (sym c.self.view_is ∙ ap form_shown c.in-Run.is) ∙ finset.len-empty _)
+returns-in-Run c = sym (ap (λ (m : Mark). finset.len m.deleted) (sym c.self.view_is ∙ ap form_shown c.in-Run.is) ∙ finset.len-empty _)

@@ -2,7 +2,7 @@
 
 use raft_base::{FileId, LogFileContext, LogQueue, Result, Version};
 use raft_records::LogBatch;
-use raft_samples::{Change, Dice, Proposal, Records, draw_entries};
+use raft_samples::{Change, Dice, Proposal, Records, draw_entries_between};
 use std::alloc::Global;
 
 /// How a change is chosen.
@@ -40,11 +40,11 @@ impl Choice {
     /// `Memory` alone.
     pub(crate) fn draw(self, alloc: Global, dice: &mut Dice, records: &Records) -> Result<Change> {
         Ok(match self {
-            Choice::Any => Change::draw(alloc, dice, records)?,
+            Choice::Any => Change::draw_any(alloc, dice, records)?,
             Choice::Replacement => Change::draw_replacement(alloc, dice, records)?,
             Choice::Long(len) => draw_long_change(alloc, dice, records, len)?,
             Choice::Entries(first, end) => {
-                Change::Append(draw_entries(alloc, dice, first, end)?)
+                Change::Append(draw_entries_between(alloc, dice, first, end)?)
             }
             Choice::SoundBatch(index, version) => one_entry(index, sound_batch(alloc, version)?)?,
             Choice::Put(value) => {
@@ -71,11 +71,11 @@ fn draw_long_change(
     records: &Records,
     len: usize,
 ) -> Result<Change> {
-    let end = records.end();
+    let end = records.end_index();
     if records.entries.len() > 3 {
         return Ok(Change::Compact(end.saturating_sub(1)));
     }
-    one_entry(end, vec![in alloc; dice.letter(); len]?)
+    one_entry(end, vec![in alloc; dice.draw_letter(); len]?)
 }
 
 /// Returns the change that appends one entry with the index `index` and the bytes `text`.

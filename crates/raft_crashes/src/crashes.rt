@@ -5,7 +5,7 @@ use crate::found::{Way, open_found_files, records_of, recover_records};
 use crate::noted_files::NotedFiles;
 use raft_base::{Error, LogQueue, Result};
 use raft_engine::Engine;
-use raft_samples::{Contents, Dice, text_of};
+use raft_samples::{Contents, Dice, describe_contents};
 use std::alloc::Global;
 use std::thread::Threads;
 
@@ -132,10 +132,10 @@ impl<'a, R: Host> Crashes<'a, R> {
             Err(e) => self.count_refusal("not read", &e)?,
         }
         let asks = &engine.files().asks;
-        if asks.is_empty() || dice.hits(2) {
+        if asks.is_empty() || dice.draw_one_in(2) {
             return Ok(None);
         }
-        let count = dice.below(asks.len() as u64) as usize;
+        let count = dice.draw_below(asks.len() as u64) as usize;
         for ask in asks.iter().take(count.saturating_add(1)) {
             disk.apply_ask(ask, "")?;
         }
@@ -150,7 +150,7 @@ impl<'a, R: Host> Crashes<'a, R> {
     ///
     /// `Io` for the output; `Memory`.
     fn compare_contents(&mut self, contents: &Contents, wanted: &str, how: &str) -> Result<()> {
-        let found = text_of(self.alloc(), contents)?;
+        let found = describe_contents(self.alloc(), contents)?;
         self.compare(found.as_str(), wanted, how)
     }
 

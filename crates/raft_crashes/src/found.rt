@@ -6,7 +6,7 @@ use raft_engine::Engine;
 use raft_files::MemoryFiles;
 use raft_records::{LogBatch, entry_bytes};
 use raft_recover::{MemTable, MemTableAccessor, Segment, file_segments, recover_both};
-use raft_samples::{Contents, Records, entries_of};
+use raft_samples::{Contents, Records, table_entries};
 use std::alloc::Global;
 use std::collections::BTreeMap;
 use std::thread::Threads;
@@ -230,11 +230,11 @@ fn put_copy(alloc: Global, records: &mut Records, key: &[u8], value: &[u8]) -> R
 /// Those of [`bytes_of_entry`]; `Memory`.
 fn records_of_table(alloc: Global, files: &MemoryFiles, table: &MemTable) -> Result<Records> {
     let mut records = Records::new(alloc);
-    for entry in &entries_of(alloc, table)? {
+    for entry in &table_entries(alloc, table)? {
         let bytes = bytes_of_entry(alloc, files, entry)?;
         let _ = records.entries.insert(entry.index, bytes)?;
     }
-    records.push_pairs(alloc, table)?;
+    records.put_pairs_of_table(alloc, table)?;
     Ok(records)
 }
 

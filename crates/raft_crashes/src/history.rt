@@ -12,7 +12,7 @@ use raft_base::{FileSeq, LogQueue, Result, Version};
 use raft_engine::Engine;
 use raft_files::MemoryFiles;
 use raft_records::LogBatch;
-use raft_samples::{Contents, Dice, records_for, text_of};
+use raft_samples::{Contents, Dice, describe_contents, get_or_insert_records};
 use std::alloc::Global;
 use std::collections::BTreeMap;
 
@@ -82,7 +82,7 @@ impl History {
     ///
     /// Those of reading the records; `Io` for the output; `Memory`.
     fn end_step<R: Host>(&mut self, crashes: &mut Crashes<'_, R>) -> Result<()> {
-        let wanted = text_of(self.alloc, &self.kept)?;
+        let wanted = describe_contents(self.alloc, &self.kept)?;
         self.compare(crashes, wanted.as_str())?;
         self.apply_asks(crashes, wanted.as_str())
     }
@@ -95,7 +95,7 @@ impl History {
     /// Those of reading the records; `Io` for the output; `Memory`.
     fn compare<R: Host>(&mut self, crashes: &mut Crashes<'_, R>, wanted: &str) -> Result<()> {
         let contents = records_of(self.alloc, &mut self.engine)?;
-        let found = text_of(self.alloc, &contents)?;
+        let found = describe_contents(self.alloc, &contents)?;
         crashes.compare(found.as_str(), wanted, "kept")
     }
 
@@ -146,9 +146,9 @@ impl History {
         requires { batch.old.stage ≡ is_open }
         ensures { OnOk result (batch.new.stage ≡ is_open) }
     {
-        let records = records_for(self.alloc, &mut self.kept, region)?;
+        let records = get_or_insert_records(self.alloc, &mut self.kept, region)?;
         let change = choice.draw(self.alloc, &mut self.dice, records)?;
-        change.make(batch, region, records)
+        change.add_to_batch_and_records(batch, region, records)
     }
 
     /// Syncs the engine's append queue, and ends the step.
@@ -268,7 +268,7 @@ impl History {
     ///
     /// `Io` for the output; `Memory`.
     fn compare_opened<R: Host>(&self, crashes: &mut Crashes<'_, R>) -> Result<()> {
-        let found = text_of(self.alloc, &self.kept)?;
+        let found = describe_contents(self.alloc, &self.kept)?;
         crashes.compare(found.as_str(), self.disk.records(), "opened again")
     }
 

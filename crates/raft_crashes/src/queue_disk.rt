@@ -174,7 +174,7 @@ impl QueueDisk {
     /// Draws what a crash leaves: how many of the unsynced deletions it doesn't lose, and what of the last
     /// file.
     pub(crate) fn draw(&self, dice: &mut Dice) -> Rest {
-        let gone = dice.below((self.deleted as u64).saturating_add(1)) as usize;
+        let gone = dice.draw_below((self.deleted as u64).saturating_add(1)) as usize;
         Rest {
             gone,
             tail: self.draw_tail(dice),
@@ -186,9 +186,9 @@ impl QueueDisk {
     /// before a cut, if it was cut.
     fn draw_tail(&self, dice: &mut Dice) -> Tail {
         let unsynced = self.len().saturating_sub(self.synced) as u64;
-        let drawn = dice.below(unsynced.saturating_add(1)) as usize;
+        let drawn = dice.draw_below(unsynced.saturating_add(1)) as usize;
         let len = self.synced.saturating_add(drawn);
-        match dice.below(8) {
+        match dice.draw_below(8) {
             0 | 1 if self.is_new => Tail::Unbegun,
             0 | 1 if self.uncut.is_some() => Tail::Uncut,
             2 | 3 => Tail::Prefix(self.synced),

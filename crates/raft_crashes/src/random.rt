@@ -38,7 +38,7 @@ pub(crate) fn try_random_history<R: Host>(crashes: &mut Crashes<'_, R>, seed: u6
     let mut dice = Dice::new(!seed);
     let long = draw_long_len(&mut dice);
     let way = draw_way(&mut dice, long);
-    let by_bytes = long.is_none() && dice.hits(BY_BYTES);
+    let by_bytes = long.is_none() && dice.draw_one_in(BY_BYTES);
     let different = crashes.different;
     let mut history = History::begin(crashes, seed, way, by_bytes)?;
     take_steps(crashes, &mut history, long, seed, different)
@@ -72,10 +72,10 @@ fn take_steps<R: Host>(
 
 /// Draws how many bytes the long entries of a history have, or `None` if it has none.
 fn draw_long_len(dice: &mut Dice) -> Option<usize> {
-    if dice.hits(WITH_SHARES) {
+    if dice.draw_one_in(WITH_SHARES) {
         return Some(SHARE);
     }
-    if dice.hits(WITH_GROUPS) {
+    if dice.draw_one_in(WITH_GROUPS) {
         return Some(PART);
     }
     None
@@ -84,12 +84,12 @@ fn draw_long_len(dice: &mut Dice) -> Option<usize> {
 /// Draws the version of a history's files, and by how many workers they are read. It is always four workers
 /// if the `long` entries fill the share of one.
 fn draw_way(dice: &mut Dice, long: Option<usize>) -> Way {
-    let version = if dice.hits(2) {
+    let version = if dice.draw_one_in(2) {
         Version::V1
     } else {
         Version::V2
     };
-    let workers = if long == Some(SHARE) || dice.hits(BY_WORKERS) {
+    let workers = if long == Some(SHARE) || dice.draw_one_in(BY_WORKERS) {
         4
     } else {
         1
@@ -108,7 +108,7 @@ fn take_long_step<R: Host>(
     history: &mut History,
     len: usize,
 ) -> Result<()> {
-    match history.dice.below(8) {
+    match history.dice.draw_below(8) {
         0..=3 => write_long(crashes, history, len),
         4 | 5 => move_and_purge_all(crashes, history),
         _ => take_step(crashes, history),
@@ -126,7 +126,7 @@ fn write_long<R: Host>(
     history: &mut History,
     len: usize,
 ) -> Result<()> {
-    let other = match history.dice.below(8) {
+    let other = match history.dice.draw_below(8) {
         0 => (3, Choice::Any),
         1..=3 => (1, Choice::Any),
         _ => (3, Choice::Put("long")),
@@ -141,7 +141,7 @@ fn write_long<R: Host>(
 ///
 /// Those of the step.
 fn take_step<R: Host>(crashes: &mut Crashes<'_, R>, history: &mut History) -> Result<()> {
-    match history.dice.below(24) {
+    match history.dice.draw_below(24) {
         0..=8 => write_batch(crashes, history),
         9 => history.sync(crashes),
         10 => history.rotate(crashes),
@@ -162,11 +162,11 @@ fn take_step<R: Host>(crashes: &mut Crashes<'_, R>, history: &mut History) -> Re
 ///
 /// Those of [`History::write`].
 fn write_batch<R: Host>(crashes: &mut Crashes<'_, R>, history: &mut History) -> Result<()> {
-    let first = (history.dice.below(2) + 1, Choice::Any);
-    let second = (history.dice.below(2) + 1, Choice::Any);
-    let third = (history.dice.below(2) + 1, Choice::Any);
-    let sync = history.dice.hits(4);
-    match history.dice.below(3) {
+    let first = (history.dice.draw_below(2) + 1, Choice::Any);
+    let second = (history.dice.draw_below(2) + 1, Choice::Any);
+    let third = (history.dice.draw_below(2) + 1, Choice::Any);
+    let sync = history.dice.draw_one_in(4);
+    match history.dice.draw_below(3) {
         0 => history.write(crashes, &[first], sync),
         1 => history.write(crashes, &[first, second], sync),
         _ => history.write(crashes, &[first, second, third], sync),
@@ -180,12 +180,12 @@ fn write_batch<R: Host>(crashes: &mut Crashes<'_, R>, history: &mut History) -> 
 ///
 /// Those of [`History::rotate`] and [`History::rewrite`].
 fn move_records<R: Host>(crashes: &mut Crashes<'_, R>, history: &mut History) -> Result<()> {
-    if history.dice.hits(2) {
+    if history.dice.draw_one_in(2) {
         return rewrite_all(crashes, history);
     }
     let gate = history
         .last_append_seq()
-        .saturating_sub(history.dice.below(3));
+        .saturating_sub(history.dice.draw_below(3));
     history.rewrite(crashes, gate)
 }
 
@@ -214,7 +214,7 @@ fn replace_entries<R: Host>(crashes: &mut Crashes<'_, R>, history: &mut History)
         &[(1, Choice::Replacement), (2, Choice::Replacement)],
         false,
     )?;
-    if history.dice.hits(2) {
+    if history.dice.draw_one_in(2) {
         history.restart(crashes)?;
         rewrite_all(crashes, history)?;
     }

@@ -13,7 +13,7 @@ use raft_base::{
 use raft_memtable::{MemTable, MemTableAccessor};
 use raft_records::{LogBatch, LogItem, entry_bytes};
 use raft_recover::recover_both;
-use raft_samples::{Contents, Proposal, Records, entries_of};
+use raft_samples::{Contents, Proposal, Records, table_entries};
 use std::alloc::Global;
 use std::collections::BTreeMap;
 use std::thread::Threads;
@@ -195,8 +195,8 @@ impl<'a, R: Host> Store<'a, R> {
     fn records_of_table(&self, table: &MemTable) -> Result<Records> {
         let alloc = self.rt.alloc();
         let mut records = Records::new(alloc);
-        records.push_entries(self.read_entries(&entries_of(alloc, table)?)?)?;
-        records.push_pairs(alloc, table)?;
+        records.put_entries(self.read_entries(&table_entries(alloc, table)?)?)?;
+        records.put_pairs_of_table(alloc, table)?;
         Ok(records)
     }
 

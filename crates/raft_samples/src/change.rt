@@ -36,11 +36,11 @@ impl Change {
     /// # Errors
     ///
     /// `Memory` alone.
-    pub fn draw(alloc: Global, dice: &mut Dice, records: &Records) -> Result<Change> {
+    pub fn draw_any(alloc: Global, dice: &mut Dice, records: &Records) -> Result<Change> {
         let index = draw_index(dice, records);
-        Ok(match dice.below(16) {
-            0..=5 => Change::Append(draw_run(alloc, dice, index)?),
-            6 | 7 => Change::Replace(draw_run(alloc, dice, index)?),
+        Ok(match dice.draw_below(16) {
+            0..=5 => Change::Append(draw_few_entries(alloc, dice, index)?),
+            6 | 7 => Change::Replace(draw_few_entries(alloc, dice, index)?),
             8 | 9 => Change::Put(draw_key(alloc, dice)?, draw_text(alloc, dice)?),
             10 | 11 => Change::Delete(draw_key(alloc, dice)?),
             12 | 13 => Change::Compact(index),
@@ -56,16 +56,24 @@ impl Change {
     ///
     /// `Memory` alone.
     pub fn draw_replacement(alloc: Global, dice: &mut Dice, records: &Records) -> Result<Change> {
-        let first = records.first().unwrap_or(1).saturating_add(dice.below(2));
-        Ok(Change::Replace(draw_run(alloc, dice, first)?))
+        let first = records
+            .first_index()
+            .unwrap_or(1)
+            .saturating_add(dice.draw_below(2));
+        Ok(Change::Replace(draw_few_entries(alloc, dice, first)?))
     }
 
-    /// Adds the change of `region` to `batch`, which must be open, and makes it in `records`, those of that region.
+    /// Adds the change of `region` to `batch`, which must be open, and makes the same change in `records`, those of that region.
     ///
     /// # Errors
     ///
     /// Those of the batch's calls, and `Memory`. The change may then be made in only one of the two, or in part.
-    pub fn make(self, batch: &mut LogBatch, region: u64, records: &mut Records) -> Result<()>
+    pub fn add_to_batch_and_records(
+        self,
+        batch: &mut LogBatch,
+        region: u64,
+        records: &mut Records,
+    ) -> Result<()>
         requires { batch.old.stage ≡ is_open }
         ensures { OnOk result (batch.new.stage ≡ is_open) }
     {
@@ -77,7 +85,7 @@ impl Change {
             Change::Replace(entries) => {
                 batch.add_entries::<Proposals>(region, entries.as_slice())?;
                 records.replace_entries(entries)?;
-                let index = records.end();
+                let index = records.end_index();
                 records.entries.clear();
                 batch.add_command(region, Command::Compact { index })
             }
@@ -109,17 +117,17 @@ impl Change {
 /// Draws an index of a region with `records`, from its first one to its end; in one of four cases it is the end. For a region
 /// without entries it draws one below 20.
 fn draw_index(dice: &mut Dice, records: &Records) -> u64 {
-    let (first, end) = match records.first() {
-        Some(first) => (first, records.end()),
+    let (first, end) = match records.first_index() {
+        Some(first) => (first, records.end_index()),
         None => {
-            let first = dice.below(20);
+            let first = dice.draw_below(20);
             (first, first)
         }
     };
-    if dice.hits(4) {
+    if dice.draw_one_in(4) {
         return end;
     }
-    first.saturating_add(dice.below(end.saturating_sub(first).saturating_add(1)))
+    first.saturating_add(dice.draw_below(end.saturating_sub(first).saturating_add(1)))
 }
 
 /// Draws one to five entries with consecutive indexes, the first of which is `first`.
@@ -127,9 +135,9 @@ fn draw_index(dice: &mut Dice, records: &Records) -> u64 {
 /// # Errors
 ///
 /// `Memory` alone.
-fn draw_run(alloc: Global, dice: &mut Dice, first: u64) -> Result<Vec<Proposal>> {
-    let end = first.saturating_add(dice.below(5)).saturating_add(1);
-    draw_entries(alloc, dice, first, end)
+fn draw_few_entries(alloc: Global, dice: &mut Dice, first: u64) -> Result<Vec<Proposal>> {
+    let end = first.saturating_add(dice.draw_below(5)).saturating_add(1);
+    draw_entries_between(alloc, dice, first, end)
 }
 
 /// Draws an entry for each of the indexes `first..end`, with a random text.
@@ -137,7 +145,12 @@ fn draw_run(alloc: Global, dice: &mut Dice, first: u64) -> Result<Vec<Proposal>>
 /// # Errors
 ///
 /// `Memory` alone.
-pub fn draw_entries(alloc: Global, dice: &mut Dice, first: u64, end: u64) -> Result<Vec<Proposal>> {
+pub fn draw_entries_between(
+    alloc: Global,
+    dice: &mut Dice,
+    first: u64,
+    end: u64,
+) -> Result<Vec<Proposal>> {
     let mut entries = Vec::new(alloc);
     for index in first..end {
         let text = draw_text(alloc, dice)?;
@@ -152,7 +165,7 @@ pub fn draw_entries(alloc: Global, dice: &mut Dice, first: u64, end: u64) -> Res
 ///
 /// `Memory` alone.
 fn draw_key(alloc: Global, dice: &mut Dice) -> Result<Vec<u8>> {
-    let text = format!(in alloc; "k{}", dice.below(4))?;
+    let text = format!(in alloc; "k{}", dice.draw_below(4))?;
     Ok(Vec::from_slice(alloc, text.as_bytes())?)
 }
 
@@ -163,8 +176,8 @@ fn draw_key(alloc: Global, dice: &mut Dice) -> Result<Vec<u8>> {
 /// `Memory` alone.
 fn draw_text(alloc: Global, dice: &mut Dice) -> Result<Vec<u8>> {
     let mut text = Vec::new(alloc);
-    for _ in 0..dice.below(21) {
-        text.push(dice.letter())?;
+    for _ in 0..dice.draw_below(21) {
+        text.push(dice.draw_letter())?;
     }
     Ok(text)
 }

@@ -20,7 +20,7 @@ impl Dice {
     }
 
     /// Draws a number below `end`, which must be above 0.
-    pub fn below(&mut self, end: u64) -> u64
+    pub fn draw_below(&mut self, end: u64) -> u64
         requires { 0 < end }
         ensures { result < end }
     {
@@ -28,16 +28,15 @@ impl Dice {
         hash_u64(self.drawn) % end
     }
 
-    /// Draws whether something happens that happens once in `times` draws on average. `times` must be above
-    /// 0.
-    pub fn hits(&mut self, times: u64) -> bool
+    /// Draws `true` once in `times` draws on average, else `false`. `times` must be above 0.
+    pub fn draw_one_in(&mut self, times: u64) -> bool
         requires { 0 < times }
     {
-        self.below(times) == 0
+        self.draw_below(times) == 0
     }
 
     /// Draws one of the letters `a` to `z`, in ASCII.
-    pub fn letter(&mut self) -> u8 {
-        b'a' + self.below(26) as u8
+    pub fn draw_letter(&mut self) -> u8 {
+        b'a' + self.draw_below(26) as u8
     }
 }

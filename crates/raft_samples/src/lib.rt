@@ -7,7 +7,7 @@ pub mod dice;
 pub mod proposal;
 pub mod records;
 
-pub use change::{Change, draw_entries};
+pub use change::{Change, draw_entries_between};
 pub use dice::Dice;
 pub use proposal::{Proposal, Proposals, proposals_from};
-pub use records::{Contents, Records, entries_of, records_for, text_of};
+pub use records::{Contents, Records, describe_contents, get_or_insert_records, table_entries};

@@ -19,7 +19,7 @@ pub struct Records {
 }
 
 /// The most bytes that are printed as they are.
-const SHORT: usize = 40;
+const MOST_PRINTED_BYTES: usize = 40;
 
 impl Records {
     /// Returns the records of a region that has none. They will allocate from `alloc`.
@@ -35,7 +35,7 @@ impl Records {
     /// # Errors
     ///
     /// `Memory` alone. Some of them may have been added then.
-    pub fn push_entries(&mut self, proposals: Vec<Proposal>) -> Result<()> {
+    pub fn put_entries(&mut self, proposals: Vec<Proposal>) -> Result<()> {
         for proposal in proposals {
             let _ = self.entries.insert(proposal.index, proposal.text)?;
         }
@@ -52,7 +52,7 @@ impl Records {
         if let Some(first) = proposals.first() {
             self.truncate(first.index);
         }
-        self.push_entries(proposals)
+        self.put_entries(proposals)
     }
 
     /// Adds copies of the key values of `table`, each in place of the one of the same key.
@@ -60,7 +60,7 @@ impl Records {
     /// # Errors
     ///
     /// `Memory` alone. Some of them may have been added then.
-    pub fn push_pairs(&mut self, alloc: Global, table: &MemTable) -> Result<()> {
+    pub fn put_pairs_of_table(&mut self, alloc: Global, table: &MemTable) -> Result<()> {
         let mut pairs = Vec::new(alloc);
         table.fetch_kvs_before(u64::MAX, &mut pairs)?;
         table.fetch_rewritten_kvs(&mut pairs)?;
@@ -71,12 +71,12 @@ impl Records {
     }
 
     /// Returns the index of the first entry, or `None` if there are no entries.
-    pub(crate) fn first(&self) -> Option<u64> {
+    pub(crate) fn first_index(&self) -> Option<u64> {
         Some(*self.entries.first_key_value()?.0)
     }
 
     /// Returns the index after that of the last entry, or 0 if there are no entries.
-    pub fn end(&self) -> u64 {
+    pub fn end_index(&self) -> u64 {
         match self.entries.last_key_value() {
             Some((last, _)) => last.saturating_add(1),
             None => 0,
@@ -107,20 +107,20 @@ impl Records {
     /// # Errors
     ///
     /// `Memory` alone. A part of the line may have been appended then.
-    fn push_line(&self, region: u64, text: &mut String) -> Result<()> {
+    fn push_region_line(&self, region: u64, text: &mut String) -> Result<()> {
         if self.entries.is_empty() && self.pairs.is_empty() {
             return Ok(());
         }
         write!(text, "  region {region}:")?;
         for (index, bytes) in &self.entries {
             write!(text, " {index} ")?;
-            push_bytes(bytes, text)?;
+            push_bytes_or_checksum(bytes, text)?;
         }
         for (key, value) in &self.pairs {
             text.push(' ')?;
-            push_bytes(key, text)?;
+            push_bytes_or_checksum(key, text)?;
             text.push('=')?;
-            push_bytes(value, text)?;
+            push_bytes_or_checksum(value, text)?;
         }
         Ok(text.push('\n')?)
     }
@@ -132,7 +132,11 @@ impl Records {
 /// # Errors
 ///
 /// `Memory` alone.
-pub fn records_for(alloc: Global, contents: &mut Contents, region: u64) -> Result<&mut Records> {
+pub fn get_or_insert_records(
+    alloc: Global,
+    contents: &mut Contents,
+    region: u64,
+) -> Result<&mut Records> {
     if !contents.contains_key(&region) {
         let _ = contents.insert(region, Records::new(alloc))?;
     }
@@ -144,7 +148,7 @@ pub fn records_for(alloc: Global, contents: &mut Contents, region: u64) -> Resul
 /// # Errors
 ///
 /// `Memory` alone.
-pub fn entries_of(alloc: Global, table: &MemTable) -> Result<Vec<EntryIndex>> {
+pub fn table_entries(alloc: Global, table: &MemTable) -> Result<Vec<EntryIndex>> {
     let mut entries = Vec::new(alloc);
     let first = table.first_index().unwrap_or(0);
     table.fetch_entries_to(first, table.end(), None, &mut entries)?;
@@ -157,10 +161,10 @@ pub fn entries_of(alloc: Global, table: &MemTable) -> Result<Vec<EntryIndex>> {
 /// # Errors
 ///
 /// `Memory` alone.
-pub fn text_of(alloc: Global, contents: &Contents) -> Result<String> {
+pub fn describe_contents(alloc: Global, contents: &Contents) -> Result<String> {
     let mut text = String::new(alloc);
     for (region, records) in contents {
-        records.push_line(*region, &mut text)?;
+        records.push_region_line(*region, &mut text)?;
     }
     Ok(text)
 }
@@ -171,8 +175,8 @@ pub fn text_of(alloc: Global, contents: &Contents) -> Result<String> {
 /// # Errors
 ///
 /// `Memory` alone. A part of the text may have been appended then.
-fn push_bytes(bytes: &[u8], text: &mut String) -> Result<()> {
-    if bytes.len() <= SHORT && bytes.iter().all(|byte| byte.is_ascii_alphanumeric()) {
+fn push_bytes_or_checksum(bytes: &[u8], text: &mut String) -> Result<()> {
+    if bytes.len() <= MOST_PRINTED_BYTES && bytes.iter().all(|byte| byte.is_ascii_alphanumeric()) {
         for byte in bytes {
             text.push(char::from(*byte))?;
         }

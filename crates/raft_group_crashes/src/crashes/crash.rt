@@ -6,7 +6,7 @@ use crate::store::{Host, Store};
 use raft_base::{LogQueue, Result};
 use raft_memtable::{MemTableAccessor, MemTableRecoverContextFactory};
 use raft_recover::{OpenGate, replay_segments};
-use raft_samples::text_of;
+use raft_samples::describe_contents;
 
 /// The name of the folder that holds what a crash leaves.
 pub(crate) const CRASHED: &str = "raft_group_crashes_crashed";
@@ -70,7 +70,7 @@ impl<'a, R: Host + Print> Crashes<'a, R> {
         if workers > 1 {
             store.tables = recover_files(self.rt, &store.pipe, workers)?;
         }
-        text_of(alloc, &store.contents()?)
+        describe_contents(alloc, &store.contents()?)
     }
 }
 

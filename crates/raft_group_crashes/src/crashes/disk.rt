@@ -135,7 +135,7 @@ impl DiskNotes {
         dice: &mut Dice,
     ) -> Result<()> {
         let (append, rewrite) = (self.append.draw(dice), self.rewrite.draw(dice));
-        let workers = if dice.hits(8) { 4 } else { 1 };
+        let workers = if dice.draw_one_in(8) { 4 } else { 1 };
         self.try_crash(crashes, workers, append, rewrite)
     }
 

@@ -9,7 +9,7 @@ use crate::folder_pipe::{file_path, remove_folder};
 use crate::store::{Host, Store};
 use raft_base::{Error, FileId, FileSeq, LogQueue, Result};
 use raft_records::LogBatch;
-use raft_samples::{Change, Contents, Dice, records_for, text_of};
+use raft_samples::{Change, Contents, Dice, describe_contents, get_or_insert_records};
 use std::collections::BTreeMap;
 use std::fs;
 
@@ -99,7 +99,7 @@ impl<'a, R: Host + Print> History<'a, R> {
             self.taken = self.taken.saturating_add(1);
             return *step;
         }
-        let step = self.dice.below(25);
+        let step = self.dice.draw_below(25);
         if step == 24 {
             self.taken = 1;
         }
@@ -113,7 +113,7 @@ impl<'a, R: Host + Print> History<'a, R> {
     ///
     /// Those of [`Store::rewrite_append_queue`] and [`Store::rotate`].
     fn rewrite(&mut self) -> Result<()> {
-        if self.dice.hits(2) {
+        if self.dice.draw_one_in(2) {
             return self.rewrite_all();
         }
         let _ = self.store.rewrite_append_queue()?;
@@ -137,7 +137,7 @@ impl<'a, R: Host + Print> History<'a, R> {
     ///
     /// Those of [`Store::rotate`] and [`Store::purge`].
     fn purge(&mut self) -> Result<()> {
-        if self.dice.hits(2) {
+        if self.dice.draw_one_in(2) {
             self.store.rotate(LogQueue::Append)?;
         }
         let _ = self.store.purge()?;
@@ -151,7 +151,7 @@ impl<'a, R: Host + Print> History<'a, R> {
     ///
     /// Those of opening the store; those of moving its records; those of [`Store::purge`].
     fn purge_all(&mut self) -> Result<()> {
-        if self.dice.hits(2) {
+        if self.dice.draw_one_in(2) {
             self.store = open_store(self.rt, self.file_size)?;
             self.rewrite_all()?;
         }
@@ -169,8 +169,8 @@ impl<'a, R: Host + Print> History<'a, R> {
     /// Those of reading the store's records; `Io` for a file or the output; `Memory`.
     fn follow(&mut self, crashes: &mut Crashes<'a, R>) -> Result<()> {
         let alloc = self.rt.alloc();
-        let new = text_of(alloc, &self.kept)?;
-        let found = text_of(alloc, &self.store.contents()?)?;
+        let new = describe_contents(alloc, &self.kept)?;
+        let found = describe_contents(alloc, &self.store.contents()?)?;
         crashes.compare(found.as_str(), new.as_str())?;
         if let Some(changes) = self.store.changes.replace(Vec::new(alloc)) {
             for change in changes {
@@ -194,7 +194,10 @@ impl<'a, R: Host + Print> History<'a, R> {
         self.store.pipe.cut_file(rewrite.0, rewrite.1 as u64)?;
         self.store = open_store(self.rt, self.file_size)?;
         self.kept = self.store.contents()?;
-        crashes.compare(text_of(alloc, &self.kept)?.as_str(), prefix.as_str())
+        crashes.compare(
+            describe_contents(alloc, &self.kept)?.as_str(),
+            prefix.as_str(),
+        )
     }
 
     /// Writes a batch of one to three drawn changes. In one of four cases it is synced.
@@ -204,10 +207,10 @@ impl<'a, R: Host + Print> History<'a, R> {
     /// Those of [`Store::write`]; `Memory`.
     fn write(&mut self) -> Result<()> {
         let mut batch = LogBatch::default(self.rt.alloc());
-        for _ in 0..self.dice.below(3) + 1 {
+        for _ in 0..self.dice.draw_below(3) + 1 {
             self.add_change(&mut batch)?;
         }
-        let sync = self.dice.hits(4);
+        let sync = self.dice.draw_one_in(4);
         self.store.write(batch, sync)
     }
 
@@ -222,7 +225,7 @@ impl<'a, R: Host + Print> History<'a, R> {
         for region in 1..3u64 {
             if let (Some(records), true) = (self.kept.get_mut(&region), batch.is_open()) {
                 let change = Change::draw_replacement(alloc, &mut self.dice, records)?;
-                change.make(&mut batch, region, records)?;
+                change.add_to_batch_and_records(&mut batch, region, records)?;
             }
         }
         if !batch.is_open() {
@@ -242,9 +245,11 @@ impl<'a, R: Host + Print> History<'a, R> {
         ensures { OnOk result (batch.new.stage ≡ is_open) }
     {
         let alloc = self.rt.alloc();
-        let region = self.dice.below(2) + 1;
-        let records = records_for(alloc, &mut self.kept, region)?;
-        Change::draw(alloc, &mut self.dice, records)?.make(batch, region, records)
+        let region = self.dice.draw_below(2) + 1;
+        let records = get_or_insert_records(alloc, &mut self.kept, region)?;
+        Change::draw_any(alloc, &mut self.dice, records)?.add_to_batch_and_records(
+            batch, region, records,
+        )
     }
 }
 

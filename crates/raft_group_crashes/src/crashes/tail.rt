@@ -57,9 +57,9 @@ impl Tail {
     /// to any byte or up to the end of a batch.
     pub(crate) fn draw(&self, dice: &mut Dice) -> usize {
         let unsynced = self.bytes.len().saturating_sub(self.synced) as u64;
-        let drawn = dice.below(unsynced.saturating_add(1)) as usize;
+        let drawn = dice.draw_below(unsynced.saturating_add(1)) as usize;
         let len = self.synced.saturating_add(drawn);
-        match dice.below(4) {
+        match dice.draw_below(4) {
             0 => self.bytes.len(),
             1 => self.synced,
             2 => self.whole_prefix_len(len),

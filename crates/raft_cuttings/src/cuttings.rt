@@ -14,7 +14,7 @@ use std::rt::Files;
 use std::thread::Threads;
 
 /// The most batches that are cut. More would have more than 2^15 cuttings.
-const MOST_PARTS: usize = 16;
+const MOST_BATCHES: usize = 16;
 
 /// What reading the batches gives.
 #[derive(Debug, Drop)]
@@ -87,11 +87,11 @@ fn try_cuttings_of_files<R: Threads + Files + AllocGlobal + Sync>(
     let queue = asked.queue;
     let files = read_files(rt, asked.paths.as_slice())?;
     let segments = file_segments(queue, asked.version, files)?;
-    let batches = batches_of(rt.alloc(), segments)?;
-    if batches.len() > MOST_PARTS {
+    let batches = split_into_batches(rt.alloc(), segments)?;
+    if batches.len() > MOST_BATCHES {
         return Err(Error::invalid_argument(rt.alloc(), "too many batches"));
     }
-    let whole = read_cutting(rt, &batches, queue, 0, Way::Left)?;
+    let whole = recover_cutting(rt, &batches, queue, 0, Way::Left)?;
     for cutting in 0..1u64 << batches.len().saturating_sub(1) {
         if let Some(way) = find_other_way(rt, &batches, queue, cutting, &whole)? {
             return Ok(Found::Different { cutting, way });
@@ -114,7 +114,7 @@ fn find_other_way<R: Threads + AllocGlobal + Sync>(
     whole: &Answer,
 ) -> Result<Option<Way>> {
     for &way in &WAYS {
-        if !is_same(&read_cutting(rt, batches, queue, cutting, way)?, whole) {
+        if !is_same_answer(&recover_cutting(rt, batches, queue, cutting, way)?, whole) {
             return Ok(Some(way));
         }
     }
@@ -122,7 +122,7 @@ fn find_other_way<R: Threads + AllocGlobal + Sync>(
 }
 
 /// Tests whether `left` and `right` have the same lines, or are both refusals, whatever their reasons.
-fn is_same(left: &Answer, right: &Answer) -> bool {
+fn is_same_answer(left: &Answer, right: &Answer) -> bool {
     match (left, right) {
         (Answer::Lines(left), Answer::Lines(right)) => left.as_slice() == right.as_slice(),
         (Answer::Refused, Answer::Refused) => true,
@@ -135,7 +135,7 @@ fn is_same(left: &Answer, right: &Answer) -> bool {
 /// # Errors
 ///
 /// `Memory`; `Io` if the lines can't grow. Any other refusal is an answer.
-fn read_cutting<R: Threads + AllocGlobal + Sync>(
+fn recover_cutting<R: Threads + AllocGlobal + Sync>(
     rt: &R,
     batches: &[FilePart],
     queue: LogQueue,
@@ -147,10 +147,10 @@ fn read_cutting<R: Threads + AllocGlobal + Sync>(
         Way::Workers(workers) => {
             recover_segments(rt, rt.alloc(), segments.as_slice(), queue, workers)
         }
-        _ => merge_by_plan(rt, segments.as_slice(), queue, way),
+        _ => read_and_merge_segments(rt, segments.as_slice(), queue, way),
     };
     match read {
-        Ok(tables) => Ok(Answer::Lines(table_lines(rt.alloc(), &tables)?)),
+        Ok(tables) => Ok(Answer::Lines(print_to_lines(rt.alloc(), &tables)?)),
         Err(Error::Memory) => Err(Error::Memory),
         Err(_) => Ok(Answer::Refused),
     }
@@ -161,14 +161,14 @@ fn read_cutting<R: Threads + AllocGlobal + Sync>(
 /// # Errors
 ///
 /// Those of [`replay_segment`] and [`merge_pieces`]; `Memory`.
-fn merge_by_plan<R: Threads + AllocGlobal + Sync>(
+fn read_and_merge_segments<R: Threads + AllocGlobal + Sync>(
     rt: &R,
     segments: &[Segment],
     queue: LogQueue,
     way: Way,
 ) -> Result<MemTableAccessor> {
     let pieces = read_segments(rt.alloc(), segments)?;
-    let plan = plan_of(rt.alloc(), pieces.len(), way)?;
+    let plan = merge_plan(rt.alloc(), pieces.len(), way)?;
     merge_pieces(rt, pieces, &plan, queue)?.finish()
 }
 
@@ -202,7 +202,7 @@ fn read_segment(alloc: Global, segment: &Segment) -> Result<MemTableRecoverConte
 /// # Errors
 ///
 /// `Memory` alone.
-fn plan_of(alloc: Global, count: usize, way: Way) -> Result<Plan> {
+fn merge_plan(alloc: Global, count: usize, way: Way) -> Result<Plan> {
     let mut plan = Plan::One;
     match way {
         Way::Left => {
@@ -247,7 +247,7 @@ fn cut_segments(alloc: Global, batches: &[FilePart], cutting: u64) -> Result<Vec
 /// # Errors
 ///
 /// `Memory` alone.
-fn batches_of(alloc: Global, segments: Vec<Segment>) -> Result<Vec<FilePart>> {
+fn split_into_batches(alloc: Global, segments: Vec<Segment>) -> Result<Vec<FilePart>> {
     let mut batches = Vec::new(alloc);
     for segment in segments {
         for part in segment {
@@ -265,7 +265,7 @@ fn batches_of(alloc: Global, segments: Vec<Segment>) -> Result<Vec<FilePart>> {
 /// # Errors
 ///
 /// `Memory`; `Io` if the lines can't grow.
-fn table_lines(alloc: Global, tables: &MemTableAccessor) -> Result<Vec<u8>> {
+fn print_to_lines(alloc: Global, tables: &MemTableAccessor) -> Result<Vec<u8>> {
     let mut lines = Vec::new(alloc);
     print_recovered(alloc, tables, &mut lines)?;
     Ok(lines)

@@ -51,7 +51,7 @@ fn main(rt: HostRuntime) -> ExitCode {
 fn print_found(rt: &HostRuntime, found: Result<Option<Found>>) -> u8 {
     match found {
         Ok(Some(Found::Same(answer))) => print_answer(rt, answer),
-        Ok(Some(Found::Different { cutting, way })) => tell_difference(rt, cutting, way),
+        Ok(Some(Found::Different { cutting, way })) => print_difference(rt, cutting, way),
         Ok(None) => {
             let _ = eprintln!(rt; "{USAGE}");
             MISUSED
@@ -75,7 +75,7 @@ fn print_answer(rt: &HostRuntime, answer: Answer) -> u8 {
 
 /// Prints on standard error that the cutting numbered `cutting`, read and merged in this `way`, gives
 /// something else. Returns the status 3.
-fn tell_difference(rt: &HostRuntime, cutting: u64, way: Way) -> u8 {
+fn print_difference(rt: &HostRuntime, cutting: u64, way: Way) -> u8 {
     let way = match way {
         Way::Left => "from the left",
         Way::Right => "from the right",

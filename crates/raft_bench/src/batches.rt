@@ -94,7 +94,7 @@ pub(crate) fn time_batches(rt: &HostRuntime) -> Result<()> {
 }
 
 /// Returns the file for which the batches are signed.
-fn file_context() -> LogFileContext {
+fn signing_context() -> LogFileContext {
     LogFileContext::new(FileId::new(LogQueue::Append, 12), Version::V2)
 }
 
@@ -105,7 +105,7 @@ fn file_context() -> LogFileContext {
 ///
 /// `Memory`; `Io` for the clock or the output; those of the batches.
 fn time_writing(rt: &HostRuntime, shape: Shape) -> Result<Vec<Vec<u8>>> {
-    let messages = messages_of_region(rt.alloc(), shape.entries)?;
+    let messages = new_region_entries(rt.alloc(), shape.entries)?;
     let (best, encoded) = best_times(|| write_batches(rt, shape, messages.as_slice()))?;
     print_time_and_speed(
         rt,
@@ -132,7 +132,7 @@ fn write_batches(
     let mut batches = fill_batches(rt.alloc(), shape, messages)?;
     let (taken, sealed) = time_work(rt, || seal_batches(&mut batches))?;
     sealed?;
-    Ok((taken, sealed_bytes(rt.alloc(), batches.as_slice())?))
+    Ok((taken, copy_sealed_bytes(rt.alloc(), batches.as_slice())?))
 }
 
 /// Times how long it takes to read the items of the batches whose bytes are `encoded`, and prints a line.
@@ -161,7 +161,7 @@ fn time_reading(rt: &HostRuntime, encoded: &[Vec<u8>]) -> Result<()> {
 /// # Errors
 ///
 /// `Memory` alone.
-fn messages_of_region(alloc: Global, count: u64) -> Result<Vec<Entry>> {
+fn new_region_entries(alloc: Global, count: u64) -> Result<Vec<Entry>> {
     let mut noise = Noise::new();
     let mut messages = Vec::new(alloc);
     for index in 0..count {
@@ -178,13 +178,13 @@ fn messages_of_region(alloc: Global, count: u64) -> Result<Vec<Entry>> {
 ///
 /// # Errors
 ///
-/// Those of [`add_region`]; `Memory`.
+/// Those of [`add_region_records`]; `Memory`.
 fn fill_batches(alloc: Global, shape: Shape, messages: &[Entry]) -> Result<Vec<LogBatch>> {
     let mut batches = Vec::new(alloc);
     for _ in 0..shape.batches {
         let mut batch = LogBatch::default(alloc);
         for region in 0..shape.regions {
-            add_region(alloc, &mut batch, region, messages)?;
+            add_region_records(alloc, &mut batch, region, messages)?;
         }
         batches.push(batch)?;
     }
@@ -197,7 +197,12 @@ fn fill_batches(alloc: Global, shape: Shape, messages: &[Entry]) -> Result<Vec<L
 /// # Errors
 ///
 /// Those of the batch's calls; `Memory`. Some of the records may have been added then.
-fn add_region(alloc: Global, batch: &mut LogBatch, region: u64, messages: &[Entry]) -> Result<()> {
+fn add_region_records(
+    alloc: Global,
+    batch: &mut LogBatch,
+    region: u64,
+    messages: &[Entry],
+) -> Result<()> {
     if batch.is_open() {
         batch.add_entries::<Entries>(region % 1_000 + 1, messages)?;
     }
@@ -229,7 +234,7 @@ fn add_key_value(alloc: Global, batch: &mut LogBatch, region: u64) -> Result<()>
 ///
 /// Those of [`LogBatch::finish_populate`].
 fn seal_batches(batches: &mut Vec<LogBatch>) -> Result<()> {
-    let context = file_context();
+    let context = signing_context();
     for batch in batches.iter_mut() {
         if batch.is_open() {
             batch.finish_populate()?;
@@ -246,7 +251,7 @@ fn seal_batches(batches: &mut Vec<LogBatch>) -> Result<()> {
 /// # Errors
 ///
 /// `Memory` alone.
-fn sealed_bytes(alloc: Global, batches: &[LogBatch]) -> Result<Vec<Vec<u8>>> {
+fn copy_sealed_bytes(alloc: Global, batches: &[LogBatch]) -> Result<Vec<Vec<u8>>> {
     let mut encoded = Vec::new(alloc);
     for batch in batches {
         if batch.is_sealed() {
@@ -272,7 +277,7 @@ fn total_length(encoded: &[Vec<u8>]) -> usize {
 ///
 /// Those of [`LogBatch::decode_header`] and [`LogItemBatch::decode`].
 fn decode_batches(alloc: Global, encoded: &[Vec<u8>]) -> Result<(usize, usize)> {
-    let context = file_context();
+    let context = signing_context();
     let (mut items, mut bytes) = (0usize, 0usize);
     for batch in encoded {
         let mut front: BytesSlice<'_> = batch.as_slice();

@@ -1,8 +1,8 @@
 //! Times tables with long and with short blocks (entries at one place), and counts the bytes that they take.
 
 use crate::tables::{
-    APPENDED, REGIONS, REWRITTEN, Region, append_all_runs, count_found, empty_regions, run_from,
-    runs,
+    APPENDED, REGIONS, REWRITTEN, Region, append_all_runs, count_found_entries, new_empty_regions,
+    new_run, new_runs_in_turn,
 };
 use crate::timing::{Noise, best_times, print_time_per_unit, time_work};
 use raft_memtable::{AllocResult, Block, EntryIndex};
@@ -37,14 +37,14 @@ pub(crate) fn time_blocks(rt: &HostRuntime) -> io::Result<()> {
     for &len in &[64, 8, 1] {
         time_appends(rt, len)?;
     }
-    time_get(rt)?;
-    time_rewrite(rt)?;
-    time_merge(rt)
+    time_entry_lookups(rt)?;
+    time_rewrites_of_many_blocks(rt)?;
+    time_merges_of_many_blocks(rt)
 }
 
 /// Returns how many bytes are allocated for the blocks of `region`, with their first indexes and the spans of
 /// their entries.
-fn allocated_bytes(region: &Region) -> usize {
+fn allocated_block_bytes(region: &Region) -> usize {
     let blocks = region.blocks();
     let each = size_of::<Block>() + size_of::<u64>();
     let mut bytes = blocks.capacity().saturating_mul(each);
@@ -81,12 +81,12 @@ fn time_appends(rt: &HostRuntime, len: u64) -> io::Result<()> {
 ///
 /// Those of the clock; lack of memory.
 fn append_runs(rt: &HostRuntime, len: u64) -> io::Result<(u64, usize)> {
-    let mut regions = empty_regions(rt.alloc())?;
-    let runs = runs(rt.alloc(), REGIONS, ENTRIES, len, APPENDED)?;
+    let mut regions = new_empty_regions(rt.alloc())?;
+    let runs = new_runs_in_turn(rt.alloc(), REGIONS, ENTRIES, len, APPENDED)?;
     let (taken, _) = time_work(rt, || append_all_runs(&mut regions, runs))?;
     let mut bytes = 0usize;
     for region in &regions {
-        bytes = bytes.saturating_add(allocated_bytes(region));
+        bytes = bytes.saturating_add(allocated_block_bytes(region));
     }
     Ok((taken, bytes))
 }
@@ -97,12 +97,12 @@ fn append_runs(rt: &HostRuntime, len: u64) -> io::Result<(u64, usize)> {
 /// # Errors
 ///
 /// `AllocError` if there is no memory.
-fn long_table(alloc: Global, first: u64) -> AllocResult<Region> {
+fn new_table_of_many_blocks(alloc: Global, first: u64) -> AllocResult<Region> {
     let mut region = Region::new(alloc, 1);
     let mut next = first;
     for _ in 0..BLOCKS {
-        let run = run_from(alloc, next, SPANS, APPENDED)?;
-        if region.append(run).is_err() {
+        let run = new_run(alloc, next, SPANS, APPENDED)?;
+        if region.append_run(run).is_err() {
             return Ok(region);
         }
         next = next.saturating_add(SPANS);
@@ -115,9 +115,9 @@ fn long_table(alloc: Global, first: u64) -> AllocResult<Region> {
 /// # Errors
 ///
 /// Those of the clock and of the output; lack of memory.
-fn time_get(rt: &HostRuntime) -> io::Result<()> {
+fn time_entry_lookups(rt: &HostRuntime) -> io::Result<()> {
     let mut regions = Vec::new(rt.alloc());
-    regions.push(long_table(rt.alloc(), 1)?)?;
+    regions.push(new_table_of_many_blocks(rt.alloc(), 1)?)?;
     let mut noise = Noise::new();
     let mut picks = Vec::new(rt.alloc());
     for _ in 0..LOOKUPS {
@@ -125,7 +125,7 @@ fn time_get(rt: &HostRuntime) -> io::Result<()> {
     }
     let (best, got) = best_times(|| time_work(
         rt,
-        || count_found(regions.as_slice(), picks.as_slice()),
+        || count_found_entries(regions.as_slice(), picks.as_slice()),
     ))?;
     print_time_per_unit(
         rt,
@@ -138,9 +138,9 @@ fn time_get(rt: &HostRuntime) -> io::Result<()> {
 
 /// Rewrites `region`, a table of many blocks, from its first entry on, by one call for each of `runs`. This
 /// is the work that is timed. It ends at a refusal.
-fn rewrite_by_steps(region: &mut Region, runs: Vec<Vec<EntryIndex>>) {
+fn rewrite_run_by_run(region: &mut Region, runs: Vec<Vec<EntryIndex>>) {
     for run in runs {
-        if region.rewrite(run).is_err() {
+        if region.rewrite_run(run).is_err() {
             return;
         }
     }
@@ -151,11 +151,11 @@ fn rewrite_by_steps(region: &mut Region, runs: Vec<Vec<EntryIndex>>) {
 /// # Errors
 ///
 /// Those of the clock and of the output; lack of memory.
-fn time_rewrite(rt: &HostRuntime) -> io::Result<()> {
+fn time_rewrites_of_many_blocks(rt: &HostRuntime) -> io::Result<()> {
     let (best, ()) = best_times(|| {
-        let mut region = long_table(rt.alloc(), 1)?;
-        let runs = runs(rt.alloc(), 1, BLOCKS * SPANS, STEP, REWRITTEN)?;
-        time_work(rt, || rewrite_by_steps(&mut region, runs))
+        let mut region = new_table_of_many_blocks(rt.alloc(), 1)?;
+        let runs = new_runs_in_turn(rt.alloc(), 1, BLOCKS * SPANS, STEP, REWRITTEN)?;
+        time_work(rt, || rewrite_run_by_run(&mut region, runs))
     })?;
     print_time_per_unit(
         rt,
@@ -171,10 +171,10 @@ fn time_rewrite(rt: &HostRuntime) -> io::Result<()> {
 /// # Errors
 ///
 /// `AllocError` if there is no memory.
-fn long_tables(alloc: Global, first: u64) -> AllocResult<Vec<Region>> {
+fn new_tables_of_many_blocks(alloc: Global, first: u64) -> AllocResult<Vec<Region>> {
     let mut regions = Vec::new(alloc);
     for _ in 0..PAIRS {
-        regions.push(long_table(alloc, first)?)?;
+        regions.push(new_table_of_many_blocks(alloc, first)?)?;
     }
     Ok(regions)
 }
@@ -183,7 +183,7 @@ fn long_tables(alloc: Global, first: u64) -> AllocResult<Vec<Region>> {
 /// timed. It ends at a refusal.
 fn merge_all_regions(older: &mut Vec<Region>, newer: Vec<Region>) {
     for (older, newer) in older.iter_mut().zip(newer) {
-        if older.merge(newer).is_err() {
+        if older.merge_newer(newer).is_err() {
             return;
         }
     }
@@ -194,10 +194,10 @@ fn merge_all_regions(older: &mut Vec<Region>, newer: Vec<Region>) {
 /// # Errors
 ///
 /// Those of the clock and of the output; lack of memory.
-fn time_merge(rt: &HostRuntime) -> io::Result<()> {
+fn time_merges_of_many_blocks(rt: &HostRuntime) -> io::Result<()> {
     let (best, ()) = best_times(|| {
-        let mut older = long_tables(rt.alloc(), 1)?;
-        let newer = long_tables(rt.alloc(), 1 + BLOCKS * SPANS)?;
+        let mut older = new_tables_of_many_blocks(rt.alloc(), 1)?;
+        let newer = new_tables_of_many_blocks(rt.alloc(), 1 + BLOCKS * SPANS)?;
         time_work(rt, || merge_all_regions(&mut older, newer))
     })?;
     print_time_per_unit(

@@ -14,7 +14,7 @@ pub(crate) fn time_checksums(rt: &HostRuntime) -> Result<()> {
     let mut bytes = Vec::new(rt.alloc());
     Noise::new().append_bytes(&mut bytes, 1 << 24)?;
     for &size in &[8usize, 64, 256, 1 << 10, 1 << 12, 1 << 16, 1 << 20, 1 << 24] {
-        time_size(rt, bytes.as_slice(), size)?;
+        time_checksums_of_size(rt, bytes.as_slice(), size)?;
     }
     Ok(())
 }
@@ -24,8 +24,8 @@ pub(crate) fn time_checksums(rt: &HostRuntime) -> Result<()> {
 /// # Errors
 ///
 /// `Memory`; `Io` for the clock or the output.
-fn time_size(rt: &HostRuntime, bytes: &[u8], size: usize) -> Result<()> {
-    let (best, last) = best_times(|| time_work(rt, || checksums(bytes, size)))?;
+fn time_checksums_of_size(rt: &HostRuntime, bytes: &[u8], size: usize) -> Result<()> {
+    let (best, last) = best_times(|| time_work(rt, || xor_of_checksums(bytes, size)))?;
     let count = bytes.len() / size.max(1);
     let name = format!(in rt.alloc(); "crc32 of {size} bytes ({last:08x})")?;
     print_time_and_speed(rt, name.as_str(), best, "call", count, bytes.len())?;
@@ -34,7 +34,7 @@ fn time_size(rt: &HostRuntime, bytes: &[u8], size: usize) -> Result<()> {
 
 /// Returns the exclusive or of the checksums of all chunks of `size` bytes that `bytes` have. This is the
 /// work that is timed.
-fn checksums(bytes: &[u8], size: usize) -> u32 {
+fn xor_of_checksums(bytes: &[u8], size: usize) -> u32 {
     let mut all = 0;
     for chunk in bytes.chunks_exact(size.max(1)) {
         all ^= crc32(chunk);

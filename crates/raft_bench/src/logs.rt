@@ -54,7 +54,7 @@ pub(crate) fn read_log<R: Files + AllocGlobal>(rt: &R, words: &[String]) -> Resu
 /// # Errors
 ///
 /// Those of the output.
-pub(crate) fn print_times(
+pub(crate) fn print_log_times(
     rt: &HostRuntime,
     before: &str,
     times: Option<LogTimes>,

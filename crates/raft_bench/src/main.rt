@@ -6,6 +6,7 @@
 mod batches;
 mod blocks;
 mod checksum;
+mod key_values;
 mod logs;
 mod merges;
 mod numbers;
@@ -14,7 +15,7 @@ mod shared;
 mod tables;
 mod timing;
 
-use logs::{LogTimes, print_times};
+use logs::{LogTimes, print_log_times};
 use raft_records::Result;
 use raft_recover::command_words;
 use std::io;
@@ -61,7 +62,7 @@ fn print_times_or_error(
     times: Result<Option<LogTimes>>,
 ) -> io::Result<()> {
     match times {
-        Ok(times) => print_times(rt, before, times),
+        Ok(times) => print_log_times(rt, before, times),
         Err(e) => print_error(rt, Err(e)),
     }
 }

@@ -19,7 +19,7 @@ const CONTEXTS: usize = 4;
 ///
 /// # Errors
 ///
-/// Those of reading the files; those of [`time_run`]; `Memory`.
+/// Those of reading the files; those of [`time_reading_and_merging`]; `Memory`.
 pub(crate) fn time_merges<R: Files + AllocGlobal + Clock>(
     rt: &R,
     words: &[String],
@@ -31,7 +31,9 @@ pub(crate) fn time_merges<R: Files + AllocGlobal + Clock>(
     let Ok(quarters) = <&[Segment; CONTEXTS]>::try_from(quarters.as_slice()) else {
         return Ok(None);
     };
-    let ([reading, merging], ()) = best_times(|| time_run(rt, quarters, log.queue))?;
+    let ([reading, merging], ()) = best_times(|| time_reading_and_merging(
+        rt, quarters, log.queue,
+    ))?;
     Ok(Some(LogTimes {
         name: format!(in rt.alloc(); "four contexts on one thread")?,
         first: ("reading best", reading),
@@ -44,7 +46,7 @@ pub(crate) fn time_merges<R: Files + AllocGlobal + Clock>(
 /// # Errors
 ///
 /// Those of the readings and the merges; `Io` for the clock.
-fn time_run<R: AllocGlobal + Clock>(
+fn time_reading_and_merging<R: AllocGlobal + Clock>(
     rt: &R,
     quarters: &[Segment; CONTEXTS],
     queue: LogQueue,

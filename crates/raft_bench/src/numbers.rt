@@ -20,7 +20,7 @@ pub(crate) fn time_numbers(rt: &HostRuntime) -> Result<()> {
         for _ in 0..COUNT {
             numbers.push(noise.next_u64() >> (64 - bits))?;
         }
-        time_length(rt, bits, numbers.as_slice())?;
+        time_numbers_of_length(rt, bits, numbers.as_slice())?;
     }
     Ok(())
 }
@@ -30,7 +30,7 @@ pub(crate) fn time_numbers(rt: &HostRuntime) -> Result<()> {
 /// # Errors
 ///
 /// `Memory`; `Io` for the clock or the output.
-fn time_length(rt: &HostRuntime, bits: u32, numbers: &[u64]) -> Result<()> {
+fn time_numbers_of_length(rt: &HostRuntime, bits: u32, numbers: &[u64]) -> Result<()> {
     let mut bytes = Vec::with_capacity(rt.alloc(), 10 * COUNT)?;
     let ([writing, reading], sum) = best_times(|| -> io::Result<_> {
         bytes.clear();

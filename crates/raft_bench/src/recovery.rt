@@ -16,7 +16,7 @@ const RUNS: usize = 15;
 ///
 /// # Errors
 ///
-/// Those of reading the files; those of [`time_run`]; `Memory`.
+/// Those of reading the files; those of [`time_one_recovery`]; `Memory`.
 pub(crate) fn time_recovery<R: Threads + Files + AllocGlobal + Clock + Sync>(
     rt: &R,
     words: &[String],
@@ -27,7 +27,7 @@ pub(crate) fn time_recovery<R: Threads + Files + AllocGlobal + Clock + Sync>(
     let mut runs = [0; RUNS];
     let mut regions = 0;
     for run in &mut runs {
-        (*run, regions) = time_run(rt, &log)?;
+        (*run, regions) = time_one_recovery(rt, &log)?;
     }
     runs.sort_unstable();
     let workers = log.workers;
@@ -43,7 +43,10 @@ pub(crate) fn time_recovery<R: Threads + Files + AllocGlobal + Clock + Sync>(
 /// # Errors
 ///
 /// Those of [`recover`]; `Io` for the clock; `Memory`.
-fn time_run<R: Threads + AllocGlobal + Clock + Sync>(rt: &R, log: &Log) -> Result<(u64, usize)> {
+fn time_one_recovery<R: Threads + AllocGlobal + Clock + Sync>(
+    rt: &R,
+    log: &Log,
+) -> Result<(u64, usize)> {
     let (alloc, segments) = (rt.alloc(), log.segments.as_slice());
     let (taken, tables) = time_work(rt, || recover(rt, alloc, segments, log.queue, log.workers))?;
     Ok((taken, tables?.tables()?.len()))

@@ -1,6 +1,6 @@
 //! Times tables that several threads share.
 
-use crate::tables::{APPENDED, run_from};
+use crate::tables::{APPENDED, new_run};
 use crate::timing::{Noise, best_times, print_time_per_unit, time_work};
 use raft_memtable::{AllocResult, MemTable, MemTableAccessor, Result, TableChange};
 use raft_recover::SharedAccessor;
@@ -47,14 +47,14 @@ pub(crate) fn time_shared_tables<R: Threads + Wait + Clock + Print + Sync>(
 ///
 /// # Errors
 ///
-/// `Memory`; `Io` for the clock; those of [`append_share`].
+/// `Memory`; `Io` for the clock; those of [`append_runs_of_thread`].
 fn time_append_by_threads<R: Threads + Wait + Clock + Sync>(
     rt: &R,
     alloc: Global,
     threads: u64,
 ) -> Result<(u64, ())> {
     let shared = SharedAccessor::new(alloc);
-    let append = |thread: usize| append_share(rt, alloc, &shared, thread as u64, threads);
+    let append = |thread: usize| append_runs_of_thread(rt, alloc, &shared, thread as u64, threads);
     let (taken, all) = time_work(
         rt,
         || thread::map_indices(rt, alloc, threads as usize, &append),
@@ -71,7 +71,7 @@ fn time_append_by_threads<R: Threads + Wait + Clock + Sync>(
 /// # Errors
 ///
 /// Those of [`SharedAccessor::change`]; `Memory`.
-fn append_share<R: Wait>(
+fn append_runs_of_thread<R: Wait>(
     rt: &R,
     alloc: Global,
     shared: &SharedAccessor,
@@ -81,7 +81,7 @@ fn append_share<R: Wait>(
     for number in 0..ROUNDS * REGIONS {
         let (round, region) = (number / REGIONS, number % REGIONS);
         if region % threads.max(1) == thread {
-            let run = run_from(alloc, 1 + round * RUN, RUN, APPENDED)?;
+            let run = new_run(alloc, 1 + round * RUN, RUN, APPENDED)?;
             shared.change(rt, region, TableChange::Append(run))?;
         }
     }
@@ -93,7 +93,7 @@ fn append_share<R: Wait>(
 /// # Errors
 ///
 /// `AllocError` if there is no memory.
-fn picked_regions(alloc: Global) -> AllocResult<Vec<u64>> {
+fn pick_regions(alloc: Global) -> AllocResult<Vec<u64>> {
     let mut noise = Noise::new();
     let mut picks = Vec::with_capacity(alloc, LOOKUPS as usize)?;
     for _ in 0..LOOKUPS {
@@ -107,10 +107,10 @@ fn picked_regions(alloc: Global) -> AllocResult<Vec<u64>> {
 /// # Errors
 ///
 /// Those of [`MemTableAccessor::change`]; `Memory`.
-fn full_accessor(alloc: Global) -> Result<MemTableAccessor> {
+fn new_filled_accessor(alloc: Global) -> Result<MemTableAccessor> {
     let mut core = MemTableAccessor::new(alloc)?;
     for region in 0..REGIONS {
-        let run = run_from(alloc, 1, RUN, APPENDED)?;
+        let run = new_run(alloc, 1, RUN, APPENDED)?;
         core.change(region, TableChange::Append(run))?;
     }
     Ok(core)
@@ -120,9 +120,9 @@ fn full_accessor(alloc: Global) -> Result<MemTableAccessor> {
 ///
 /// # Errors
 ///
-/// Those of [`full_accessor`]; `Memory`.
-fn full_shared(alloc: Global) -> Result<SharedAccessor> {
-    SharedAccessor::from_core(alloc, full_accessor(alloc)?)
+/// Those of [`new_filled_accessor`]; `Memory`.
+fn new_filled_shared_tables(alloc: Global) -> Result<SharedAccessor> {
+    SharedAccessor::from_core(alloc, new_filled_accessor(alloc)?)
 }
 
 /// Looks up the regions `picks` in `core`, and returns the sum of their last indexes modulo 2^64. This is the
@@ -156,11 +156,11 @@ fn sum_shared_last_indexes<R: Wait>(rt: &R, shared: &SharedAccessor, picks: &[u6
 ///
 /// `Memory`; `Io` for the clock or the output; those of the tables.
 fn time_table_lookups<R: Wait + Clock + Print>(rt: &R, alloc: Global) -> Result<()> {
-    let picks = picked_regions(alloc)?;
+    let picks = pick_regions(alloc)?;
     time_table_lookups_in_turn(
         rt,
-        &full_accessor(alloc)?,
-        &full_shared(alloc)?,
+        &new_filled_accessor(alloc)?,
+        &new_filled_shared_tables(alloc)?,
         picks.as_slice(),
     )
 }

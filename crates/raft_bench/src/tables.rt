@@ -2,6 +2,7 @@
 
 ghost use Rattle.raft_memtable.specs.Table.{IsCounted};
 
+use crate::key_values::{time_key_reads, time_puts};
 use crate::timing::{Noise, best_times, print_time_per_unit, time_work};
 use raft_memtable::{
     AllocResult, Block, EntryIndex, FileBlockHandle, FileId, GlobalStats, LogQueue, MemTable,
@@ -26,9 +27,6 @@ const FETCH: u64 = 64;
 /// How many entries one compaction drops.
 const STEP: u64 = 32;
 
-/// How many keys a table has.
-const KEYS: usize = 100_000;
-
 /// The file of the entries that are appended and the key values that are put.
 pub(crate) const APPENDED: FileId = FileId {
     queue: LogQueue::Append,
@@ -50,7 +48,7 @@ pub(crate) struct Region {
 }
 
 /// A key and its value.
-type Pair = (Vec<u8>, Vec<u8>);
+pub(crate) type Pair = (Vec<u8>, Vec<u8>);
 
 impl Region {
     /// Returns the region `region_id`, without records.
@@ -66,7 +64,7 @@ impl Region {
     /// # Errors
     ///
     /// Those of [`MemTable::append`]. The table is unchanged then.
-    pub(crate) fn append(&mut self, run: Vec<EntryIndex>) -> Result<()> {
+    pub(crate) fn append_run(&mut self, run: Vec<EntryIndex>) -> Result<()> {
         if is_run(&run, LogQueue::Append) {
             self.table.append(run, &mut self.stats)?;
         }
@@ -79,7 +77,7 @@ impl Region {
     /// # Errors
     ///
     /// Those of [`MemTable::rewrite`]. The table is unchanged then.
-    pub(crate) fn rewrite(&mut self, run: Vec<EntryIndex>) -> Result<()> {
+    pub(crate) fn rewrite_run(&mut self, run: Vec<EntryIndex>) -> Result<()> {
         if is_run(&run, LogQueue::Rewrite) {
             self.table.rewrite(run, Some(1), &mut self.stats)?;
         }
@@ -91,13 +89,18 @@ impl Region {
     /// # Errors
     ///
     /// Those of [`MemTable::merge_newer_neighbor`].
-    pub(crate) fn merge(&mut self, newer: Region) -> Result<()> {
+    pub(crate) fn merge_newer(&mut self, newer: Region) -> Result<()> {
         let mut table = newer.table;
         if self.table.region_id() == table.region_id() {
             self.table
                 .merge_newer_neighbor(&mut table, &mut self.stats)?;
         }
         Ok(())
+    }
+
+    /// Returns the region's table.
+    pub(crate) fn table(&self) -> &MemTable {
+        &self.table
     }
 
     /// Returns the blocks of the region's table.
@@ -115,12 +118,12 @@ impl Region {
     /// # Errors
     ///
     /// Those of [`MemTable::put`]. The table is unchanged then.
-    fn put(&mut self, pair: Pair) -> Result<()> {
+    pub(crate) fn put_pair(&mut self, pair: Pair) -> Result<()> {
         self.table.put(pair.0, pair.1, APPENDED, &mut self.stats)
     }
 
     /// Deletes `key` with its value, if it is there.
-    fn delete(&mut self, key: &[u8]) {
+    pub(crate) fn delete_key(&mut self, key: &[u8]) {
         self.table.delete(key, &mut self.stats);
     }
 }
@@ -131,10 +134,10 @@ impl Region {
 ///
 /// Those of the clock and of the output; lack of memory.
 pub(crate) fn time_tables(rt: &HostRuntime) -> io::Result<()> {
-    time_append(rt)?;
+    time_appends_in_turn(rt)?;
     time_compact_to(rt)?;
     time_reads(rt)?;
-    time_rewrite(rt)?;
+    time_table_rewrites(rt)?;
     time_puts(rt)?;
     time_key_reads(rt)
 }
@@ -144,7 +147,7 @@ pub(crate) fn time_tables(rt: &HostRuntime) -> io::Result<()> {
 /// # Errors
 ///
 /// `AllocError` if there is no memory.
-pub(crate) fn run_from(
+pub(crate) fn new_run(
     alloc: Global,
     first: u64,
     len: u64,
@@ -171,7 +174,7 @@ pub(crate) fn run_from(
 /// # Errors
 ///
 /// `AllocError` if there is no memory.
-pub(crate) fn empty_regions(alloc: Global) -> AllocResult<Vec<Region>> {
+pub(crate) fn new_empty_regions(alloc: Global) -> AllocResult<Vec<Region>> {
     let mut regions = Vec::new(alloc);
     for id in 0..REGIONS {
         regions.push(Region::new(alloc, id))?;
@@ -185,7 +188,7 @@ pub(crate) fn empty_regions(alloc: Global) -> AllocResult<Vec<Region>> {
 /// # Errors
 ///
 /// `AllocError` if there is no memory.
-pub(crate) fn runs(
+pub(crate) fn new_runs_in_turn(
     alloc: Global,
     regions: u64,
     entries: u64,
@@ -196,7 +199,7 @@ pub(crate) fn runs(
     let mut first = 1u64;
     for _ in 0..entries / len.max(1) {
         for _ in 0..regions {
-            runs.push(run_from(alloc, first, len, file)?)?;
+            runs.push(new_run(alloc, first, len, file)?)?;
         }
         first = first.saturating_add(len);
     }
@@ -213,7 +216,7 @@ pub(crate) fn append_all_runs(regions: &mut Vec<Region>, runs: Vec<Vec<EntryInde
             turn = 0;
         }
         if let Some(region) = regions.get_mut(turn)
-            && region.append(run).is_ok()
+            && region.append_run(run).is_ok()
         {
             accepted = accepted.saturating_add(1);
         }
@@ -227,8 +230,8 @@ pub(crate) fn append_all_runs(regions: &mut Vec<Region>, runs: Vec<Vec<EntryInde
 /// # Errors
 ///
 /// `AllocError` if there is no memory.
-fn all_runs(alloc: Global) -> AllocResult<Vec<Vec<EntryIndex>>> {
-    runs(alloc, REGIONS, ENTRIES, RUN, APPENDED)
+fn new_runs_for_all_regions(alloc: Global) -> AllocResult<Vec<Vec<EntryIndex>>> {
+    new_runs_in_turn(alloc, REGIONS, ENTRIES, RUN, APPENDED)
 }
 
 /// Returns 1,000 regions, each with 800 entries.
@@ -236,9 +239,9 @@ fn all_runs(alloc: Global) -> AllocResult<Vec<Vec<EntryIndex>>> {
 /// # Errors
 ///
 /// `AllocError` if there is no memory.
-fn full_regions(alloc: Global) -> AllocResult<Vec<Region>> {
-    let mut regions = empty_regions(alloc)?;
-    append_all_runs(&mut regions, all_runs(alloc)?);
+fn new_filled_regions(alloc: Global) -> AllocResult<Vec<Region>> {
+    let mut regions = new_empty_regions(alloc)?;
+    append_all_runs(&mut regions, new_runs_for_all_regions(alloc)?);
     Ok(regions)
 }
 
@@ -247,10 +250,10 @@ fn full_regions(alloc: Global) -> AllocResult<Vec<Region>> {
 /// # Errors
 ///
 /// Those of the clock and of the output; lack of memory.
-fn time_append(rt: &HostRuntime) -> io::Result<()> {
+fn time_appends_in_turn(rt: &HostRuntime) -> io::Result<()> {
     let (best, _) = best_times(|| {
-        let mut regions = empty_regions(rt.alloc())?;
-        let runs = all_runs(rt.alloc())?;
+        let mut regions = new_empty_regions(rt.alloc())?;
+        let runs = new_runs_for_all_regions(rt.alloc())?;
         time_work(rt, || append_all_runs(&mut regions, runs))
     })?;
     print_time_per_unit(
@@ -288,7 +291,7 @@ fn compact_regions_by_steps(regions: &mut Vec<Region>) -> u64 {
 /// Those of the clock and of the output; lack of memory.
 fn time_compact_to(rt: &HostRuntime) -> io::Result<()> {
     let (best, dropped) = best_times(|| {
-        let mut regions = full_regions(rt.alloc())?;
+        let mut regions = new_filled_regions(rt.alloc())?;
         time_work(rt, || compact_regions_by_steps(&mut regions))
     })?;
     print_time_per_unit(
@@ -306,7 +309,7 @@ fn time_compact_to(rt: &HostRuntime) -> io::Result<()> {
 /// # Errors
 ///
 /// `AllocError` if there is no memory.
-fn picked_places(
+fn pick_places(
     alloc: Global,
     noise: &mut Noise,
     count: u64,
@@ -323,7 +326,7 @@ fn picked_places(
 
 /// Looks up the entries at the places `picks`, each a number of a region and an index, and returns how many
 /// there are. This is the work that is timed.
-pub(crate) fn count_found(regions: &[Region], picks: &[(usize, u64)]) -> u64 {
+pub(crate) fn count_found_entries(regions: &[Region], picks: &[(usize, u64)]) -> u64 {
     let mut count = 0u64;
     for (region, index) in picks {
         if let Some(region) = regions.get(*region)
@@ -337,7 +340,11 @@ pub(crate) fn count_found(regions: &[Region], picks: &[(usize, u64)]) -> u64 {
 
 /// Fetches 64 entries from each of the places `picks` on, each a number of a region and an index, and returns
 /// how many came. This is the work that is timed. `entries` is the memory for one fetch.
-fn count_fetched(regions: &[Region], picks: &[(usize, u64)], entries: &mut Vec<EntryIndex>) -> u64 {
+fn count_fetched_entries(
+    regions: &[Region],
+    picks: &[(usize, u64)],
+    entries: &mut Vec<EntryIndex>,
+) -> u64 {
     let mut count = 0u64;
     for (region, index) in picks {
         entries.clear();
@@ -361,10 +368,10 @@ fn count_fetched(regions: &[Region], picks: &[(usize, u64)], entries: &mut Vec<E
 ///
 /// Those of the clock and of the output; lack of memory.
 fn time_reads(rt: &HostRuntime) -> io::Result<()> {
-    let regions = full_regions(rt.alloc())?;
+    let regions = new_filled_regions(rt.alloc())?;
     let mut noise = Noise::new();
-    let entries = picked_places(rt.alloc(), &mut noise, REGIONS * ENTRIES, 0)?;
-    let fetches = picked_places(rt.alloc(), &mut noise, REGIONS * ENTRIES / FETCH, FETCH)?;
+    let entries = pick_places(rt.alloc(), &mut noise, REGIONS * ENTRIES, 0)?;
+    let fetches = pick_places(rt.alloc(), &mut noise, REGIONS * ENTRIES / FETCH, FETCH)?;
     time_lookups(
         rt,
         regions.as_slice(),
@@ -387,8 +394,8 @@ fn time_lookups(
 ) -> io::Result<()> {
     let mut out = Vec::with_capacity(rt.alloc(), FETCH as usize)?;
     let ([get, fetch], (got, given)) = best_times(|| -> io::Result<_> {
-        let (get, got) = time_work(rt, || count_found(regions, entries))?;
-        let (fetch, given) = time_work(rt, || count_fetched(regions, fetches, &mut out))?;
+        let (get, got) = time_work(rt, || count_found_entries(regions, entries))?;
+        let (fetch, given) = time_work(rt, || count_fetched_entries(regions, fetches, &mut out))?;
         Ok(([get, fetch], (got, given)))
     })?;
     print_time_per_unit(rt, "get_entry, at random", get, "call", got)?;
@@ -399,7 +406,7 @@ fn time_lookups(
 /// is the work that is timed. It ends at a refusal.
 fn rewrite_all_regions(regions: &mut Vec<Region>, runs: Vec<Vec<EntryIndex>>) {
     for (region, run) in regions.iter_mut().zip(runs) {
-        if region.rewrite(run).is_err() {
+        if region.rewrite_run(run).is_err() {
             return;
         }
     }
@@ -410,10 +417,10 @@ fn rewrite_all_regions(regions: &mut Vec<Region>, runs: Vec<Vec<EntryIndex>>) {
 /// # Errors
 ///
 /// Those of the clock and of the output; lack of memory.
-fn time_rewrite(rt: &HostRuntime) -> io::Result<()> {
+fn time_table_rewrites(rt: &HostRuntime) -> io::Result<()> {
     let (best, ()) = best_times(|| {
-        let mut regions = full_regions(rt.alloc())?;
-        let runs = runs(rt.alloc(), REGIONS, ENTRIES, ENTRIES, REWRITTEN)?;
+        let mut regions = new_filled_regions(rt.alloc())?;
+        let runs = new_runs_in_turn(rt.alloc(), REGIONS, ENTRIES, ENTRIES, REWRITTEN)?;
         time_work(rt, || rewrite_all_regions(&mut regions, runs))
     })?;
     print_time_per_unit(
@@ -423,141 +430,4 @@ fn time_rewrite(rt: &HostRuntime) -> io::Result<()> {
         "entry",
         REGIONS * ENTRIES,
     )
-}
-
-/// Returns 100,000 keys of 8 bytes, without a pattern, each with a value of 32 bytes. Each call returns the
-/// same ones.
-///
-/// # Errors
-///
-/// `AllocError` if there is no memory.
-fn pairs(alloc: Global) -> AllocResult<Vec<Pair>> {
-    let mut noise = Noise::new();
-    let mut pairs = Vec::new(alloc);
-    for _ in 0..KEYS {
-        let key = Vec::from_slice(alloc, &noise.next_u64().to_be_bytes())?;
-        pairs.push((key, Vec::from_slice(alloc, &[7u8; 32])?))?;
-    }
-    Ok(pairs)
-}
-
-/// Puts each of `pairs` into the table of `region`, up to the first one that is refused. This is the work
-/// that is timed.
-fn put_all_pairs(region: &mut Region, pairs: Vec<Pair>) {
-    for pair in pairs {
-        if region.put(pair).is_err() {
-            return;
-        }
-    }
-}
-
-/// Deletes the key of each of `pairs` from the table of `region`. This is the work that is timed.
-fn delete_all_pairs(region: &mut Region, pairs: &[Pair]) {
-    for (key, _) in pairs {
-        region.delete(key);
-    }
-}
-
-/// Puts all pairs into a new table, puts them once more, and deletes them. Returns how many nanoseconds each
-/// of the three takes.
-///
-/// # Errors
-///
-/// Those of the clock; lack of memory.
-fn time_key_changes(rt: &HostRuntime) -> io::Result<([u64; 3], ())> {
-    let mut region = Region::new(rt.alloc(), 1);
-    let new = time_pair_puts(rt, &mut region)?;
-    let old = time_pair_puts(rt, &mut region)?;
-    Ok(([new, old, time_pair_deletes(rt, &mut region)?], ()))
-}
-
-/// Puts all pairs into the table of `region`. Returns how many nanoseconds that takes.
-///
-/// # Errors
-///
-/// Those of the clock; lack of memory.
-fn time_pair_puts(rt: &HostRuntime, region: &mut Region) -> io::Result<u64> {
-    let pairs = pairs(rt.alloc())?;
-    let (taken, ()) = time_work(rt, || put_all_pairs(region, pairs))?;
-    Ok(taken)
-}
-
-/// Deletes the keys of all pairs from the table of `region`. Returns how many nanoseconds that takes.
-///
-/// # Errors
-///
-/// Those of the clock; lack of memory.
-fn time_pair_deletes(rt: &HostRuntime, region: &mut Region) -> io::Result<u64> {
-    let pairs = pairs(rt.alloc())?;
-    let (taken, ()) = time_work(rt, || delete_all_pairs(region, pairs.as_slice()))?;
-    Ok(taken)
-}
-
-/// Times puts of new keys, puts of keys that are there, and deletions, and prints a line for each.
-///
-/// # Errors
-///
-/// Those of the clock and of the output; lack of memory.
-fn time_puts(rt: &HostRuntime) -> io::Result<()> {
-    let ([new, old, delete], ()) = best_times(|| time_key_changes(rt))?;
-    print_time_per_unit(rt, "put, new keys, one table", new, "call", KEYS as u64)?;
-    print_time_per_unit(rt, "put, keys that stand", old, "call", KEYS as u64)?;
-    print_time_per_unit(rt, "delete", delete, "call", KEYS as u64)
-}
-
-/// Looks up the values of the keys of `pairs` in `table`, and returns how many bytes they have. This is the
-/// work that is timed.
-fn value_bytes(table: &MemTable, pairs: &[Pair]) -> usize {
-    let mut bytes = 0usize;
-    for (key, _) in pairs {
-        bytes = bytes.saturating_add(table.get(key).map_or(0, |value| value.len()));
-    }
-    bytes
-}
-
-/// Scans `table`, and returns how many bytes its keys and values have, or 0 if the scan is refused. This is
-/// the work that is timed.
-fn scanned_bytes(table: &MemTable) -> usize {
-    let mut bytes = 0usize;
-    let scanned = table.scan(None, None, false, |key, value| {
-        bytes = bytes.saturating_add(key.len()).saturating_add(value.len());
-        true
-    });
-    match scanned {
-        Ok(()) => bytes,
-        Err(_) => 0,
-    }
-}
-
-/// Times look-ups of keys and scans, in one table, and prints a line for each.
-///
-/// # Errors
-///
-/// Those of the clock and of the output; lack of memory.
-fn time_key_reads(rt: &HostRuntime) -> io::Result<()> {
-    let mut region = Region::new(rt.alloc(), 1);
-    put_all_pairs(&mut region, pairs(rt.alloc())?);
-    time_gets(rt, &region.table)?;
-    time_scans(rt, &region.table)
-}
-
-/// Times look-ups of all keys of `table`, and prints a line.
-///
-/// # Errors
-///
-/// Those of the clock and of the output; lack of memory.
-fn time_gets(rt: &HostRuntime, table: &MemTable) -> io::Result<()> {
-    let keys = pairs(rt.alloc())?;
-    let (best, got) = best_times(|| time_work(rt, || value_bytes(table, keys.as_slice())))?;
-    print_time_per_unit(rt, "get", best, "call", (got / 32) as u64)
-}
-
-/// Times a scan of all key values of `table`, and prints a line.
-///
-/// # Errors
-///
-/// Those of the clock and of the output.
-fn time_scans(rt: &HostRuntime, table: &MemTable) -> io::Result<()> {
-    let (best, scanned) = best_times(|| time_work(rt, || scanned_bytes(table)))?;
-    print_time_per_unit(rt, "scan", best, "pair", (scanned / 40) as u64)
 }

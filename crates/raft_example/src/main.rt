@@ -86,9 +86,9 @@ fn remove_folder<R: Host>(rt: &R) -> Result<()> {
 ///
 /// That of the first step that fails.
 fn run_example<R: Host>(rt: &R, folder: &str) -> Result<()> {
-    write_and_move(rt, folder)?;
+    write_and_move_records(rt, folder)?;
     write_torn_batch(rt, folder)?;
-    write_again(rt, folder)?;
+    write_lost_batch_again(rt, folder)?;
     print_tables(rt, &open_engine(rt, folder)?, "opened")
 }
 
@@ -98,7 +98,7 @@ fn run_example<R: Host>(rt: &R, folder: &str) -> Result<()> {
 ///
 /// Those of [`open_folder`]; `Io` for the output.
 fn open_engine<'a, R: Host>(rt: &'a R, folder: &'a str) -> Result<FolderEngine<'a, R>> {
-    let engine = engine_of_folder(rt, folder)?;
+    let engine = open_without_torn_tail(rt, folder)?;
     print_cut_bytes(rt, &engine)?;
     Ok(engine)
 }
@@ -108,7 +108,7 @@ fn open_engine<'a, R: Host>(rt: &'a R, folder: &'a str) -> Result<FolderEngine<'
 /// # Errors
 ///
 /// Those of [`open_folder`].
-fn engine_of_folder<'a, R: Host>(rt: &'a R, folder: &'a str) -> Result<FolderEngine<'a, R>> {
+fn open_without_torn_tail<'a, R: Host>(rt: &'a R, folder: &'a str) -> Result<FolderEngine<'a, R>> {
     let mode = RecoveryMode::TolerateTornTail;
     Ok(open_folder(rt, folder, mode, Version::V2, WORKERS)?.engine)
 }
@@ -131,10 +131,10 @@ fn print_cut_bytes<R: Host>(rt: &R, engine: &FolderEngine<'_, R>) -> Result<()> 
 /// # Errors
 ///
 /// Those of the engine's calls; `Io` for the output.
-fn write_and_move<'a, R: Host>(rt: &'a R, folder: &'a str) -> Result<()> {
+fn write_and_move_records<'a, R: Host>(rt: &'a R, folder: &'a str) -> Result<()> {
     let mut engine = open_engine(rt, folder)?;
     print_tables(rt, &engine, "opened")?;
-    open_twice(rt, folder)?;
+    try_to_open_twice(rt, folder)?;
     write_both_regions(rt, &mut engine)?;
     print_tables(rt, &engine, "written")?;
     let deleted = move_closed_files(&mut engine)?;
@@ -147,7 +147,7 @@ fn write_and_move<'a, R: Host>(rt: &'a R, folder: &'a str) -> Result<()> {
 /// # Errors
 ///
 /// `Io` for the output.
-fn open_twice<'a, R: Host>(rt: &'a R, folder: &'a str) -> Result<()> {
+fn try_to_open_twice<'a, R: Host>(rt: &'a R, folder: &'a str) -> Result<()> {
     if let Err(FolderError::Locked(_)) = FolderFiles::open(rt, folder) {
         println!(rt; "not opened a second time: another engine has the folder open")?;
     }
@@ -165,7 +165,7 @@ fn write_both_regions<R: Host>(rt: &R, engine: &mut FolderEngine<'_, R>) -> Resu
     write_proposals(rt, engine, 8, &["put u 4", "put v 5"], "a", true)?;
     engine.rotate()?;
     write_proposals(rt, engine, 7, &["delete x"], "b", true)?;
-    keep_last_two(rt, engine, 7)
+    keep_last_two_proposals(rt, engine, 7)
 }
 
 /// Moves what the closed append files of `engine` have to its rewrite queue, and deletes the append files that aren't needed
@@ -223,7 +223,7 @@ fn write_torn_batch<R: Host>(rt: &R, folder: &str) -> Result<()> {
 /// # Errors
 ///
 /// Those of the engine's calls; `Io` for the output.
-fn write_again<R: Host>(rt: &R, folder: &str) -> Result<()> {
+fn write_lost_batch_again<R: Host>(rt: &R, folder: &str) -> Result<()> {
     let mut engine = open_engine(rt, folder)?;
     print_tables(rt, &engine, "opened")?;
     write_proposals(rt, &mut engine, 8, &["put w 6"], "c", true)?;
@@ -261,7 +261,11 @@ fn write_proposals<R: Host>(
 /// # Errors
 ///
 /// Those of [`Engine::write`]; `Memory`.
-fn keep_last_two<R: Host>(rt: &R, engine: &mut FolderEngine<'_, R>, region: u64) -> Result<()> {
+fn keep_last_two_proposals<R: Host>(
+    rt: &R,
+    engine: &mut FolderEngine<'_, R>,
+    region: u64,
+) -> Result<()> {
     let mut batch = LogBatch::default(rt.alloc());
     if let Some(last) = engine.last_index(region) {
         let index = last.saturating_sub(1);

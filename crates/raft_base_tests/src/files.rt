@@ -1,7 +1,7 @@
 //! Files in memory, and files of which a list of asks is kept.
 
 use raft_base::{Error, FileBlockHandle, FileId, FileSeq, LogQueue, Result};
-use raft_files::{Asked, EngineFiles, MemoryFiles};
+use raft_files::{AppendError, Asked, EngineFiles, MemoryFiles};
 use raft_trials::again;
 use std::alloc::Global;
 
@@ -26,9 +26,12 @@ impl Deaf {
 impl EngineFiles for Deaf {
     ghost asked = { λ f. f.asked.asks };
 
-    fn append(&mut self, queue: LogQueue, bytes: &[u8]) -> Result<()> {
+    fn append(&mut self, queue: LogQueue, bytes: &[u8]) -> std::result::Result<(), AppendError> {
         self.asked.put(queue, bytes);
-        self.answer()
+        match self.answer() {
+            Ok(()) => Ok(()),
+            Err(error) => Err(AppendError::InPart(error)),
+        }
     }
 
     fn rotate(&mut self, queue: LogQueue, seq: FileSeq) -> Result<()> {
@@ -87,7 +90,7 @@ const ASKS: [(LogQueue, Ask); 12] = [
 fn ask_for<F: EngineFiles>(files: &mut F, queue: LogQueue, asked: Ask) -> Result<()> {
     match asked {
         Ask::Rotate(seq) => files.rotate(queue, seq),
-        Ask::Append(text) => files.append(queue, text.as_bytes()),
+        Ask::Append(text) => Ok(files.append(queue, text.as_bytes())?),
         Ask::Sync => files.sync(queue),
         Ask::DeleteOldest => files.delete_oldest(queue),
         Ask::Truncate(len) => files.truncate(queue, len),

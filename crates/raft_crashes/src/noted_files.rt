@@ -3,7 +3,7 @@
 ghost use Rattle.std.specs.Prelude.{◌≡◌};
 
 use raft_base::{FileBlockHandle, FileSeq, LogQueue, Result};
-use raft_files::{EngineFiles, MemoryFiles};
+use raft_files::{AppendError, EngineFiles, MemoryFiles};
 use std::alloc::Global;
 
 /// The numbers and bytes of the files of a queue, oldest first.
@@ -53,6 +53,18 @@ impl NotedFiles {
     {
         Ok(self.asks.push(Ask { queue, act })?)
     }
+
+    /// Notes that `bytes` are put at the end of the last file of `queue`, before it is carried out.
+    ///
+    /// # Errors
+    ///
+    /// `Memory` alone. Nothing is noted then.
+    fn note_put(&mut self, queue: LogQueue, bytes: &[u8]) -> Result<()>
+        ensures { self.new.files ≡ self.old.files }
+    {
+        let alloc: Global = *self.asks.allocator();
+        self.note(queue, Act::Put(Vec::from_slice(alloc, bytes)?))
+    }
 }
 
 impl EngineFiles for NotedFiles {
@@ -62,11 +74,16 @@ impl EngineFiles for NotedFiles {
     ///
     /// # Errors
     ///
-    /// `Memory`; those of the files in memory, which are unchanged then. The ask may be noted.
-    fn append(&mut self, queue: LogQueue, bytes: &[u8]) -> Result<()> {
-        let alloc: Global = *self.asks.allocator();
-        self.note(queue, Act::Put(Vec::from_slice(alloc, bytes)?))?;
-        self.files.append(queue, bytes)
+    /// `Memory`; those of the files in memory, which are unchanged then. The ask isn't noted.
+    fn append(&mut self, queue: LogQueue, bytes: &[u8]) -> std::result::Result<(), AppendError> {
+        if let Err(error) = self.note_put(queue, bytes) {
+            return Err(AppendError::AsBefore(error));
+        }
+        let put = self.files.append(queue, bytes);
+        if put.is_err() {
+            let _undone = self.asks.pop();
+        }
+        put
     }
 
     /// Notes that a file is begun, and begins it as the last one of `queue`, numbered `seq`. The bytes of the

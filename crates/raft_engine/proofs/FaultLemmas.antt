@@ -1,5 +1,5 @@
 -- Why a call breaks an engine.
-use Rattle.raft_engine.proofs.Common.{◌≡◌, ◌≢◌, ℕ, zero, suc, ◌+◌, ◌-◌, ◌<◌, Bool, true, false, Result, Ok, Err, IfErr, OnErr, List, [], ◌∷◌, ◌++◌, refl, sym, ap, ◌∙◌, subst, arith, Error, LogFileContext, LogQueue, Append, Rewrite, Item, Batch, encoded, Ask, Delete, MayBeAsked}
+use Rattle.raft_engine.proofs.Common.{◌≡◌, ◌≢◌, ℕ, zero, suc, ◌+◌, ◌-◌, ◌<◌, Bool, true, false, Result, Ok, Err, IfErr, OnErr, List, [], ◌∷◌, ◌++◌, refl, sym, ap, ◌∙◌, subst, arith, Error, LogFileContext, LogQueue, Append, Rewrite, Item, Batch, Stage, Ask, Delete, MayBeAsked}
 use Rattle.raft_engine.proofs.Common.{Put, Sync, Unsynced, ask, failed_ask, bytes_for, Failures, FailsAmong, asks_of_items, delete_asks, put_asks, synced_if, IsWritableBatch, encoded_length, ◌^◌, AreInBytes, IsBatchOf, AreInRange}
 use Rattle.raft_engine.proofs.AskedLemmas.{more_failed, one_failed, part_failed}
 
@@ -25,22 +25,22 @@ synced_more true asks old = refl
 synced_more false asks old = refl
 
 -- its bytes, once they are made, were put
-items_made : (file : LogFileContext) (batch : Batch) (items : List Item) → asks_of_items file (record batch { stage = encoded }) items ≡ asks_of_items file batch items
-items_made file batch [] = refl
-items_made file batch (item ∷ items) = refl
+items_made : (file : LogFileContext) (batch : Batch) (s : Stage) (items : List Item) → asks_of_items file (record batch { stage = s }) items ≡ asks_of_items file batch items
+items_made file batch s [] = refl
+items_made file batch s (item ∷ items) = refl
 
-put_made : (context file : LogFileContext) (made batch : Batch) → context ≡ file → made ≡ record batch { stage = encoded } → put_asks context made ≡ put_asks file batch
-put_made context file made batch is_file is_made =
-    ap (λ (c : LogFileContext). put_asks c made) is_file ∙ ap (λ (b : Batch). put_asks file b) is_made ∙ items_made file batch batch.items
+put_made : (context file : LogFileContext) {s : Stage} (made batch : Batch) → context ≡ file → made ≡ record batch { stage = s } → put_asks context made ≡ put_asks file batch
+put_made context file {s} made batch is_file is_made =
+    ap (λ (c : LogFileContext). put_asks c made) is_file ∙ ap (λ (b : Batch). put_asks file b) is_made ∙ items_made file batch s batch.items
 
-pub put_whole : (context file : LogFileContext) (made batch : Batch) (old half : List Ask) → context ≡ file → made ≡ record batch { stage = encoded } → batch.items ≢ []
+pub put_whole : (context file : LogFileContext) {s : Stage} (made batch : Batch) (old half : List Ask) → context ≡ file → made ≡ record batch { stage = s } → batch.items ≢ []
     → half ≡ ask context.id.queue (Put (bytes_for context made)) ∷ old → half ≡ put_asks file batch ++ old
 put_whole context file made batch old half is_file is_made some is =
     let some_made : made.items ≢ [] = subst (λ (b : Batch). b.items ≢ []) (sym is_made) some in
     is ∙ ap (λ (l : List Ask). l ++ old) (sym (some_put context made made.items some_made) ∙ put_made context file made batch is_file is_made)
 
 -- all was asked that is wanted for a batch
-pub writing_whole : (context file : LogFileContext) (made batch : Batch) (sync : Bool) (old half new : List Ask) → context ≡ file → made ≡ record batch { stage = encoded } → batch.items ≢ []
+pub writing_whole : (context file : LogFileContext) {s : Stage} (made batch : Batch) (sync : Bool) (old half new : List Ask) → context ≡ file → made ≡ record batch { stage = s } → batch.items ≢ []
     → half ≡ ask context.id.queue (Put (bytes_for context made)) ∷ old → new ≡ synced_if sync half → new ≡ synced_if sync (put_asks file batch) ++ old
 writing_whole context file made batch sync old half new is_file is_made some is all =
     all ∙ ap (synced_if sync) (put_whole context file made batch old half is_file is_made some is) ∙ synced_more sync (put_asks file batch) old
@@ -70,12 +70,12 @@ module _ (MayFail : Failures) where
   put_so (Err e) file batch old new some may why = put_fails file batch old new e some may why
 
   -- its bytes are the same once they are made
-  pub put_made_fails : (context file : LogFileContext) (made batch : Batch) (old new : List Ask) (e : Error) → context ≡ file → made ≡ record batch { stage = encoded }
+  pub put_made_fails : (context file : LogFileContext) {s : Stage} (made batch : Batch) (old new : List Ask) (e : Error) → context ≡ file → made ≡ record batch { stage = s }
       → FailsAmong MayFail (put_asks context made) old new e → FailsAmong MayFail (put_asks file batch) old new e
   put_made_fails context file made batch old new e is_file is_made f =
       subst (λ (l : List Ask). FailsAmong MayFail l old new e) (put_made context file made batch is_file is_made) f
 
-  pub made_fails : (context file : LogFileContext) (made batch : Batch) (old new : List Ask) (e : Error) → context ≡ file → made ≡ record batch { stage = encoded } → batch.items ≢ []
+  pub made_fails : (context file : LogFileContext) {s : Stage} (made batch : Batch) (old new : List Ask) (e : Error) → context ≡ file → made ≡ record batch { stage = s } → batch.items ≢ []
       → MayBeAsked (ask context.id.queue (Put (bytes_for context made))) old new → MayFail old (ask context.id.queue (Put (bytes_for context made))) e → FailsAmong MayFail (put_asks file batch) old new e
   made_fails context file made batch old new e is_file is_made some may why =
       let some_made : made.items ≢ [] = subst (λ (b : Batch). b.items ≢ []) (sym is_made) some in
@@ -119,7 +119,7 @@ module _ (MayFail : Failures) where
   -- ---- a batch that is written
 
   -- its bytes aren't put
-  pub writing_put : (context file : LogFileContext) (made batch : Batch) (sync : Bool) (old new : List Ask) (e : Error) → context ≡ file → made ≡ record batch { stage = encoded } → batch.items ≢ []
+  pub writing_put : (context file : LogFileContext) {s : Stage} (made batch : Batch) (sync : Bool) (old new : List Ask) (e : Error) → context ≡ file → made ≡ record batch { stage = s } → batch.items ≢ []
       → MayBeAsked (ask context.id.queue (Put (bytes_for context made))) old new → MayFail old (ask context.id.queue (Put (bytes_for context made))) e
       → FailsAmong MayFail (synced_if sync (put_asks file batch)) old new e
   writing_put context file made batch sync old new e is_file is_made some may why =
@@ -127,7 +127,7 @@ module _ (MayFail : Failures) where
       subst (λ (l : List Ask). FailsAmong MayFail l old new e) (synced_prefix sync (put_asks file batch)) (part_failed MayFail (synced_if sync []) (put_asks file batch) old new e f)
 
   -- they are put, but not synced
-  pub writing_sync : (context file : LogFileContext) (made batch : Batch) (sync : Bool) (old half new : List Ask) (e : Error) → context ≡ file → made ≡ record batch { stage = encoded } → batch.items ≢ []
+  pub writing_sync : (context file : LogFileContext) {s : Stage} (made batch : Batch) (sync : Bool) (old half new : List Ask) (e : Error) → context ≡ file → made ≡ record batch { stage = s } → batch.items ≢ []
       → half ≡ ask context.id.queue (Put (bytes_for context made)) ∷ old → FailsAmong MayFail (synced_if sync []) half new e → FailsAmong MayFail (synced_if sync (put_asks file batch)) old new e
   writing_sync context file made batch sync old half new e is_file is_made some is f =
       subst (λ (l : List Ask). FailsAmong MayFail l old new e) (synced_prefix sync (put_asks file batch))

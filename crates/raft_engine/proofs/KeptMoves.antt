@@ -6,6 +6,7 @@ use Rattle.raft_engine.proofs.Common.{IsReadBackAlone, MovedBatchesAreReadBack, 
 use Rattle.std.specs.FinMap as finite
 use Rattle.raft_base.specs.declared.errors.Error.TheVariants as errors
 use Rattle.raft_engine_laws.specs.Crashes as queue_deeds
+use Rattle.raft_engine.proofs.FaultLemmas.{made_fails}
 use Rattle.raft_engine.proofs.FilesLemmas.{files_last, files_same, files_told}
 use Rattle.raft_engine.proofs.ReadBackLemmas.{none_before, same_read_back}
 use Rattle.raft_engine.proofs.ReadKept.{none_read, read_only}
@@ -284,6 +285,30 @@ module _ (read : ReadsAreStored) (version : Version) (asks : List Ask) (append r
         pub made_broken : PutBatchesAreStored → (new : List Ask) (append' rewrite' : QueueFiles) (untold' : Batch) (accessor' : Accessor) → MayBeAsked (ask context.id.queue (Put (bytes_for context made))) between new
             → IsKeptBy version new append' rewrite' untold' accessor' false
         made_broken put new append' rewrite' untold' accessor' h = may_broken put new append' rewrite' untold' accessor' (subst (λ (a : Ask). MayBeAsked a between new) same_ask h)
+
+        -- the engine stays intact if the files took back what they put
+        pub moved_tried : PutBatchesAreStored → (new : List Ask) (kept : Bool) → (kept ≡ true → new ≡ between) → MayBeAsked (ask context.id.queue (Put (bytes_for context made))) between new
+            → IsKeptBy version new append rewrite untold accessor kept
+        moved_tried put new true same may =
+            subst (λ (l : List Ask). IsKeptBy version l append rewrite untold accessor true) (sym (same refl))
+            (subst (λ (b : Bool). IsKeptBy version between append rewrite untold accessor b) is_intact between_kept)
+        moved_tried put new false same may = made_broken put new append rewrite untold accessor may
+
+        pub unmoved_tried : {MayFail : Failures} (new : List Ask) (kept : Bool) (e : Error) → (kept ≡ true → new ≡ between) → MayBeAsked (ask context.id.queue (Put (bytes_for context made))) between new
+            → MayFail between (ask context.id.queue (Put (bytes_for context made))) e → IsBatchUnmoved MayFail gate left region engine (record engine { asks = new; intact = kept }) e
+        unmoved_tried {MayFail} new true e same may why =
+            let are : new ≡ between = same refl in
+            inr (inr (record {
+              batch = batch;
+              some = w.some;
+              moving = subst (λ (l : List Ask). IsMoving gate left region engine l batch) (sym are) is_moving;
+              seq = rewrite.seq;
+              bytes = its_bytes;
+              last = its_last;
+              why = subst (λ (l : List Ask). MayFail l (ask Rewrite (Put (bytes_for file batch))) e) (sym are) (subst (λ (a : Ask). MayFail between a e) same_ask why);
+              others = ap (λ (b : Bool). record engine { asks = new; intact = b }) (sym is_intact);
+            }))
+        unmoved_tried {MayFail} new false e same may why = inr (inl (half_moved new accessor e (inl (made_fails MayFail context file made batch between new e is_file is_made w.some may why, refl))))
 
         pub made_asked : (new : List Ask) → new ≡ ask context.id.queue (Put (bytes_for context made)) ∷ between → new ≡ ask Rewrite (Put (bytes_for file batch)) ∷ between
         made_asked new e = e ∙ ap (λ (a : Ask). a ∷ between) same_ask

@@ -105,8 +105,9 @@ module _ (queue : LogQueue) (count : ℕ) (old : KeptEngine) (expired : AreExpir
     -- where telling fails, the purge does
     pub untold_unpurged : (new : KeptEngine) (e : Error) → IsUntold MayFail old new e → AreFilesUnpurged MayFail queue old new e
     untold_unpurged new e (inl h) = inl (h.0, h.1, λ full. (count, expired, omega (arith, some)))
-    untold_unpurged new e (inr h) = inr (half_by h.seq h.bytes h.last new e
-        (record { was = h.broken.was; failed = part_failed MayFail rest (telling h.seq) old.asks new.asks e h.broken.failed; others = h.broken.others }))
+    untold_unpurged new e (inr (inl h)) = inr (inl (half_by h.seq h.bytes h.last new e
+        (record { was = h.broken.was; failed = part_failed MayFail rest (telling h.seq) old.asks new.asks e h.broken.failed; others = h.broken.others })))
+    untold_unpurged new e (inr (inr h)) = inr (inr ((count, expired, omega (arith, some)), h))
 
   -- once all is told
   module _ (told : KeptEngine) (t : IsTold old told) where

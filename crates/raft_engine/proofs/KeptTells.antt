@@ -1,11 +1,11 @@
 -- What an engine keeps once it tells the rewrite queue what is untold.
-use Rattle.raft_engine.proofs.Common.{◌≡◌, ◌≢◌, ℕ, ◌+◌, Bool, true, false, List, [], ◌∷◌, ◌++◌, refl, sym, ap, ◌∙◌, subst, LogFileContext, Append, Rewrite, Version, Item, Batch, empty_batch, encoded, encoded_length, Accessor, Ask, NoSyncFailed, Sync, ask, begun, deletions}
-use Rattle.raft_engine.proofs.Common.{TakeAway, IsLastFile, KeptEngine, AreFilesOf, IsKeptBy, IsHalfTold, IsTold, put_asks, AreKeptStored, IsWritableBatch, SyncsAreStored, ToldBatchesAreStored, QueueFiles, IsReadBackAlone, Error, Failures, FailsAmong}
+use Rattle.raft_engine.proofs.Common.{◌≡◌, ◌≢◌, ℕ, ◌+◌, Bool, true, false, List, [], ◌∷◌, ◌++◌, refl, sym, ap, ◌∙◌, subst, LogFileContext, Append, Rewrite, Version, Item, Batch, empty_batch, encoded, encoded_length, Accessor, Ask, NoSyncFailed, Put, Sync, ask, bytes_for, inl, inr, begun, deletions}
+use Rattle.raft_engine.proofs.Common.{TakeAway, IsLastFile, KeptEngine, AreFilesOf, IsKeptBy, IsHalfTold, IsTold, IsUntold, FailedSyncsAreStored, put_asks, AreKeptStored, IsWritableBatch, SyncsAreStored, ToldBatchesAreStored, QueueFiles, IsReadBackAlone, Error, Failures, FailsAmong}
 use Rattle.raft_engine.proofs.FilesLemmas.{files_last, files_same}
 use Rattle.raft_engine.proofs.ReadBackLemmas.{same_read_back, told_read_back}
 use Rattle.raft_engine.proofs.KeptPurges.{items_made, items_others, rewrite_file, told_files, told_stored}
-use Rattle.raft_engine.proofs.BrokenLemmas.{AreEver, AreSafe, more_ever, put_ever}
-use Rattle.raft_engine.proofs.KeptLemmas.{safe_now}
+use Rattle.raft_engine.proofs.BrokenLemmas.{AreEver, AreSafe, broken_kept, more_ever, put_ever}
+use Rattle.raft_engine.proofs.KeptLemmas.{kept_synced, safe_now}
 use Rattle.raft_engine.proofs.TrustLemmas.{put_unfailed, unfailed_trusted}
 
 module _
@@ -64,6 +64,27 @@ module _
   }
 
   module _ (context : LogFileContext) (is_file : context ≡ rewrite_file version rewrite.seq) (made : Batch) (is_made : made ≡ record untold { stage = encoded }) (first : List Ask) (is_first : first ≡ one) where
+    -- the files failed to put it, and the engine stays intact if they took back what they put
+    module _ (MayFail : Failures) (new : List Ask) (e : Error) (failed : FailsAmong MayFail (put_asks file untold ++ ask Append Sync ∷ []) asks new e) where
+      pub told_tried : FailedSyncsAreStored → (kept : Bool) → (kept ≡ true → new ≡ first) → IsKeptBy version new append rewrite untold accessor kept
+      told_tried unsynced true same = kept_synced version asks append rewrite untold accessor intact k is_intact synced new (same refl ∙ is_first)
+      told_tried unsynced false same = broken_kept unsynced version new append rewrite untold accessor MayFail _ asks e told_ever failed
+
+      pub untold_tried : (kept : Bool) → (kept ≡ true → new ≡ first) → made.items ≢ [] → MayFail first (ask context.id.queue (Put (bytes_for context made))) e
+          → IsUntold MayFail engine (record engine { asks = new; intact = kept }) e
+      untold_tried true same some why = inr (inr (record {
+        was = is_intact;
+        some = subst (λ (b : Batch). b.items ≢ []) is_made some;
+        seq = rewrite.seq;
+        bytes = (k.whole is_intact).rewrite_files.bytes;
+        last = its_last;
+        synced = ap (λ (l : List Ask). record engine { asks = l; intact = true }) (same refl ∙ is_first) ∙ ap (λ (i : Bool). record engine { asks = one; intact = i }) (sym is_intact);
+        why = subst (λ (a : Ask). MayFail one a e)
+            (ap (λ (f : LogFileContext). ask f.id.queue (Put (bytes_for f made))) is_file ∙ ap (λ (b : Batch). ask Rewrite (Put (bytes_for file b))) is_made)
+            (subst (λ (l : List Ask). MayFail l (ask context.id.queue (Put (bytes_for context made))) e) is_first why);
+      }))
+      untold_tried false same some why = inr (inl (half_told MayFail new untold e failed))
+
     put_made : put_asks context made ++ first ≡ two
     put_made =
         ap (λ (f : LogFileContext). put_asks f made ++ first) is_file ∙ ap (λ (b : Batch). put_asks file b ++ first) is_made

@@ -1,6 +1,6 @@
 -- What an engine keeps once a batch is written.
-use Rattle.raft_engine.proofs.Common.{◌≡◌, ◌≢◌, inl, inr, ℕ, ◌+◌, ◌≤◌, ◌^◌, Bool, true, false, List, [], ◌∷◌, ◌++◌, Some, Result, Ok, Err, IfErr, OnOk, OnErr, length, map, refl, sym, ap, ◌∙◌, subst, append-nil, arith, signature_in, Error, FileId, LogFileContext, Append, Rewrite}
-use Rattle.raft_engine.proofs.Common.{Version, log_batch_length, Item, placed_item, Batch, empty_batch, encoded, encoded_length, entry_place, with_batch, Event, Tables, Accessor, AreAcceptedOncePlaced, Appending, AreWritten, after_items, Ask, MayBeAsked, NoSyncFailed}
+use Rattle.raft_engine.proofs.Common.{◌≡◌, ◌≢◌, inl, inr, ℕ, ◌+◌, ◌≤◌, ◌^◌, Bool, true, false, List, [], ◌∷◌, ◌++◌, Some, Result, Ok, Err, IfErr, OnOk, OnErr, length, map, refl, sym, ap, ◌∙◌, subst, append-nil, arith, signature_in, signature_of, Error, FileId, LogFileContext, Append, Rewrite}
+use Rattle.raft_engine.proofs.Common.{Version, log_batch_length, Item, placed_item, Batch, Stage, sealed, empty_batch, encoded_length, entry_place, with_batch, Event, Tables, Accessor, AreAcceptedOncePlaced, Appending, AreWritten, after_items, Ask, MayBeAsked, NoSyncFailed}
 use Rattle.raft_engine.proofs.Common.{NumberedBytes, Put, Sync, acts_on, ask, begun, deletions, FilesHold, TakeAway, taking_items, told_items, ArePutWhole, WrittenBatchIsPut, whole_torn, asks_of_items, bytes_for, event_at, place_at, placed_at, IsLastFile, KeptEngine, AreFilesOf}
 use Rattle.raft_engine.proofs.Common.{IsKeptBy, IsReadBackAlone, WrittenBatchesAreReadBack, AreKeptStored, FailedSyncsAreStored, IsWritableBatch, SyncsAreStored, WrittenBatchesAreStored, AreCutShort, IsHalfWritten, IsOneMore, IsUnsynced, IsUnwritten, file_of, synced_if}
 use Rattle.raft_engine.proofs.Common.{QueueFiles, IsBroken, Failures, FailsAmong, put_asks}
@@ -57,7 +57,7 @@ module _
     (k : IsKeptBy version asks append rewrite untold accessor intact) (is_intact : intact ≡ true)
     (batch : Batch) (ready : IsReady accessor.tables batch)
     (file : LogFileContext) (is_file : file ≡ record { id = record { queue = Append; seq = append.seq }; version = version })
-    (made : Batch) (is_made : made ≡ record batch { stage = encoded }) where
+    {s : Stage} (made : Batch) (is_made : made ≡ record batch { stage = s }) where
   abbrev engine : KeptEngine
   engine = record { version = version; asks = asks; untold = untold; accessor = accessor; intact = intact }
 
@@ -89,10 +89,13 @@ module _
       (subst (λ (m : Tables). AreKeptStored version asks k.base k.untold m) (sym w.are_tables) k.stored)
 
   -- the batch whose bytes are made has the same ones
+  same_ask : ask file.id.queue (Put (bytes_for file made)) ≡ its_ask
+  same_ask =
+      ap (λ (f : LogFileContext). ask f.id.queue (Put (bytes_for f made))) is_file
+      ∙ ap (λ (b : Batch). ask Append (Put (bytes_for (record { id = id; version = version }) b))) is_made
+
   ask_made : ask file.id.queue (Put (bytes_for file made)) ∷ asks ≡ its_ask ∷ asks
-  ask_made =
-      ap (λ (f : LogFileContext). ask f.id.queue (Put (bytes_for f made)) ∷ asks) is_file
-      ∙ ap (λ (b : Batch). ask Append (Put (bytes_for (record { id = id; version = version }) b)) ∷ asks) is_made
+  ask_made = ap (λ (a : Ask). a ∷ asks) same_ask
 
   put_unfailed : NoSyncFailed (its_ask ∷ asks)
   put_unfailed = (tt, (k.whole is_intact).unfailed)
@@ -146,8 +149,30 @@ module _
       pub kept_unput : FailedSyncsAreStored → (append' rewrite' : QueueFiles) (untold' : Batch) (other : Accessor) → IsKeptBy version new append' rewrite' untold' other false
       kept_unput = failed_kept unput
 
-      pub unput_written : IsHalfWritten MayFail sync batch engine (record engine { asks = new; intact = false }) error
+      unput_written : IsHalfWritten MayFail sync batch engine (record engine { asks = new; intact = false }) error
       unput_written = failed_written unput
+
+      -- and the engine stays intact if they were taken back
+      pub kept_tried : FailedSyncsAreStored → (kept : Bool) → (kept ≡ true → new ≡ asks) → IsKeptBy version new append rewrite untold accessor kept
+      kept_tried unsynced true same =
+          subst (λ (l : List Ask). IsKeptBy version l append rewrite untold accessor true) (sym (same refl)) (subst (λ (b : Bool). IsKeptBy version asks append rewrite untold accessor b) is_intact k)
+      kept_tried unsynced false same = kept_unput unsynced append rewrite untold accessor
+
+      pub tried_written : (left : Batch) (kept : Bool) → (kept ≡ true → new ≡ asks) → left ≡ record made { stage = sealed (signature_of file) }
+          → IsUnwritten MayFail sync batch left engine (record engine { asks = new; intact = kept }) error
+      tried_written left true same is_left = inr (inr (record {
+        same = ap (λ (l : List Ask). record engine { asks = l; intact = true }) (same refl) ∙ ap (λ (b : Bool). record engine { intact = b }) (sym is_intact);
+        was = is_intact;
+        some = ready.writable.some;
+        accepted = ready.accepted;
+        seq = append.seq;
+        bytes = old_bytes;
+        last = its_last;
+        made = is_left ∙ ap (λ (b : Batch). record b { stage = sealed (signature_of file) }) is_made
+            ∙ ap (λ (f : LogFileContext). record batch { stage = sealed (signature_of f) }) is_file;
+        why = subst (λ (a : Ask). MayFail asks a error) same_ask why;
+      }))
+      tried_written left false same is_left = inr (inl unput_written)
 
     module _ (half : List Ask) (is_half : half ≡ ask file.id.queue (Put (bytes_for file made)) ∷ asks) where
       -- to sync them
@@ -308,11 +333,11 @@ pub none_written : {X : Type 0} (MayFail : Failures) (r : Result X Error) (sync 
     → old.intact ≡ true → batch.items ≡ [] → IfErr r (IsUnsynced MayFail old new) → OnErr r (sync ≡ true) → IfErr r (IsUnwritten MayFail sync batch left old new)
 none_written MayFail (Ok x) sync batch left old new seq bytes last intact none u wanted = tt
 none_written MayFail (Err x) sync batch left old new seq bytes last intact none (inl u) wanted = let never : true ≡ false = sym intact ∙ u.1 in absurd cc
-none_written MayFail (Err x) sync batch left old new seq bytes last intact none (inr b) wanted = inr (record {
+none_written MayFail (Err x) sync batch left old new seq bytes last intact none (inr b) wanted = inr (inl (record {
   seq = seq;
   bytes = bytes;
   last = last;
   accepted = none_accepted old.accessor.tables batch.items none;
   why = inl (subst (λ (l : List Ask). IsBroken MayFail l old new x)
       (ap (λ (s : Bool). synced_if s []) (sym wanted) ∙ ap (λ (items : List Item). synced_if sync (asks_of_items (file_of Append old seq) batch items)) (sym none)) b);
-})
+}))

@@ -9,12 +9,12 @@ use Rattle.raft_records.specs.LogBatch.{Batch, empty_batch, encoded_length}
 use Rattle.raft_history.specs.RegionSteps.{Tables}
 use Rattle.raft_table.specs.Table.{Table}
 use Rattle.raft_accessor.specs.Writes.{AreWritten, Rewriting}
-use Rattle.raft_files.specs.Asks.{Ask, Sync, acts_on, ask}
-use Rattle.raft_engine.specs.BatchBytes.{placed_at}
+use Rattle.raft_files.specs.Asks.{Ask, Put, Sync, acts_on, ask}
+use Rattle.raft_engine.specs.BatchBytes.{bytes_for, placed_at}
 use Rattle.raft_engine.specs.Broken.{IsBrokenTelling}
 use Rattle.raft_engine.specs.KeptEngine.{IsLastFile, KeptEngine}
 use Rattle.raft_engine.specs.Lasting.{AreSynced}
-use Rattle.raft_engine.specs.Purged.{IsPurgeRefusal, put_asks}
+use Rattle.raft_engine.specs.Purged.{IsPurgeRefusal, IsTellingTakenBack, put_asks}
 use Rattle.raft_engine.specs.Reads.{AreOnlyRead}
 use Rattle.raft_engine.specs.Rewriting.{IsBatchMoving, moving_entries}
 use Rattle.raft_engine.specs.Unmoved.{IsBatchRefused}
@@ -42,9 +42,9 @@ pub record IsHalfTold (MayFail : Failures) (old new : KeptEngine) (e : Error) : 
   pub last : IsLastFile Rewrite old.asks seq bytes
   pub broken : IsBrokenTelling MayFail (telling_asks old seq) old new e
 
--- nothing was asked, for one of the reasons for which nothing is asked for a purge, and the engine is as it was; or it is half done
+-- nothing was asked, for one of the reasons for which nothing is asked for a purge, and the engine is as it was; or it is half done; or it was taken back
 abbrev pub IsUntold : Failures → KeptEngine → KeptEngine → Error → Type 0
-IsUntold MayFail old new e = ((new ≡ old) × IsPurgeRefusal old e) ⊎ IsHalfTold MayFail old new e
+IsUntold MayFail old new e = ((new ≡ old) × IsPurgeRefusal old e) ⊎ IsHalfTold MayFail old new e ⊎ IsTellingTakenBack MayFail old new e
 
 -- ---- what moves
 
@@ -116,10 +116,22 @@ IsMoveRefused MayFail gate left region old new e =
     ⊎ ((table : Table) × (finite.get old.accessor.tables region ≡ Some table) × IsBatchRefused MayFail gate left table old.asks new.asks e)
     ⊎ ((batch : Batch) × IsMoving gate left region old new.asks batch × (e ≡ errors.Full) × (2 ^ 56 ≤ encoded_length batch.items batch.entry_bytes))
 
--- nothing but reads was asked, for one of these reasons; or the batch is half moved
+-- the files fail to put a batch that moves a region's records, and take back what they put of it: nothing but reads is asked, and nothing else is changed
+pub record IsBatchTakenBack (MayFail : Failures) (gate : Option ℕ) (left : List EntryIndex) (region : ℕ) (old new : KeptEngine) (e : Error) : Type 0 where
+  pub batch : Batch
+  pub some : batch.items ≢ []
+  pub moving : IsMoving gate left region old new.asks batch
+  pub seq : ℕ
+  pub bytes : List ℕ
+  pub last : IsLastFile Rewrite old.asks seq bytes
+  pub why : MayFail new.asks (ask Rewrite (Put (bytes_for (file_of Rewrite old seq) batch))) e
+  pub others : new ≡ record old { asks = new.asks }
+
+-- nothing but reads was asked, for one of these reasons; or the batch is half moved; or its bytes were taken back
 abbrev pub IsBatchUnmoved : Failures → Option ℕ → List EntryIndex → ℕ → KeptEngine → KeptEngine → Error → Type 0
 IsBatchUnmoved MayFail gate left region old new e =
     (IsOnlyRead old new × (e ≢ errors.Memory → IsMoveRefused MayFail gate left region old new e)) ⊎ IsBatchHalfMoved MayFail gate left region old new e
+    ⊎ IsBatchTakenBack MayFail gate left region old new e
 
 -- the first batches of a region's records moved, and the next one didn't, or not whole
 pub record IsRegionUnmoved (MayFail : Failures) (gate : Option ℕ) (region : ℕ) (old new : KeptEngine) (e : Error) : Type 0 where

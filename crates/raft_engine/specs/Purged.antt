@@ -1,5 +1,5 @@
 -- Files that no table needs, and their deletion.
-use Rattle.std.specs.Prelude.{◌≡◌, ◌⊎◌, ℕ, zero, suc, ◌+◌, ◌<◌, ◌^◌, ◌≤◌, true, false, List, [], ◌∷◌, ◌++◌, length, min, nat_lt, Option, Some, None, if◌then◌else◌}
+use Rattle.std.specs.Prelude.{◌≡◌, ◌≢◌, ◌⊎◌, ℕ, zero, suc, ◌+◌, ◌<◌, ◌^◌, ◌≤◌, true, false, List, [], ◌∷◌, ◌++◌, length, min, nat_lt, Option, Some, None, if◌then◌else◌}
 use Rattle.std.specs.List.{AllByRecursion}
 use Rattle.raft_base.specs.declared.errors.Error.{Error}
 use Rattle.raft_base.specs.declared.errors.Error.TheVariants as errors
@@ -15,6 +15,7 @@ use Rattle.raft_files.specs.Asks.{Ask, Delete, Put, Sync, ask}
 use Rattle.raft_files.specs.Disk.{files_of}
 use Rattle.raft_engine_prefixes.specs.Done.{numbers}
 use Rattle.raft_engine_laws.specs.DeletedFiles.{AreLeastFrom}
+use Rattle.raft_engine.specs.BatchBytes.{bytes_for}
 pub use Rattle.raft_engine.specs.BatchBytes.{asks_of_items, put_asks}
 use Rattle.raft_engine.specs.Broken.{IsBrokenTelling}
 use Rattle.raft_engine.specs.FileFailures.{Failures}
@@ -108,6 +109,17 @@ IsPurgeRefusal engine errors.Full = (engine.intact ≡ true) × ((2 ^ 56 ≤ enc
 IsPurgeRefusal engine errors.Memory = engine.intact ≡ true
 IsPurgeRefusal engine _ = ⊥
 
+-- an intact engine's append queue is synced, and the files fail to put what is untold behind the last rewrite file, and take back what
+-- they put of it: nothing else is asked or changed
+pub record IsTellingTakenBack (MayFail : Failures) (old new : KeptEngine) (e : Error) : Type 0 where
+  pub was : old.intact ≡ true
+  pub some : old.untold.items ≢ []
+  pub seq : ℕ
+  pub bytes : List ℕ
+  pub last : IsLastFile Rewrite old.asks seq bytes
+  pub synced : new ≡ record old { asks = ask Append Sync ∷ old.asks }
+  pub why : MayFail (ask Append Sync ∷ old.asks) (ask Rewrite (Put (bytes_for (file_of Rewrite old seq) old.untold))) e
+
 -- the files fail in the midst of what is to be asked to delete a queue's expired files, one at least
 pub record IsHalfPurged (MayFail : Failures) (queue : LogQueue) (old new : KeptEngine) (e : Error) : Type 0 where
   pub count : ℕ
@@ -118,9 +130,12 @@ pub record IsHalfPurged (MayFail : Failures) (queue : LogQueue) (old new : KeptE
   pub last : IsLastFile Rewrite old.asks seq bytes
   pub broken : IsBrokenTelling MayFail (purge_asks queue (file_of Rewrite old seq) old.untold count) old new e
 
--- nothing was asked, for one of these reasons, `Full` only if some file of the queue is expired, and the engine is as it was; or it is half done
+-- nothing was asked, for one of these reasons, `Full` only if some file of the queue is expired, and the engine is as it was; or it is half done; or some file
+-- is expired, and what was to be told before was taken back
 abbrev pub AreFilesUnpurged : Failures → LogQueue → KeptEngine → KeptEngine → Error → Type 0
-AreFilesUnpurged MayFail queue old new e = ((new ≡ old) × IsPurgeRefusal old e × (e ≡ errors.Full → AreSomeExpired queue old)) ⊎ IsHalfPurged MayFail queue old new e
+AreFilesUnpurged MayFail queue old new e =
+    ((new ≡ old) × IsPurgeRefusal old e × (e ≡ errors.Full → AreSomeExpired queue old)) ⊎ IsHalfPurged MayFail queue old new e
+    ⊎ (AreSomeExpired queue old × IsTellingTakenBack MayFail old new e)
 
 -- the same of the append queue
 abbrev pub IsUnpurged : Failures → KeptEngine → KeptEngine → Error → Type 0

@@ -1,12 +1,13 @@
 -- One batch more in an engine.
 use Rattle.std.specs.Prelude.{◌≡◌, ◌≢◌, ◌⊎◌, ℕ, ◌+◌, ◌-◌, ◌<◌, ◌≤◌, ◌^◌, Bool, true, false, List, ◌∷◌, length, [], ◌++◌}
+use Rattle.raft_base.specs.Signature.{signature_of}
 use Rattle.raft_base.specs.declared.errors.Error.{Error}
 use Rattle.raft_base.specs.declared.errors.Error.TheVariants as errors
 use Rattle.raft_base.specs.declared.pipe_log.LogFileContext.{LogFileContext}
 use Rattle.raft_base.specs.declared.pipe_log.LogQueue.{LogQueue}
 use Rattle.raft_base.specs.declared.pipe_log.LogQueue.TheVariants.{Append}
 use Rattle.raft_records.specs.Item.{Item}
-use Rattle.raft_records.specs.LogBatch.{Batch, encoded_length}
+use Rattle.raft_records.specs.LogBatch.{Batch, encoded_length, sealed}
 use Rattle.raft_history.specs.Batches.{Event}
 use Rattle.raft_accessor.specs.Accessor.{Accessor}
 use Rattle.raft_accessor.specs.AppendChecks.{AreAcceptedOncePlaced, AreRefusedOncePlaced}
@@ -105,9 +106,23 @@ IsRefusal engine batch errors.Full = (engine.intact ≡ true) × ((2 ^ 56 ≤ en
 IsRefusal engine batch errors.Memory = engine.intact ≡ true
 IsRefusal engine batch _ = ⊥
 
--- nothing was asked for one of these reasons, and the engine and the batch, of which this is left, are as they were; or it is half written
+-- the files fail to put a batch that the tables would take behind the last file's bytes, and take back what they put of it: the engine is
+-- as it was, and of the batch this is left, with the items that it had, whose bytes are made for this file
+pub record IsTakenBack (MayFail : Failures) (batch left : Batch) (old new : KeptEngine) (e : Error) : Type 0 where
+  pub same : new ≡ old
+  pub was : old.intact ≡ true
+  pub some : batch.items ≢ []
+  pub accepted : AreAcceptedOncePlaced old.accessor.tables batch.items
+  pub seq : ℕ
+  pub bytes : List ℕ
+  pub last : IsLastFile Append old.asks seq bytes
+  pub made : left ≡ record batch { stage = sealed (signature_of (file_of Append old seq)) }
+  pub why : MayFail old.asks (ask Append (Put (bytes_for (file_of Append old seq) batch))) e
+
+-- nothing was asked for one of these reasons, and the engine and the batch, of which this is left, are as they were; or it is half written; or its bytes were taken back
 abbrev pub IsUnwritten : Failures → Bool → Batch → Batch → KeptEngine → KeptEngine → Error → Type 0
-IsUnwritten MayFail sync batch left old new e = ((new ≡ old) × (left ≡ batch) × IsRefusal old batch e) ⊎ IsHalfWritten MayFail sync batch old new e
+IsUnwritten MayFail sync batch left old new e =
+    ((new ≡ old) × (left ≡ batch) × IsRefusal old batch e) ⊎ IsHalfWritten MayFail sync batch old new e ⊎ IsTakenBack MayFail batch left old new e
 
 -- the append queue is synced, and a new file of the next number is begun; nothing else is asked or changed
 pub record IsRotated (old new : KeptEngine) : Type 0 where

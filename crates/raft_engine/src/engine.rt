@@ -1,10 +1,10 @@
 //! An engine over the files of two queues.
 
-ghost use Rattle.std.specs.Prelude.{◌≡◌, ◌≢◌, ◌⊎◌, ◌↔◌, ℕ, ◌+◌, List, [], ◌∷◌, true, false, IfErr, IfOk, MatchOption, OnOk, OnErr, IsTrue, map, option_map};
+ghost use Rattle.std.specs.Prelude.{◌≡◌, ◌≢◌, ◌⊎◌, ◌↔◌, ℕ, ◌+◌, ◌^◌, ◌<◌, ◌≤◌, List, [], ◌∷◌, true, false, IfErr, IfOk, MatchOption, OnOk, OnErr, IsTrue, map, option_map};
 ghost use Rattle.std.specs.FinMap as finite;
 ghost use Rattle.raft_base.specs.declared.entry_index.EntryIndex.{EntryIndex};
 ghost use Rattle.raft_base.specs.declared.pipe_log.LogQueue.TheVariants.{Append, Rewrite};
-ghost use Rattle.raft_records.specs.LogBatch.{empty_batch, is_open};
+ghost use Rattle.raft_records.specs.LogBatch.{empty_batch, encoded_length, is_open};
 ghost use Rattle.raft_accessor.specs.AppendChecks.{AreAccepted, AreAcceptedOncePlaced};
 ghost use Rattle.raft_accessor.specs.Writes.{Appending, AreWritten};
 ghost use Rattle.raft_files.specs.Asks.{Begin, NumberedBytes, Sync, ask};
@@ -28,7 +28,7 @@ ghost use Rattle.raft_engine.specs.WrittenBatch.{IsNextRefused, IsOneMore, IsOnl
 
 use crate::limits::{FIRST_SEQ, LAST_OFFSET};
 use crate::opened::complete;
-use crate::put::{put, sync_if};
+use crate::put::{sync_if, try_put};
 use crate::queue_files::QueueFiles;
 use crate::read_back::batches_are_read_back;
 use crate::reading::{Reading, read_found};
@@ -63,9 +63,10 @@ mod round_trip;
 /// The logs of many regions: files that the machine keeps, and the tables of all batches that were written to them.
 ///
 /// Whenever the machine crashes, the files that are left hold what was synced, and a prefix of the batches that were written
-/// since ([`Engine::nothing_synced_is_lost`]); what a disk has to do for it stands at [`EngineFiles`]. After an `Err` of a
-/// call that writes, the files may hold a batch that the tables don't: such an engine isn't intact, and takes no further call
-/// that writes. Its files must be opened again ([`Engine::open`]).
+/// since ([`Engine::nothing_synced_is_lost`]); what a disk has to do for it stands at [`EngineFiles`]. An append that the files
+/// take back, since the disk is full for instance, leaves the engine as it was. After any other `Err` of its files in a call
+/// that writes, they may hold a batch that the tables don't: such an engine isn't intact, and takes no further call that
+/// writes. Its files must be opened again ([`Engine::open`]).
 ///
 /// A batch may take records away that have moved to rewrite files: by a command, the deletion of a key, or entries that
 /// replace others. The rewrite queue has to say so too, by a batch of commands and deletions, before the append file of that
@@ -414,22 +415,25 @@ impl<F: EngineFiles> Engine<F> {
         Ok(())
     }
 
-    /// Writes a batch, which is open: its bytes after those of the last append file, and its items with their places to the
-    /// tables. With `sync` all that was written is synced once the call returns `Ok`. The batch is empty then. A batch without
-    /// items is only synced, if that is wanted. A batch that the tables would refuse isn't written.
+    /// Writes a batch: its bytes after those of the last append file, and its items with their places to the tables. With `sync`
+    /// all that was written is synced once the call returns `Ok`. The batch is empty and open then. A batch without items is
+    /// only synced, if that is wanted. A batch that the tables would refuse isn't written. The batch may be open, or one whose
+    /// bytes are made already, as those of a batch that an earlier call took back.
     ///
     /// # Errors
     ///
     /// - `Failed` if the engine isn't intact; `Corruption` if the tables would refuse an item, which the text names; `Full` if
     ///   the batch has 2^56 bytes or more, or its file more than 2^63; `Memory`. The engine and the batch are unchanged then.
-    /// - Those of `EngineFiles`. The engine isn't intact any more, and the tables are unchanged.
+    /// - Those of `EngineFiles::append`, since the disk is full for instance, where it takes back what it wrote. The engine is
+    ///   unchanged then, and intact. The batch has its items and their entries; it takes no more, but may be written again by
+    ///   this call, or emptied by `drain`.
+    /// - Any other of `EngineFiles`. The engine isn't intact any more, and the tables are unchanged.
     /// - Once all was asked: `Memory`, or `Full` if the live records of the append queue and those that the next item names
     ///   are 2^64 or more together. The engine isn't intact any more, and the tables have the first ones of the items, or all
     ///   of them.
     ///
     /// After the last two the batch may have lost items.
     pub fn write(&mut self, batch: &mut LogBatch, sync: bool) -> Result<()>
-        requires { batch.old.stage ≡ is_open }
         ensures ok { OnOk result ((batch.old.items ≡ []) × IsOnlySynced sync self.old self.new
             ⊎ IsOneMore sync batch.old self.old self.new) }
         ensures emptied { OnOk result (batch.new ≡ empty_batch) }
@@ -448,6 +452,7 @@ impl<F: EngineFiles> Engine<F> {
             return Err(Error::Failed);
         }
         if batch.is_empty() {
+            let _none = batch.drain();
             return self.sync_if_wanted(sync);
         }
         self.accessor.check_append_writes(batch.items())?;
@@ -455,13 +460,20 @@ impl<F: EngineFiles> Engine<F> {
             return Err(Error::Full);
         }
         let mut taken = taken_away(self.append.allocator(), &self.accessor, batch.items())?;
-        let len = batch.finish_populate()?;
+        let len = make_bytes(batch)?;
         let file = LogFileContext::new(
             FileId::new(LogQueue::Append, self.append.seq),
             self.version,
         );
+        try_put(
+            &mut self.files,
+            &file,
+            self.append.len,
+            batch,
+            len,
+            &mut self.intact,
+        )?;
         self.intact = false;
-        put(&mut self.files, &file, self.append.len, batch, len)?;
         sync_if(&mut self.files, sync)?;
         apply(&mut self.accessor, batch)?;
         self.untold.merge(&mut taken)?;
@@ -478,7 +490,8 @@ impl<F: EngineFiles> Engine<F> {
     ///
     /// `Failed` if the engine isn't intact; `Full` if there is such a file, and what has to be written has 2^56 bytes or more,
     /// or the last rewrite file more than 2^63; `Memory`. The engine is unchanged then. Those of `EngineFiles`, if there is
-    /// such a file: the engine isn't intact any more.
+    /// such a file: of an append that is taken back, as on a full disk, once the append queue is synced, and nothing else is
+    /// changed; any other, and the engine isn't intact any more.
     pub fn purge_expired_files(&mut self) -> Result<usize>
         ensures ok { IfOk result (λ count. ArePurged count self.old self.new) }
         ensures accepted { OnOk result (self.old.intact ≡ true) }
@@ -486,6 +499,27 @@ impl<F: EngineFiles> Engine<F> {
     {
         self.purge(LogQueue::Append)
     }
+}
+
+/// Makes the bytes of a batch, unless they are made already, and returns their number.
+///
+/// # Errors
+///
+/// `Full` if there would be 2^56 bytes or more; `Memory`. The batch is unchanged then.
+fn make_bytes(batch: &mut LogBatch) -> Result<usize>
+    ensures ok { OnOk result (batch.new ≡ record batch.old { stage = batch.new.stage }) }
+    ensures made { OnOk result (batch.new.stage ≢ is_open) }
+    ensures len { IfOk result (λ len. len ≡ encoded_length batch.old.items batch.old.entry_bytes) }
+    ensures accepted { OnOk result (encoded_length batch.old.items batch.old.entry_bytes < 2 ^ 56) }
+    ensures err { OnErr result (batch.new ≡ batch.old) }
+    ensures fault { IfErr result (λ e. e ≢ Error.Memory
+        → (e ≡ Error.Full) × (2 ^ 56 ≤ encoded_length batch.old.items batch.old.entry_bytes)) }
+{
+    if batch.is_open() {
+        return batch.finish_populate();
+    }
+    batch.is_read_again();
+    Ok(batch.approximate_size())
 }
 
 /// Writes the items of a batch to the tables, in order, which empties the batch.

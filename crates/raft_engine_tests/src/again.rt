@@ -11,7 +11,7 @@ use crate::calls::{
 use crate::reopened::{holds, is_found, moved};
 use raft_base::{FileBlockHandle, FileSeq, LogQueue, Version};
 use raft_engine::Engine;
-use raft_files::{EngineFiles, MemoryFiles};
+use raft_files::{AppendError, EngineFiles, MemoryFiles};
 use raft_records::{Error, Result};
 use std::alloc::Global;
 use std::thread::Threads;
@@ -126,9 +126,11 @@ impl Failing {
 impl EngineFiles for Failing {
     ghost asked = { λ f. f.files };
 
-    fn append(&mut self, queue: LogQueue, bytes: &[u8]) -> Result<()> {
-        self.call()?;
-        self.files.append(queue, bytes)
+    fn append(&mut self, queue: LogQueue, bytes: &[u8]) -> std::result::Result<(), AppendError> {
+        match self.call() {
+            Ok(()) => self.files.append(queue, bytes),
+            Err(error) => Err(AppendError::InPart(error)),
+        }
     }
 
     fn rotate(&mut self, queue: LogQueue, seq: FileSeq) -> Result<()> {

@@ -27,6 +27,8 @@ mod long;
 #[cfg(test)]
 mod moved_groups;
 #[cfg(test)]
+mod no_room;
+#[cfg(test)]
 mod opening;
 #[cfg(test)]
 mod pages;

@@ -9,7 +9,7 @@ use crate::calls::{
 use crate::round_trip::{TEXTS, entry_of, written_texts};
 use raft_base::{FileBlockHandle, FileSeq, LogQueue, Version};
 use raft_engine::Engine;
-use raft_files::{EngineFiles, MemoryFiles};
+use raft_files::{AppendError, EngineFiles, MemoryFiles};
 use raft_records::{Command, Error, LogBatch, Result};
 use std::alloc::Global;
 use std::thread::Threads;
@@ -275,7 +275,7 @@ pub struct CountedFiles {
 impl EngineFiles for CountedFiles {
     ghost asked = { λ f. f.files };
 
-    fn append(&mut self, queue: LogQueue, bytes: &[u8]) -> Result<()> {
+    fn append(&mut self, queue: LogQueue, bytes: &[u8]) -> std::result::Result<(), AppendError> {
         self.files.append(queue, bytes)
     }
 

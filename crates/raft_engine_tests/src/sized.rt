@@ -6,7 +6,7 @@ use crate::calls::{copies, holds, new_engine, rotate, write};
 use crate::engine::text_of;
 use raft_base::{FileBlockHandle, FileId, FileSeq, LogQueue, Version};
 use raft_engine::{Opened, RecoveryMode, Unopened};
-use raft_files::{Asked, EngineFiles, NotesFound};
+use raft_files::{AppendError, Asked, EngineFiles, NotesFound};
 use raft_opening::open_in_pieces;
 use raft_reading::{FileSize, ReadFiles};
 use raft_records::{Error, Result};
@@ -25,7 +25,7 @@ struct UnreadFiles {
 impl EngineFiles for UnreadFiles {
     ghost asked = { λ files. files.asked.asks };
 
-    fn append(&mut self, queue: LogQueue, bytes: &[u8]) -> Result<()> {
+    fn append(&mut self, queue: LogQueue, bytes: &[u8]) -> std::result::Result<(), AppendError> {
         self.asked.put(queue, bytes);
         Ok(())
     }

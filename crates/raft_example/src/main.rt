@@ -176,8 +176,20 @@ fn write_both_regions<R: Host>(rt: &R, engine: &mut FolderEngine<'_, R>) -> Resu
 /// Those of the engine's calls.
 fn move_closed_files<R: Host>(engine: &mut FolderEngine<'_, R>) -> Result<usize> {
     let gate = last_closed_seq(engine)?;
-    engine.rewrite(gate)?;
+    move_records(engine, gate)?;
     engine.purge_expired_files()
+}
+
+/// Moves what the append files up to `gate` have to the rewrite queue, once more where the engine took back what it wrote.
+///
+/// # Errors
+///
+/// Those of [`Engine::rewrite`].
+fn move_records<R: Host>(engine: &mut FolderEngine<'_, R>, gate: FileSeq) -> Result<()> {
+    match engine.rewrite(gate) {
+        Err(_) if engine.is_intact() => engine.rewrite(gate),
+        answer => answer,
+    }
 }
 
 /// Returns the number of the last closed append file of `engine`, the one before the file that is written to, or 0 if there is
@@ -253,7 +265,24 @@ fn write_proposals<R: Host>(
     let mut batch = LogBatch::default(alloc);
     batch.add_entries::<Proposals>(region, &proposals_from(alloc, first, texts)?)?;
     batch.put(region, key, value)?;
-    engine.write(&mut batch, sync)
+    write_batch(engine, &mut batch, sync)
+}
+
+/// Writes `batch`. Where the engine took back what it wrote, since the disk was full for instance, it is written once more: a
+/// store would make room before, and the engine needn't be opened again.
+///
+/// # Errors
+///
+/// Those of [`Engine::write`].
+fn write_batch<R: Host>(
+    engine: &mut FolderEngine<'_, R>,
+    batch: &mut LogBatch,
+    sync: bool,
+) -> Result<()> {
+    match engine.write(batch, sync) {
+        Err(_) if engine.is_intact() => engine.write(batch, sync),
+        answer => answer,
+    }
 }
 
 /// Writes a compaction that drops all proposals of `region` but the last two.
@@ -271,7 +300,7 @@ fn keep_last_two_proposals<R: Host>(
         let index = last.saturating_sub(1);
         batch.add_command(region, Command::Compact { index })?;
     }
-    engine.write(&mut batch, true)
+    write_batch(engine, &mut batch, true)
 }
 
 /// Prints what an engine has after the step named `step`: the number of files in each queue and, for each region, the first

@@ -2,6 +2,7 @@
 pub mod Asks
 pub mod AskCode
 pub mod Notes
+pub mod Appends
 -- what is left
 pub mod Disk
 pub mod Places

@@ -2,8 +2,10 @@
 
 ghost use Rattle.std.specs.Prelude.{◌≡◌, [], List, IfErr, IfOk, OnOk, OnErr};
 ghost use Rattle.raft_base.specs.declared.errors.Error.{Error};
+ghost use Rattle.raft_files.specs.Appends.{IsNotAppended, append_fault};
 ghost use Rattle.raft_files.specs.Asks.{Ask, Begin, Cut, Delete, IsAsked, MayBeAsked, Put, Read, Sync, Unsynced, ask};
 
+use crate::AppendError;
 use raft_base::{FileBlockHandle, FileSeq, LogQueue, Result};
 
 /// The files of both queues, as an engine uses them.
@@ -20,7 +22,9 @@ use raft_base::{FileBlockHandle, FileSeq, LogQueue, Result};
 ///   file that it closes. A crash may undo a cut that wasn't synced, but not if bytes were put after it: a sync of the file in
 ///   `truncate` is enough.
 /// - Files are deleted in the order in which that was asked, so that no crash leaves an older file where a younger one is gone.
-/// - After a call that failed half way, either the bytes are as before, or every later call but `read` fails.
+/// - After a call that failed half way, either the bytes are as before, or every later call but `read` fails. An append that
+///   failed, since the disk is full for instance, says which ([`AppendError`](crate::AppendError)): where it cut the file to
+///   the length that it had, and synced that, the bytes are as before, the ask isn't noted, and an engine goes on.
 /// - A sync that fails after it has begun is noted as failed ([`Asked::unsynced`](crate::Asked::unsynced)). The system may take
 ///   bytes for synced then that it has dropped. So nothing is promised if anything but reads is asked after that; an engine
 ///   asks nothing else. The machine must be started again before such files are found.
@@ -40,11 +44,13 @@ pub trait EngineFiles {
     ///
     /// # Errors
     ///
-    /// Those of the implementation. Some of the bytes may be there then.
-    fn append(&mut self, queue: LogQueue, bytes: &[u8]) -> Result<()>
+    /// Those of the implementation. `AsBefore` if the file is as it was, and nothing is noted: what was written of the bytes is
+    /// cut off again, and that cut is synced, so that no crash brings them back. The files take further calls then. `InPart` if
+    /// some of the bytes may be there.
+    fn append(&mut self, queue: LogQueue, bytes: &[u8]) -> std::result::Result<(), AppendError>
         ensures ok { OnOk result (IsAsked (ask queue (Put bytes.now)) (asked self.old) (asked self.new)) }
-        ensures err { OnErr result (MayBeAsked (ask queue (Put bytes.now)) (asked self.old) (asked self.new)) }
-        ensures fault { IfErr result (may_fail (asked self.old) (ask queue (Put bytes.now))) };
+        ensures err { IfErr result (λ e. IsNotAppended (ask queue (Put bytes.now)) e (asked self.old) (asked self.new)) }
+        ensures fault { IfErr result (λ e. may_fail (asked self.old) (ask queue (Put bytes.now)) (append_fault e)) };
 
     /// Syncs the last file of `queue`, and begins a new one with the number `seq` after it.
     ///

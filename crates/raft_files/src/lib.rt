@@ -4,12 +4,14 @@
 //! queue, and say what a crash may leave of them (`specs/Disk.antt`).
 #![tactic(auto)]
 
+pub mod append_error;
 pub mod asked;
 pub mod engine_files;
 pub mod found;
 pub mod laws;
 pub mod memory_files;
 
+pub use append_error::AppendError;
 pub use asked::Asked;
 pub use engine_files::EngineFiles;
 pub use found::{Found, NotesFound};

@@ -2,13 +2,14 @@
 
 ghost use Rattle.raft_base.specs.declared.pipe_log.LogQueue.TheVariants.{Append, Rewrite};
 ghost use Rattle.std.specs.Prelude.{◌≡◌, ◌≢◌, ◌<◌, List, [], ◌∷◌, ◌++◌, drop, length, map, None, Some, IfErr, IfOk, IsOk, OnErr, OnOk};
+ghost use Rattle.raft_files.specs.Appends.{IsNotAppended, append_fault};
 ghost use Rattle.raft_files.specs.Asks.{Begin, Cut, Delete, Found, IsAsked, Put, Read, Sync, ask};
 ghost use Rattle.raft_files.specs.Disk.{cut_last, files_of, put_behind};
 ghost use Rattle.raft_files.specs.HeldFiles.{IsAt, file_shown};
 ghost use Rattle.raft_files.specs.MemoryFaults.{IsMemoryFault};
 ghost use Rattle.raft_files.specs.Places.{IsNext, bytes_at, stretch_of};
 
-use crate::{Asked, EngineFiles};
+use crate::{AppendError, Asked, EngineFiles};
 use raft_base::{Error, FileBlockHandle, FileSeq, LogQueue, Result};
 use std::alloc::Global;
 use std::marker::Model;
@@ -90,20 +91,14 @@ impl MemoryFiles {
     {
         copies_of(self.files(queue))
     }
-}
 
-impl EngineFiles for MemoryFiles {
-    ghost asked = { λ f. f };
-
-    ghost may_fail = { IsMemoryFault };
-
-    /// Puts `bytes` at the end of the last file of `queue`.
+    /// Puts `bytes` at the end of the last file of `queue`, and notes it.
     ///
     /// # Errors
     ///
     /// `InvalidArgument` if the queue has no file; `Memory`. The files are unchanged then, and nothing is
     /// noted.
-    fn append(&mut self, queue: LogQueue, bytes: &[u8]) -> Result<()>
+    fn put_noted(&mut self, queue: LogQueue, bytes: &[u8]) -> Result<()>
         ensures ok { OnOk result (IsAsked (ask queue (Put bytes.now)) self.old self.new) }
         ensures accepted { OnOk result (0 < length (files_of queue self.old)) }
         ensures err { OnErr result (self.new ≡ self.old) }
@@ -115,6 +110,31 @@ impl EngineFiles for MemoryFiles {
         }
         self.asked.put(queue, bytes);
         Ok(())
+    }
+}
+
+impl EngineFiles for MemoryFiles {
+    ghost asked = { λ f. f };
+
+    ghost may_fail = { IsMemoryFault };
+
+    /// Puts `bytes` at the end of the last file of `queue`.
+    ///
+    /// # Errors
+    ///
+    /// `AsBefore` alone, with `InvalidArgument` if the queue has no file, or with `Memory`. The files are
+    /// unchanged then, and nothing is noted.
+    fn append(&mut self, queue: LogQueue, bytes: &[u8]) -> std::result::Result<(), AppendError>
+        ensures ok { OnOk result (IsAsked (ask queue (Put bytes.now)) self.old self.new) }
+        ensures accepted { OnOk result (0 < length (files_of queue self.old)) }
+        ensures err { OnErr result (self.new ≡ self.old) }
+        ensures as_before { IfErr result (λ e. IsNotAppended (ask queue (Put bytes.now)) e self.old self.new) }
+        ensures fault { 0 < length (files_of queue self.old) → IfErr result (λ e. append_fault e ≡ Error.Memory) }
+    {
+        match self.put_noted(queue, bytes) {
+            Ok(()) => Ok(()),
+            Err(error) => Err(AppendError::AsBefore(error)),
+        }
     }
 
     /// Begins a new file of `queue` with the number `seq` after the last one. What is in memory counts as

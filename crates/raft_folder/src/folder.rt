@@ -7,7 +7,7 @@ use crate::host::FolderHost;
 use crate::locking::LockedFolder;
 use crate::names::{Meaning, meaning_of, name_of};
 use crate::read_folder::FolderFile;
-use crate::writing::write_all_or_nothing;
+use crate::writing::{Unwritten, write_all_or_nothing};
 use raft_base::{FileBlockHandle, FileId, FileSeq, LogQueue};
 use std::collections::BTreeMap;
 use std::fs::{File, OpenOptions};
@@ -25,6 +25,15 @@ pub struct KeptTail {
     /// The path of the file that keeps them. Its name has that of the log file, and the offset at which they
     /// began.
     pub kept: String,
+}
+
+/// Why bytes weren't written to the end of a log file, and what the file has then.
+#[derive(Drop)]
+pub(crate) struct Unappended {
+    /// The error, with the file's path.
+    pub(crate) error: FolderError,
+    /// Whether the file has the bytes that it had before, and no others, and they are on the disk.
+    pub(crate) is_as_before: bool,
 }
 
 /// The files of a queue, all of them open, by their numbers.
@@ -241,11 +250,39 @@ impl<'a, R: FolderHost> Folder<'a, R> {
     ///
     /// # Errors
     ///
-    /// `Refused` if the queue has no file; `System`; `Memory`. Some of the bytes may be there then. If there
-    /// was no room for all, they are cut off again, but that may fail too.
-    pub(crate) fn append(&self, queue: LogQueue, bytes: &[u8]) -> FolderResult<()> {
-        let (id, file) = self.last(queue)?;
-        self.about_file(id, write_all_or_nothing(file, bytes))
+    /// `Refused` if the queue has no file; `System`; `Memory`. What was written of the bytes is cut off again, and
+    /// the file synced; [`Unappended`] says whether that succeeded.
+    pub(crate) fn append(
+        &self,
+        queue: LogQueue,
+        bytes: &[u8],
+    ) -> std::result::Result<(), Unappended> {
+        let (id, file) = match self.last(queue) {
+            Ok(last) => last,
+            Err(error) => {
+                return Err(Unappended {
+                    error,
+                    is_as_before: true,
+                });
+            }
+        };
+        match write_all_or_nothing(file, bytes) {
+            Ok(()) => Ok(()),
+            Err(unwritten) => Err(self.unappended(id, unwritten)),
+        }
+    }
+
+    /// Adds the path of the file `id` to the system's error in `unwritten`: `Memory` if there is none for it.
+    fn unappended(&self, id: FileId, unwritten: Unwritten) -> Unappended {
+        let is_as_before = unwritten.is_as_before;
+        let error = match self.path_of(id) {
+            Ok(path) => FolderError::System(path, unwritten.error),
+            Err(refused) => refused,
+        };
+        Unappended {
+            error,
+            is_as_before,
+        }
     }
 
     /// Syncs the last file of `queue`, if it has one. The older files were synced when newer ones were begun.

@@ -10,7 +10,7 @@ use crate::folder::{Folder, KeptTail};
 use crate::host::FolderHost;
 use crate::read_folder::FolderFile;
 use raft_base::{Error, FileBlockHandle, FileId, FileSeq, LogQueue, Result};
-use raft_files::{Asked, EngineFiles, NotesFound};
+use raft_files::{AppendError, Asked, EngineFiles, NotesFound};
 
 /// The files of both queues in a folder, named `0000000000000001.raftlog` and `0000000000000001.rewrite`. The folder and a
 /// file `LOCK` in it are locked for as long as this value lives. Files with other names are left alone.
@@ -19,8 +19,9 @@ use raft_files::{Asked, EngineFiles, NotesFound};
 /// `0000000000000001.raftlog.4096.cut`, or `0000000000000001.raftlog.4096.2.cut` if something else was cut off there before.
 /// Such files are never read as log files, nor deleted: look at them if a batch is missing, and delete them when you like.
 ///
-/// A call is noted before anything is done that may be left half done. After an `Err` of any call but `read`, whatever its
-/// reason, every later call fails with `Failed`: open the folder again to find what the disk has.
+/// A call is noted if anything is done that may be left half done. An append that fails, since the disk is full for instance, is
+/// taken back: the file is cut to the length that it had, and synced, and the files take further calls. After any other `Err` of
+/// a call but `read`, whatever its reason, every later call fails with `Failed`: open the folder again to find what the disk has.
 #[derive(Drop)]
 pub struct FolderFiles<'a, R: FolderHost> {
     /// The folder and its open files.
@@ -144,18 +145,32 @@ impl<'a, R: FolderHost> FolderFiles<'a, R> {
 impl<R: FolderHost> EngineFiles for FolderFiles<'_, R> {
     ghost asked = { λ files. files.asked.asks };
 
-    /// Writes `bytes` to the end of the last file of `queue`, without syncing it.
+    /// Writes `bytes` to the end of the last file of `queue`, without syncing it. If that fails, what was written is cut off
+    /// again, and the file synced.
     ///
     /// # Errors
     ///
-    /// Those of writing, and `Failed` after an earlier error. Some of the bytes may be there then, and every later call
-    /// fails.
-    fn append(&mut self, queue: LogQueue, bytes: &[u8]) -> Result<()> {
-        self.begin()?;
-        self.asked.put(queue, bytes);
-        self.folder.append(queue, bytes)?;
-        self.has_failed = false;
-        Ok(())
+    /// Those of writing: `AsBefore` if all that was written is cut off, and that is synced; the files take further calls then.
+    /// `InPart` if that fails too, so that every later call fails; and with `Failed` after an earlier error.
+    fn append(&mut self, queue: LogQueue, bytes: &[u8]) -> std::result::Result<(), AppendError> {
+        if let Err(error) = self.begin() {
+            return Err(AppendError::InPart(error));
+        }
+        match self.folder.append(queue, bytes) {
+            Ok(()) => {
+                self.asked.put(queue, bytes);
+                self.has_failed = false;
+                Ok(())
+            }
+            Err(failed) if failed.is_as_before => {
+                self.has_failed = false;
+                Err(AppendError::AsBefore(Error::from(failed.error)))
+            }
+            Err(failed) => {
+                self.asked.put(queue, bytes);
+                Err(AppendError::InPart(Error::from(failed.error)))
+            }
+        }
     }
 
     /// Syncs the last file of `queue`, and makes a new one with the number `seq` after it, whose name is on the disk then.

@@ -1,34 +1,48 @@
-//! How bytes are written to a log file so that, if there is no room for all, none are left.
+//! How bytes are written to a log file so that, if that fails, none are left.
 
 use std::fs::File;
 use std::io;
-use std::io::{ErrorKind, Write};
+use std::io::Write;
 
-/// Writes `bytes` to the end of `file`. If there is no room for all of them, those that were written are cut
-/// off again.
+/// Why bytes weren't written to the end of a file, and what the file has then.
+#[derive(Drop)]
+pub(crate) struct Unwritten {
+    /// The error of the system.
+    pub(crate) error: io::Error,
+    /// Whether the file has the bytes that it had before, and no others, and they are on the disk.
+    pub(crate) is_as_before: bool,
+}
+
+/// Writes `bytes` to the end of `file`. If that fails, those that were written are cut off again, and the file is synced, so that
+/// no crash brings them back.
 ///
 /// # Errors
 ///
-/// Those of the system. Some of the bytes may be there then, if the reason was another one than a lack of
-/// room, or cutting them off failed too.
-pub(crate) fn write_all_or_nothing(file: &File, bytes: &[u8]) -> io::Result<()> {
-    let old = file.metadata()?.len();
+/// Those of the system. Some of the bytes may be there then, if cutting them off failed too, or that sync.
+pub(crate) fn write_all_or_nothing(
+    file: &File,
+    bytes: &[u8],
+) -> std::result::Result<(), Unwritten> {
+    let old = match file.metadata() {
+        Ok(metadata) => metadata.len(),
+        Err(error) => {
+            return Err(Unwritten {
+                error,
+                is_as_before: true,
+            });
+        }
+    };
     let mut writer = file;
     match writer.write_all(bytes) {
         Ok(()) => Ok(()),
-        Err(e) => {
-            if lacks_room(&e) {
-                let _ = file.set_len(old); // else what is there is cut as a torn tail
-            }
-            Err(e)
-        }
+        Err(error) => Err(Unwritten {
+            error,
+            is_as_before: is_cut_back(file, old),
+        }),
     }
 }
 
-/// Tests whether the system refused a write because the disk, a quota or the file has no room for it.
-fn lacks_room(refused: &io::Error) -> bool {
-    matches!(
-        refused.kind(),
-        ErrorKind::StorageFull | ErrorKind::QuotaExceeded | ErrorKind::FileTooLarge
-    )
+/// Cuts `file` to its first `len` bytes, and syncs it. Returns whether both succeeded: else it may have more bytes.
+fn is_cut_back(file: &File, len: u64) -> bool {
+    file.set_len(len).is_ok() && file.sync_all().is_ok()
 }

@@ -1,6 +1,7 @@
 //! [`HandedFiles`]: the files of an engine that its caller keeps.
 
 ghost use Rattle.std.specs.Prelude.{◌≡◌, ◌+◌, [], ◌∷◌, length, option_map, IfErr, IfNone, IfOk, IfSome, None, OnErr, OnOk};
+ghost use Rattle.raft_files.specs.Appends.{IsNotAppended, append_fault};
 ghost use Rattle.raft_files.specs.Asks.{Begin, Cut, Delete, Put, Read, Sync, ask};
 ghost use Rattle.raft_orders.specs.Orders.{IsOrder, all_to_do, ask_of, next_to_do};
 ghost use Rattle.raft_orders.specs.Refusals.{HandedFails, IsUnordered, IsUnread};
@@ -9,7 +10,7 @@ use crate::lent_blocks::LentBlocks;
 use crate::order::{Order, Task};
 use crate::waiting_orders::{NumberedOrder, WaitingOrders};
 use raft_base::{Error, FileBlockHandle, FileId, FileSeq, LogQueue, Result};
-use raft_files::{Asked, EngineFiles};
+use raft_files::{AppendError, Asked, EngineFiles};
 use std::alloc::Global;
 use std::marker::Model;
 
@@ -103,6 +104,23 @@ impl HandedFiles {
         self.lent.lend(self.alloc, file, offset, bytes)
     }
 
+    /// Adds the order to put a copy of `bytes` at the end of the last file of `queue`, and notes it.
+    ///
+    /// # Errors
+    ///
+    /// `Memory`; `Full` after 2^64 - 1 orders. Nothing is asked then.
+    fn order_put(&mut self, queue: LogQueue, bytes: &[u8]) -> Result<()>
+        ensures ok { OnOk result (self.new.asks ≡ ask queue (Put bytes.now) ∷ self.old.asks) }
+        ensures taken { self.new.taken ≡ self.old.taken }
+        ensures err { OnErr result (self.new ≡ self.old) }
+        ensures fault { IfErr result IsUnordered }
+    {
+        let task = Task::Put(Vec::from_slice(self.alloc, bytes)?);
+        self.waiting.push(Order { queue, task })?;
+        self.asked.put(queue, bytes);
+        Ok(())
+    }
+
     /// Drops all bytes that were lent, so that a read returns `TryAgain`.
     pub fn clear_lent(&mut self)
         ensures { self.new ≡ self.old }
@@ -120,17 +138,19 @@ impl EngineFiles for HandedFiles {
     ///
     /// # Errors
     ///
-    /// `Memory`; `Full` after 2^64 - 1 orders. Nothing is asked then.
-    fn append(&mut self, queue: LogQueue, bytes: &[u8]) -> Result<()>
+    /// `InPart` alone, with `Memory`, or with `Full` after 2^64 - 1 orders. Nothing is asked then; but an engine whose orders
+    /// can't be noted is to take no further ones, so it isn't told that all is as before.
+    fn append(&mut self, queue: LogQueue, bytes: &[u8]) -> std::result::Result<(), AppendError>
         ensures ok { OnOk result (self.new.asks ≡ ask queue (Put bytes.now) ∷ self.old.asks) }
         ensures taken { self.new.taken ≡ self.old.taken }
         ensures err { OnErr result (self.new ≡ self.old) }
-        ensures fault { IfErr result IsUnordered }
+        ensures noted { IfErr result (λ e. IsNotAppended (ask queue (Put bytes.now)) e self.old.asks self.new.asks) }
+        ensures fault { IfErr result (λ e. IsUnordered (append_fault e)) }
     {
-        let task = Task::Put(Vec::from_slice(self.alloc, bytes)?);
-        self.waiting.push(Order { queue, task })?;
-        self.asked.put(queue, bytes);
-        Ok(())
+        match self.order_put(queue, bytes) {
+            Ok(()) => Ok(()),
+            Err(error) => Err(AppendError::InPart(error)),
+        }
     }
 
     /// Adds the order to sync the last file of `queue` and to begin a new one with the number `seq` after it.

@@ -1,7 +1,7 @@
 //! The files of an engine, which `raft_files` exports.
 
-use raft_base::{FileBlockHandle, FileSeq, LogQueue, Result};
-use raft_files::{Asked, EngineFiles, MemoryFiles};
+use raft_base::{Error, FileBlockHandle, FileSeq, LogQueue, Result};
+use raft_files::{AppendError, Asked, EngineFiles, MemoryFiles};
 use std::alloc::Global;
 
 type LogFiles = Vec<(FileSeq, Vec<u8>)>;
@@ -23,6 +23,12 @@ fn memory() {
     let _copies: fn(&MemoryFiles, LogQueue) -> Result<LogFiles> = MemoryFiles::copies;
 }
 
+fn appends() {
+    let _as_before: AppendError = AppendError::AsBefore(Error::Failed);
+    let _in_part: AppendError = AppendError::InPart(Error::Failed);
+    let _into_error: fn(AppendError) -> Error = AppendError::into_error;
+}
+
 fn files_of_memory<'a>(files: &'a MemoryFiles, queue: LogQueue) -> &'a LogFiles {
     MemoryFiles::files(files, queue)
 }
@@ -42,4 +48,5 @@ fn calls<F: EngineFiles>(files: &mut F, queue: LogQueue, place: FileBlockHandle)
 fn files_are_handed_on(_rt: HostRuntime) {
     asks();
     memory();
+    appends();
 }

@@ -30,6 +30,9 @@ impl<F: EngineFiles> Engine<F> {
     ///
     /// - `Failed` if the engine isn't intact; `Full` if what has to be written first has 2^56 bytes or more, or the last
     ///   rewrite file more than 2^63; `Memory`. The engine is unchanged then.
+    /// - Those of `EngineFiles::append`, since the disk is full for instance, where it takes back what it wrote, unless that is a
+    ///   batch of a group. The append queue is synced then, a new file may be begun and the records of some regions moved, and
+    ///   the engine is intact.
     /// - `Full` if that file has the greatest number, or `Memory`. What was taken away is written then, and no file begun.
     /// - `Full` if a batch has 2^31 bytes of entries or 2^56 bytes in all, or would begin past 2^63 in the new file;
     ///   `Corruption` if the bytes of an entry aren't found at its place; `InvalidArgument` if a key is that of the group
@@ -80,7 +83,8 @@ impl<F: EngineFiles> Engine<F> {
     ///
     /// `Failed` if the engine isn't intact; `Full` if there is such a file, and what has to be written has 2^56 bytes or more,
     /// or the last rewrite file more than 2^63; `Memory`. The engine is unchanged then. Those of `EngineFiles`, if there is
-    /// such a file: the engine isn't intact any more.
+    /// such a file: of an append that is taken back, as on a full disk, once the append queue is synced, and nothing else is
+    /// changed; any other, and the engine isn't intact any more.
     pub fn purge_rewrite_files(&mut self) -> Result<usize>
         ensures ok { IfOk result (λ count. AreRewritesPurged count self.old self.new) }
         ensures accepted { OnOk result (self.old.intact ≡ true) }

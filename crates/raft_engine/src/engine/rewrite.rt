@@ -11,7 +11,7 @@ ghost use Rattle.raft_engine.specs.WrittenBatch.{IsNextRefused, LacksRoom};
 use super::Engine;
 use crate::limits::LAST_OFFSET;
 use crate::moved::moves_are_stored;
-use crate::put::{put, put_items};
+use crate::put::{put_items, try_put};
 use crate::read_back::batches_are_read_back;
 use crate::rewriting::{batch_len, entries_to_move, moving_batch, regions_of};
 use crate::stored::asks_are_stored;
@@ -33,6 +33,8 @@ impl<F: EngineFiles> Engine<F> {
     ///
     /// - `Failed` if the engine isn't intact; `Full` if what has to be written first has 2^56 bytes or more, or the last
     ///   rewrite file more than 2^63; `Memory`. The engine is unchanged then.
+    /// - Those of `EngineFiles::append`, since the disk is full for instance, where it takes back what it wrote. The append queue
+    ///   is synced then, the records of some regions may have moved, and the engine is intact.
     /// - `Full` if a batch has 2^31 bytes of entries or 2^56 bytes in all, or the last rewrite file more than 2^63;
     ///   `Corruption` if the bytes of an entry aren't found at its place; `InvalidArgument` if a key is that of the group
     ///   markers; those of `EngineFiles::read`; `Memory`. The records of some regions moved then, perhaps also the first
@@ -75,7 +77,9 @@ impl<F: EngineFiles> Engine<F> {
     /// # Errors
     ///
     /// `Failed` if the engine isn't intact; `Full` if what has to be written has 2^56 bytes or more, or the last rewrite file
-    /// more than 2^63; `Memory`. The engine is unchanged then. Those of `EngineFiles`: the engine isn't intact any more.
+    /// more than 2^63; `Memory`. The engine is unchanged then. Those of `EngineFiles::append`, where it takes back what it wrote:
+    /// the append queue is synced then, and nothing else is changed. Any other of `EngineFiles`: the engine isn't intact any
+    /// more.
     pub(crate) fn tell(&mut self) -> Result<()>
         ensures ok { OnOk result (IsTold self.old self.new) }
         ensures accepted { OnOk result (self.old.intact ≡ true) }
@@ -89,7 +93,8 @@ impl<F: EngineFiles> Engine<F> {
         if self.rewrite.len > LAST_OFFSET {
             return Err(Error::Full);
         }
-        let len = self.untold.finish_populate()?;
+        let mut telling = self.untold.clone()?;
+        let len = telling.finish_populate()?;
         let file = LogFileContext::new(
             FileId::new(LogQueue::Rewrite, self.rewrite.seq),
             self.version,
@@ -100,8 +105,9 @@ impl<F: EngineFiles> Engine<F> {
             &mut self.files,
             &file,
             self.rewrite.len,
-            &mut self.untold,
+            &mut telling,
             len,
+            &mut self.intact,
         )?;
         self.rewrite.len += len as u64;
         let _told = self.untold.drain();
@@ -144,9 +150,9 @@ impl<F: EngineFiles> Engine<F> {
     /// # Errors
     ///
     /// `Full` if the last rewrite file has more than 2^63 bytes, or the batch 2^56 or more, and those of [`moving_batch`]: the
-    /// engine is unchanged then, but for reads. Those of `EngineFiles::append`, and those of [`rewrite_items`] once the batch
-    /// was put: the engine isn't intact any more, and the tables are unchanged or, once it was put, have the first ones of its
-    /// items.
+    /// engine is unchanged then, but for reads. Those of `EngineFiles::append`: the same holds where it takes back what it wrote;
+    /// else, and with those of [`rewrite_items`] once the batch was put, the engine isn't intact any more, and the tables are
+    /// unchanged or, once it was put, have the first ones of its items.
     fn move_batch(
         &mut self,
         region: u64,
@@ -181,8 +187,15 @@ impl<F: EngineFiles> Engine<F> {
             FileId::new(LogQueue::Rewrite, self.rewrite.seq),
             self.version,
         );
+        try_put(
+            &mut self.files,
+            &file,
+            self.rewrite.len,
+            &mut batch,
+            len,
+            &mut self.intact,
+        )?;
         self.intact = false;
-        put(&mut self.files, &file, self.rewrite.len, &mut batch, len)?;
         rewrite_items(&mut self.accessor, &mut batch, gate, self.rewrite.seq)?;
         self.rewrite.len += len as u64;
         self.intact = true;

@@ -2,10 +2,10 @@ use Rattle.raft_engine.proofs.Common.{err_from_is_err_and, rules, ◌≡◌, ◌
 use Rattle.raft_engine.proofs.Common.{AreOnlyRead, LogFileContext, Rewrite, Item, none_some, Rewriting, placed_at, AreTaken, IsNextRefused}
 use Rattle.std.specs.FinMap as finite
 use Rattle.raft_base.specs.declared.errors.Error.TheVariants as errors
-use Rattle.raft_engine.proofs.KeptMoves.{batch_refused, bytes_refused, file_refused, half_moved, kept_moved, kept_read, made_applied, made_asked, made_broken, made_placed, none_moved, put_broken, region_moved}
+use Rattle.raft_engine.proofs.KeptMoves.{batch_refused, bytes_refused, file_refused, half_moved, kept_moved, kept_read, made_applied, made_asked, made_placed, moved_tried, none_moved, put_broken, region_moved, unmoved_tried}
 use Rattle.raft_engine.proofs.ReadKept.{read_only}
 use Rattle.raft_engine.proofs.RefusalLemmas.{rewrite_full}
-use Rattle.raft_engine.proofs.FaultLemmas.{made_fails, put_whole, writable_of}
+use Rattle.raft_engine.proofs.FaultLemmas.{put_whole, writable_of}
 use Rattle.raft_engine.proofs.LeftEntries.{left_behind, next_consecutive, next_of}
 use Rattle.raft_engine.proofs.UntakenLemmas.{untaken}
 use Rattle.raft_engine.proofs.engine.Engine.move_batch.Goals as goal
@@ -83,8 +83,8 @@ returns-in_err-len-clause-err g c =
     c.moves_are_stored.ensures.moved ready.intact ready.synced ready.told c.args.gate c.args.left.now c.args.region c.in-Some.table.now (sym c.in-Some.ensures.value) c.in-Some.ensures.own c.holds_one_run.ensures
     between c.in_ok-batch.batch m c.in_err-len.field-0.0 c.in_err-len.ensures.fault))
 
-pub invariant_of-self-in_err-put : goal.invariant_of-self-in_err-put
-invariant_of-self-in_err-put g c =
+pub invariant_of-self-in_err-try_put : goal.invariant_of-self-in_err-try_put
+invariant_of-self-in_err-try_put g c =
     let e = c.self.inside in
     let old : List Ask = g.F.EngineFiles.asked e.files in
     let between : List Ask = g.F.EngineFiles.asked c.moving_batch.new.files in
@@ -93,13 +93,13 @@ invariant_of-self-in_err-put g c =
     let some : c.in_ok-batch.batch.items ≢ [] = search rules in
     let w = writable_of c.is_read_again.ensures.tiled c.is_read_again.ensures.in_range c.is_read_again.ensures.in_bytes some c.in_ok-len.ensures.accepted in
     let file = c.new-file.ensures ∙ ap (λ (id : FileId). record { id = id; version = e.version }) c.new.ensures in
-    made_broken c.moves_are_stored.ensures.read e.version old e.append e.rewrite e.untold e.accessor e.intact c.self.invariant
+    moved_tried c.moves_are_stored.ensures.read e.version old e.append e.rewrite e.untold e.accessor e.intact c.self.invariant
     c.moves_are_stored.ensures.moved ready.intact ready.synced ready.told c.args.gate c.args.left.now c.args.region c.in-Some.table.now (sym c.in-Some.ensures.value) c.in-Some.ensures.own c.holds_one_run.ensures
     between c.in_ok-batch.batch m w c.new-file.result file c.finish_populate.new.self c.in_ok-len.ensures.ok
-    c.moves_are_stored.ensures.put (g.F.EngineFiles.asked c.put.new.files) e.append e.rewrite e.untold e.accessor c.in_err-put.ensures.err
+    c.moves_are_stored.ensures.put (g.F.EngineFiles.asked c.try_put.new.files) c.try_put.new.intact c.in_err-try_put.ensures.as_before c.in_err-try_put.ensures.err
 
-pub returns-in_err-put-clause-err : goal.returns-in_err-put-clause-err
-returns-in_err-put-clause-err g c =
+pub returns-in_err-try_put-clause-err : goal.returns-in_err-try_put-clause-err
+returns-in_err-try_put-clause-err g c =
     let e = c.self.inside in
     let old : List Ask = g.F.EngineFiles.asked e.files in
     let between : List Ask = g.F.EngineFiles.asked c.moving_batch.new.files in
@@ -109,19 +109,15 @@ returns-in_err-put-clause-err g c =
     let w = writable_of c.is_read_again.ensures.tiled c.is_read_again.ensures.in_range c.is_read_again.ensures.in_bytes some c.in_ok-len.ensures.accepted in
     let its : LogFileContext = record { id = record { queue = Rewrite; seq = e.rewrite.seq }; version = e.version } in
     let file : c.new-file.result ≡ its = c.new-file.ensures ∙ ap (λ (id : FileId). record { id = id; version = e.version }) c.new.ensures in
-    let new : List Ask = g.F.EngineFiles.asked c.put.new.files in
-    let p = err_from_is_err_and c.from_residual-in_err-put.result c.from_residual-in_err-put.ensures.1 in
+    let new : List Ask = g.F.EngineFiles.asked c.try_put.new.files in
+    let p = err_from_is_err_and c.from_residual-in_err-try_put.result c.from_residual-in_err-try_put.ensures.1 in
     rw (p.1, p.2)
-    (inr (subst (λ (o : KeptEngine). IsBatchHalfMoved (g.F.EngineFiles.may_fail) c.args.gate c.args.left.now c.args.region o
-    (record { version = e.version; asks = new; untold = e.untold; accessor = e.accessor; intact = false }) c.in_err-put.field-0.0) c.self.view_is
-    (half_moved c.moves_are_stored.ensures.read e.version old e.append e.rewrite e.untold e.accessor e.intact c.self.invariant
+    (subst (λ (o : KeptEngine). IsBatchUnmoved (g.F.EngineFiles.may_fail) c.args.gate c.args.left.now c.args.region o
+    (record { version = e.version; asks = new; untold = e.untold; accessor = e.accessor; intact = c.try_put.new.intact }) c.in_err-try_put.field-0.0) c.self.view_is
+    (unmoved_tried c.moves_are_stored.ensures.read e.version old e.append e.rewrite e.untold e.accessor e.intact c.self.invariant
     c.moves_are_stored.ensures.moved ready.intact ready.synced ready.told c.args.gate c.args.left.now c.args.region c.in-Some.table.now (sym c.in-Some.ensures.value) c.in-Some.ensures.own c.holds_one_run.ensures
-    between c.in_ok-batch.batch m w
-    new e.accessor c.in_err-put.field-0.0
-    (inl (
-      made_fails (g.F.EngineFiles.may_fail) c.new-file.result its c.finish_populate.new.self c.in_ok-batch.batch between new c.in_err-put.field-0.0 file c.in_ok-len.ensures.ok some c.in_err-put.ensures.err c.in_err-put.ensures.fault,
-      refl,
-    )))))
+    between c.in_ok-batch.batch m w c.new-file.result file c.finish_populate.new.self c.in_ok-len.ensures.ok
+    new c.try_put.new.intact c.in_err-try_put.field-0.0 c.in_err-try_put.ensures.as_before c.in_err-try_put.ensures.err c.in_err-try_put.ensures.fault))
 
 pub invariant_of-self-in_err-rewrite_items : goal.invariant_of-self-in_err-rewrite_items
 invariant_of-self-in_err-rewrite_items g c =
@@ -136,10 +132,10 @@ invariant_of-self-in_err-rewrite_items g c =
     put_broken c.moves_are_stored.ensures.read e.version old e.append e.rewrite e.untold e.accessor e.intact c.self.invariant
     c.moves_are_stored.ensures.moved ready.intact ready.synced ready.told c.args.gate c.args.left.now c.args.region c.in-Some.table.now (sym c.in-Some.ensures.value) c.in-Some.ensures.own c.holds_one_run.ensures
     between c.in_ok-batch.batch m w
-    c.moves_are_stored.ensures.put (g.F.EngineFiles.asked c.put.new.files) e.append e.rewrite e.untold c.rewrite_items.new.accessor
+    c.moves_are_stored.ensures.put (g.F.EngineFiles.asked c.try_put.new.files) e.append e.rewrite e.untold c.rewrite_items.new.accessor
     (made_asked c.moves_are_stored.ensures.read e.version old e.append e.rewrite e.untold e.accessor e.intact c.self.invariant
     c.moves_are_stored.ensures.moved ready.intact ready.synced ready.told c.args.gate c.args.left.now c.args.region c.in-Some.table.now (sym c.in-Some.ensures.value) c.in-Some.ensures.own c.holds_one_run.ensures
-    between c.in_ok-batch.batch m w c.new-file.result file c.finish_populate.new.self c.in_ok-len.ensures.ok (g.F.EngineFiles.asked c.put.new.files) c.in_ok-put.ensures.ok)
+    between c.in_ok-batch.batch m w c.new-file.result file c.finish_populate.new.self c.in_ok-len.ensures.ok (g.F.EngineFiles.asked c.try_put.new.files) c.in_ok-try_put.ensures.ok)
 
 pub returns-in_err-rewrite_items-clause-err : goal.returns-in_err-rewrite_items-clause-err
 returns-in_err-rewrite_items-clause-err g c =
@@ -152,27 +148,27 @@ returns-in_err-rewrite_items-clause-err g c =
     let w = writable_of c.is_read_again.ensures.tiled c.is_read_again.ensures.in_range c.is_read_again.ensures.in_bytes some c.in_ok-len.ensures.accepted in
     let its : LogFileContext = record { id = record { queue = Rewrite; seq = e.rewrite.seq }; version = e.version } in
     let file : c.new-file.result ≡ its = c.new-file.ensures ∙ ap (λ (id : FileId). record { id = id; version = e.version }) c.new.ensures in
-    let new : List Ask = g.F.EngineFiles.asked c.put.new.files in
+    let new : List Ask = g.F.EngineFiles.asked c.try_put.new.files in
     let bytes = (c.self.invariant.whole ready.intact).rewrite_files.bytes in
-    let are : c.put.new.batch.items ≡ placed_at its.id (length bytes) c.in_ok-batch.batch = made_placed c.moves_are_stored.ensures.read e.version old e.append e.rewrite e.untold e.accessor e.intact c.self.invariant
+    let are : c.try_put.new.batch.items ≡ placed_at its.id (length bytes) c.in_ok-batch.batch = made_placed c.moves_are_stored.ensures.read e.version old e.append e.rewrite e.untold e.accessor e.intact c.self.invariant
     c.moves_are_stored.ensures.moved ready.intact ready.synced ready.told c.args.gate c.args.left.now c.args.region c.in-Some.table.now (sym c.in-Some.ensures.value) c.in-Some.ensures.own c.holds_one_run.ensures
     between c.in_ok-batch.batch m w
-    c.new-file.result file c.finish_populate.new.self c.in_ok-len.ensures.ok c.put.new.batch.items c.in_ok-put.ensures.placed in
+    c.new-file.result file c.finish_populate.new.self c.in_ok-len.ensures.ok c.try_put.new.batch.items c.in_ok-try_put.ensures.placed in
     let p = err_from_is_err_and c.from_residual-in_err-rewrite_items.result c.from_residual-in_err-rewrite_items.ensures.1 in
     rw (p.1, p.2)
-    (inr (subst (λ (o : KeptEngine). IsBatchHalfMoved (g.F.EngineFiles.may_fail) c.args.gate c.args.left.now c.args.region o
+    (inr (inl (subst (λ (o : KeptEngine). IsBatchHalfMoved (g.F.EngineFiles.may_fail) c.args.gate c.args.left.now c.args.region o
     (record { version = e.version; asks = new; untold = e.untold; accessor = c.rewrite_items.new.accessor; intact = false }) c.in_err-rewrite_items.field-0.0) c.self.view_is
     (half_moved c.moves_are_stored.ensures.read e.version old e.append e.rewrite e.untold e.accessor e.intact c.self.invariant
     c.moves_are_stored.ensures.moved ready.intact ready.synced ready.told c.args.gate c.args.left.now c.args.region c.in-Some.table.now (sym c.in-Some.ensures.value) c.in-Some.ensures.own c.holds_one_run.ensures
     between c.in_ok-batch.batch m w
     new c.rewrite_items.new.accessor c.in_err-rewrite_items.field-0.0
     (inr (
-      put_whole c.new-file.result its c.finish_populate.new.self c.in_ok-batch.batch between new file c.in_ok-len.ensures.ok some c.in_ok-put.ensures.ok,
+      put_whole c.new-file.result its c.finish_populate.new.self c.in_ok-batch.batch between new file c.in_ok-len.ensures.ok some c.in_ok-try_put.ensures.ok,
       untaken c.args.gate c.args.left.now c.in-Some.table.now old between c.in_ok-batch.batch e.rewrite.seq (length bytes) e.accessor c.rewrite_items.new.accessor c.in_err-rewrite_items.field-0.0
           (ap (finite.get e.accessor.tables) c.in-Some.ensures.own ∙ sym c.in-Some.ensures.value) c.holds_one_run.ensures m
           (λ taken. c.in_err-rewrite_items.ensures.room (subst (AreTaken c.args.gate e.rewrite.seq e.accessor.tables) (sym are) taken))
           (subst (λ (l : List Item). IsNextRefused (Rewriting c.args.gate e.rewrite.seq) l e.accessor c.rewrite_items.new.accessor c.in_err-rewrite_items.field-0.0) are c.in_err-rewrite_items.ensures.fault),
-    )))))
+    ))))))
 
 pub invariant_of-self-2 : goal.invariant_of-self-2
 invariant_of-self-2 g c =
@@ -186,14 +182,14 @@ invariant_of-self-2 g c =
     let file = c.new-file.ensures ∙ ap (λ (id : FileId). record { id = id; version = e.version }) c.new.ensures in
     kept_moved c.moves_are_stored.ensures.read e.version old e.append e.rewrite e.untold e.accessor e.intact c.self.invariant
     c.moves_are_stored.ensures.moved ready.intact ready.synced ready.told c.args.gate c.args.left.now c.args.region c.in-Some.table.now (sym c.in-Some.ensures.value) c.in-Some.ensures.own c.holds_one_run.ensures
-    between c.in_ok-batch.batch m w (g.F.EngineFiles.asked c.put.new.files)
+    between c.in_ok-batch.batch m w (g.F.EngineFiles.asked c.try_put.new.files)
     (made_asked c.moves_are_stored.ensures.read e.version old e.append e.rewrite e.untold e.accessor e.intact c.self.invariant
     c.moves_are_stored.ensures.moved ready.intact ready.synced ready.told c.args.gate c.args.left.now c.args.region c.in-Some.table.now (sym c.in-Some.ensures.value) c.in-Some.ensures.own c.holds_one_run.ensures
-    between c.in_ok-batch.batch m w c.new-file.result file c.finish_populate.new.self c.in_ok-len.ensures.ok (g.F.EngineFiles.asked c.put.new.files) c.in_ok-put.ensures.ok)
+    between c.in_ok-batch.batch m w c.new-file.result file c.finish_populate.new.self c.in_ok-len.ensures.ok (g.F.EngineFiles.asked c.try_put.new.files) c.in_ok-try_put.ensures.ok)
     c.rewrite_items.new.accessor
     (made_applied c.moves_are_stored.ensures.read e.version old e.append e.rewrite e.untold e.accessor e.intact c.self.invariant
     c.moves_are_stored.ensures.moved ready.intact ready.synced ready.told c.args.gate c.args.left.now c.args.region c.in-Some.table.now (sym c.in-Some.ensures.value) c.in-Some.ensures.own c.holds_one_run.ensures
-    between c.in_ok-batch.batch m w c.new-file.result file c.finish_populate.new.self c.in_ok-len.ensures.ok c.put.new.batch.items c.rewrite_items.new.accessor c.in_ok-put.ensures.placed c.in_ok-rewrite_items.ensures.ok)
+    between c.in_ok-batch.batch m w c.new-file.result file c.finish_populate.new.self c.in_ok-len.ensures.ok c.try_put.new.batch.items c.rewrite_items.new.accessor c.in_ok-try_put.ensures.placed c.in_ok-rewrite_items.ensures.ok)
     c.batches_are_read_back.ensures.moved _ c.in_ok-len.len c.in_ok-len.ensures.len refl refl refl
 
 pub returns-clause-ok : goal.returns-clause-ok
@@ -209,21 +205,21 @@ returns-clause-ok g c =
     (subst (λ (o : KeptEngine). IsBatchMoved c.args.gate c.args.left.now c.args.region o
     (record {
       version = e.version;
-      asks = (g.F.EngineFiles.asked c.put.new.files);
+      asks = (g.F.EngineFiles.asked c.try_put.new.files);
       untold = e.untold;
       accessor = c.rewrite_items.new.accessor;
       intact = true;
     })) c.self.view_is
     (region_moved c.moves_are_stored.ensures.read e.version old e.append e.rewrite e.untold e.accessor e.intact c.self.invariant
     c.moves_are_stored.ensures.moved ready.intact ready.synced ready.told c.args.gate c.args.left.now c.args.region c.in-Some.table.now (sym c.in-Some.ensures.value) c.in-Some.ensures.own c.holds_one_run.ensures
-    between c.in_ok-batch.batch m w (g.F.EngineFiles.asked c.put.new.files)
+    between c.in_ok-batch.batch m w (g.F.EngineFiles.asked c.try_put.new.files)
     (made_asked c.moves_are_stored.ensures.read e.version old e.append e.rewrite e.untold e.accessor e.intact c.self.invariant
     c.moves_are_stored.ensures.moved ready.intact ready.synced ready.told c.args.gate c.args.left.now c.args.region c.in-Some.table.now (sym c.in-Some.ensures.value) c.in-Some.ensures.own c.holds_one_run.ensures
-    between c.in_ok-batch.batch m w c.new-file.result file c.finish_populate.new.self c.in_ok-len.ensures.ok (g.F.EngineFiles.asked c.put.new.files) c.in_ok-put.ensures.ok)
+    between c.in_ok-batch.batch m w c.new-file.result file c.finish_populate.new.self c.in_ok-len.ensures.ok (g.F.EngineFiles.asked c.try_put.new.files) c.in_ok-try_put.ensures.ok)
     c.rewrite_items.new.accessor
     (made_applied c.moves_are_stored.ensures.read e.version old e.append e.rewrite e.untold e.accessor e.intact c.self.invariant
     c.moves_are_stored.ensures.moved ready.intact ready.synced ready.told c.args.gate c.args.left.now c.args.region c.in-Some.table.now (sym c.in-Some.ensures.value) c.in-Some.ensures.own c.holds_one_run.ensures
-    between c.in_ok-batch.batch m w c.new-file.result file c.finish_populate.new.self c.in_ok-len.ensures.ok c.put.new.batch.items c.rewrite_items.new.accessor c.in_ok-put.ensures.placed c.in_ok-rewrite_items.ensures.ok)))
+    between c.in_ok-batch.batch m w c.new-file.result file c.finish_populate.new.self c.in_ok-len.ensures.ok c.try_put.new.batch.items c.rewrite_items.new.accessor c.in_ok-try_put.ensures.placed c.in_ok-rewrite_items.ensures.ok)))
 
 pub moving_batch-requires-clause-next : goal.moving_batch-requires-clause-next
 moving_batch-requires-clause-next g c =

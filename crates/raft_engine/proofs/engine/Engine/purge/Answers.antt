@@ -25,7 +25,7 @@ pub returns-in_err-delete_files-clause-err : goal.returns-in_err-delete_files-cl
 returns-in_err-delete_files-clause-err g c =
     let some : c.in_ok-count.count ≢ 0 = search rules in
     let p = err_from_is_err_and c.from_residual-in_err-delete_files.result c.from_residual-in_err-delete_files.ensures.1 in
-    rw (p.1, p.2) (inr (told_half c.args.queue c.in_ok-count.count _ c.in_ok-count.ensures.ok some c.tell.new.self c.in_ok-tell.ensures.ok _ _ c.in_err-delete_files.ensures.err))
+    rw (p.1, p.2) (inr (inl (told_half c.args.queue c.in_ok-count.count _ c.in_ok-count.ensures.ok some c.tell.new.self c.in_ok-tell.ensures.ok _ _ c.in_err-delete_files.ensures.err)))
 
 pub returns-clause-ok : goal.returns-clause-ok
 returns-clause-ok g c =

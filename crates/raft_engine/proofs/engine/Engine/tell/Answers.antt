@@ -1,7 +1,7 @@
-use Rattle.raft_engine.proofs.Common.{err_from_is_err_and, rules, ◌≡◌, ◌≢◌, ◌<◌, ◌^◌, true, false, List, [], inl, inr, refl, ap, ◌∙◌, subst, ◌∷◌, FileId, Ask, Sync, ask, KeptEngine, IsHalfTold, IsTold, IsPurgeRefusal, IsWritableBatch, Append}
+use Rattle.raft_engine.proofs.Common.{err_from_is_err_and, rules, ◌≡◌, ◌≢◌, ◌<◌, ◌^◌, true, false, List, [], inl, inr, refl, ap, ◌∙◌, subst, ◌∷◌, FileId, Ask, Sync, ask, Batch, encoded, encoded_length, KeptEngine, IsHalfTold, IsTold, IsUntold, IsPurgeRefusal, IsWritableBatch, Append}
 use Rattle.raft_base.specs.declared.errors.Error.TheVariants as errors
 use Rattle.raft_engine.proofs.BrokenLemmas.{broken_kept}
-use Rattle.raft_engine.proofs.KeptTells.{half_told, is_told, kept_told, told_ever}
+use Rattle.raft_engine.proofs.KeptTells.{half_told, is_told, kept_told, told_ever, told_tried, untold_tried}
 use Rattle.raft_engine.proofs.RefusalLemmas.{rewrite_refusal}
 use Rattle.raft_engine.proofs.AskedLemmas.{more_failed, one_failed, part_failed}
 use Rattle.raft_engine.proofs.FaultLemmas.{put_made_fails, writable_of}
@@ -18,13 +18,14 @@ returns-then-self-gt-LAST_OFFSET-clause-err g c =
           (rewrite_refusal e.version (g.F.EngineFiles.asked e.files) e.append e.rewrite e.untold e.accessor e.intact c.self.invariant intact many),
     )
 
-pub invariant_of-self-in_err-sync : goal.invariant_of-self-in_err-sync
-invariant_of-self-in_err-sync g c =
+pub invariant_of-self : goal.invariant_of-self
+invariant_of-self g c =
     let e = c.self.inside in
     let old : List Ask = g.F.EngineFiles.asked e.files in
     let intact : e.intact ≡ true = search rules in
-    let writable : e.untold.items ≢ [] → IsWritableBatch e.untold = λ some. writable_of c.is_read_again.ensures.tiled c.is_read_again.ensures.in_range c.is_read_again.ensures.in_bytes some c.in_ok-len.ensures.accepted in
-    broken_kept c.asks_are_stored.ensures.unsynced e.version (g.F.EngineFiles.asked c.sync.new.self) _ e.rewrite c.finish_populate.new.self e.accessor (g.F.EngineFiles.may_fail) _ old c.in_err-sync.field-0.0
+    let writable : e.untold.items ≢ [] → IsWritableBatch e.untold = λ some. writable_of c.is_read_again.ensures.tiled c.is_read_again.ensures.in_range c.is_read_again.ensures.in_bytes some
+    (subst (λ (b : Batch). encoded_length b.items b.entry_bytes < 2 ^ 56) c.in_ok-telling.ensures.ok c.in_ok-len.ensures.accepted) in
+    broken_kept c.asks_are_stored.ensures.unsynced e.version (g.F.EngineFiles.asked c.sync.new.self) _ e.rewrite e.untold e.accessor (g.F.EngineFiles.may_fail) _ old c.in_err-sync.field-0.0
     (told_ever c.asks_are_stored.ensures.synced c.asks_are_stored.ensures.told
     e.version old e.append e.rewrite e.untold e.accessor e.intact c.self.invariant intact writable)
     (part_failed (g.F.EngineFiles.may_fail) _ (ask Append Sync ∷ []) old (g.F.EngineFiles.asked c.sync.new.self) c.in_err-sync.field-0.0 (one_failed (g.F.EngineFiles.may_fail) (ask Append Sync) old (g.F.EngineFiles.asked c.sync.new.self) c.in_err-sync.field-0.0 c.in_err-sync.ensures.err c.in_err-sync.ensures.fault))
@@ -34,66 +35,80 @@ returns-in_err-sync-clause-err g c =
     let e = c.self.inside in
     let old : List Ask = g.F.EngineFiles.asked e.files in
     let intact : e.intact ≡ true = search rules in
-    let writable : e.untold.items ≢ [] → IsWritableBatch e.untold = λ some. writable_of c.is_read_again.ensures.tiled c.is_read_again.ensures.in_range c.is_read_again.ensures.in_bytes some c.in_ok-len.ensures.accepted in
+    let writable : e.untold.items ≢ [] → IsWritableBatch e.untold = λ some. writable_of c.is_read_again.ensures.tiled c.is_read_again.ensures.in_range c.is_read_again.ensures.in_bytes some
+    (subst (λ (b : Batch). encoded_length b.items b.entry_bytes < 2 ^ 56) c.in_ok-telling.ensures.ok c.in_ok-len.ensures.accepted) in
     let p = err_from_is_err_and c.from_residual-in_err-sync.result c.from_residual-in_err-sync.ensures.1 in
     rw (p.1, p.2)
-    (inr (subst (λ (o : KeptEngine). IsHalfTold (g.F.EngineFiles.may_fail) o (record { version = e.version; asks = g.F.EngineFiles.asked c.sync.new.self; untold = c.finish_populate.new.self; accessor = e.accessor; intact = false }) c.in_err-sync.field-0.0) c.self.view_is
+    (inr (inl (subst (λ (o : KeptEngine). IsHalfTold (g.F.EngineFiles.may_fail) o (record { version = e.version; asks = g.F.EngineFiles.asked c.sync.new.self; untold = e.untold; accessor = e.accessor; intact = false }) c.in_err-sync.field-0.0) c.self.view_is
     (half_told c.asks_are_stored.ensures.synced c.asks_are_stored.ensures.told
     e.version old e.append e.rewrite e.untold e.accessor e.intact c.self.invariant intact writable
-    (g.F.EngineFiles.may_fail) (g.F.EngineFiles.asked c.sync.new.self) c.finish_populate.new.self c.in_err-sync.field-0.0
-    (part_failed (g.F.EngineFiles.may_fail) _ (ask Append Sync ∷ []) old (g.F.EngineFiles.asked c.sync.new.self) c.in_err-sync.field-0.0 (one_failed (g.F.EngineFiles.may_fail) (ask Append Sync) old (g.F.EngineFiles.asked c.sync.new.self) c.in_err-sync.field-0.0 c.in_err-sync.ensures.err c.in_err-sync.ensures.fault)))))
+    (g.F.EngineFiles.may_fail) (g.F.EngineFiles.asked c.sync.new.self) e.untold c.in_err-sync.field-0.0
+    (part_failed (g.F.EngineFiles.may_fail) _ (ask Append Sync ∷ []) old (g.F.EngineFiles.asked c.sync.new.self) c.in_err-sync.field-0.0 (one_failed (g.F.EngineFiles.may_fail) (ask Append Sync) old (g.F.EngineFiles.asked c.sync.new.self) c.in_err-sync.field-0.0 c.in_err-sync.ensures.err c.in_err-sync.ensures.fault))))))
 
 pub invariant_of-self-in_err-put_items : goal.invariant_of-self-in_err-put_items
 invariant_of-self-in_err-put_items g c =
     let e = c.self.inside in
     let old : List Ask = g.F.EngineFiles.asked e.files in
     let intact : e.intact ≡ true = search rules in
-    let writable : e.untold.items ≢ [] → IsWritableBatch e.untold = λ some. writable_of c.is_read_again.ensures.tiled c.is_read_again.ensures.in_range c.is_read_again.ensures.in_bytes some c.in_ok-len.ensures.accepted in
+    let writable : e.untold.items ≢ [] → IsWritableBatch e.untold = λ some. writable_of c.is_read_again.ensures.tiled c.is_read_again.ensures.in_range c.is_read_again.ensures.in_bytes some
+    (subst (λ (b : Batch). encoded_length b.items b.entry_bytes < 2 ^ 56) c.in_ok-telling.ensures.ok c.in_ok-len.ensures.accepted) in
     let file = c.new-file.ensures ∙ ap (λ (id : FileId). record { id = id; version = e.version }) c.new.ensures in
-    broken_kept c.asks_are_stored.ensures.unsynced e.version (g.F.EngineFiles.asked c.put_items.new.files) _ e.rewrite c.put_items.new.batch e.accessor (g.F.EngineFiles.may_fail) _ old c.in_err-put_items.field-0.0
-    (told_ever c.asks_are_stored.ensures.synced c.asks_are_stored.ensures.told
-    e.version old e.append e.rewrite e.untold e.accessor e.intact c.self.invariant intact writable)
+    let made : c.finish_populate.new.self ≡ record e.untold { stage = encoded } = c.in_ok-len.ensures.ok ∙ ap (λ (b : Batch). record b { stage = encoded }) c.in_ok-telling.ensures.ok in
+    told_tried c.asks_are_stored.ensures.synced c.asks_are_stored.ensures.told
+    e.version old e.append e.rewrite e.untold e.accessor e.intact c.self.invariant intact writable
+    c.new-file.result file c.finish_populate.new.self made (g.F.EngineFiles.asked c.sync.new.self) c.in_ok-sync.ensures.ok
+    (g.F.EngineFiles.may_fail) (g.F.EngineFiles.asked c.put_items.new.files) c.in_err-put_items.field-0.0
     (more_failed (g.F.EngineFiles.may_fail) _ (ask Append Sync ∷ []) old (g.F.EngineFiles.asked c.sync.new.self) (g.F.EngineFiles.asked c.put_items.new.files) c.in_err-put_items.field-0.0 c.in_ok-sync.ensures.ok
-    (put_made_fails (g.F.EngineFiles.may_fail) c.new-file.result _ c.finish_populate.new.self e.untold (g.F.EngineFiles.asked c.sync.new.self) (g.F.EngineFiles.asked c.put_items.new.files) c.in_err-put_items.field-0.0 file c.in_ok-len.ensures.ok c.in_err-put_items.ensures.fault))
+    (put_made_fails (g.F.EngineFiles.may_fail) c.new-file.result _ c.finish_populate.new.self e.untold (g.F.EngineFiles.asked c.sync.new.self) (g.F.EngineFiles.asked c.put_items.new.files) c.in_err-put_items.field-0.0 file made c.in_err-put_items.ensures.fault))
+    c.asks_are_stored.ensures.unsynced c.put_items.new.intact c.in_err-put_items.ensures.as_before
 
 pub returns-in_err-put_items-clause-err : goal.returns-in_err-put_items-clause-err
 returns-in_err-put_items-clause-err g c =
     let e = c.self.inside in
     let old : List Ask = g.F.EngineFiles.asked e.files in
     let intact : e.intact ≡ true = search rules in
-    let writable : e.untold.items ≢ [] → IsWritableBatch e.untold = λ some. writable_of c.is_read_again.ensures.tiled c.is_read_again.ensures.in_range c.is_read_again.ensures.in_bytes some c.in_ok-len.ensures.accepted in
+    let writable : e.untold.items ≢ [] → IsWritableBatch e.untold = λ some. writable_of c.is_read_again.ensures.tiled c.is_read_again.ensures.in_range c.is_read_again.ensures.in_bytes some
+    (subst (λ (b : Batch). encoded_length b.items b.entry_bytes < 2 ^ 56) c.in_ok-telling.ensures.ok c.in_ok-len.ensures.accepted) in
     let file = c.new-file.ensures ∙ ap (λ (id : FileId). record { id = id; version = e.version }) c.new.ensures in
+    let made : c.finish_populate.new.self ≡ record e.untold { stage = encoded } = c.in_ok-len.ensures.ok ∙ ap (λ (b : Batch). record b { stage = encoded }) c.in_ok-telling.ensures.ok in
     let p = err_from_is_err_and c.from_residual-in_err-put_items.result c.from_residual-in_err-put_items.ensures.1 in
     rw (p.1, p.2)
-    (inr (subst (λ (o : KeptEngine). IsHalfTold (g.F.EngineFiles.may_fail) o (record { version = e.version; asks = g.F.EngineFiles.asked c.put_items.new.files; untold = c.put_items.new.batch; accessor = e.accessor; intact = false }) c.in_err-put_items.field-0.0) c.self.view_is
-    (half_told c.asks_are_stored.ensures.synced c.asks_are_stored.ensures.told
+    (subst (λ (o : KeptEngine). IsUntold (g.F.EngineFiles.may_fail) o
+    (record { version = e.version; asks = g.F.EngineFiles.asked c.put_items.new.files; untold = e.untold; accessor = e.accessor; intact = c.put_items.new.intact }) c.in_err-put_items.field-0.0) c.self.view_is
+    (untold_tried c.asks_are_stored.ensures.synced c.asks_are_stored.ensures.told
     e.version old e.append e.rewrite e.untold e.accessor e.intact c.self.invariant intact writable
-    (g.F.EngineFiles.may_fail) (g.F.EngineFiles.asked c.put_items.new.files) c.put_items.new.batch c.in_err-put_items.field-0.0
+    c.new-file.result file c.finish_populate.new.self made (g.F.EngineFiles.asked c.sync.new.self) c.in_ok-sync.ensures.ok
+    (g.F.EngineFiles.may_fail) (g.F.EngineFiles.asked c.put_items.new.files) c.in_err-put_items.field-0.0
     (more_failed (g.F.EngineFiles.may_fail) _ (ask Append Sync ∷ []) old (g.F.EngineFiles.asked c.sync.new.self) (g.F.EngineFiles.asked c.put_items.new.files) c.in_err-put_items.field-0.0 c.in_ok-sync.ensures.ok
-    (put_made_fails (g.F.EngineFiles.may_fail) c.new-file.result _ c.finish_populate.new.self e.untold (g.F.EngineFiles.asked c.sync.new.self) (g.F.EngineFiles.asked c.put_items.new.files) c.in_err-put_items.field-0.0 file c.in_ok-len.ensures.ok c.in_err-put_items.ensures.fault)))))
+    (put_made_fails (g.F.EngineFiles.may_fail) c.new-file.result _ c.finish_populate.new.self e.untold (g.F.EngineFiles.asked c.sync.new.self) (g.F.EngineFiles.asked c.put_items.new.files) c.in_err-put_items.field-0.0 file made c.in_err-put_items.ensures.fault))
+    c.put_items.new.intact c.in_err-put_items.ensures.as_before c.in_err-put_items.ensures.some c.in_err-put_items.ensures.why))
 
 pub invariant_of-self-2 : goal.invariant_of-self-2
 invariant_of-self-2 g c =
     let e = c.self.inside in
     let old : List Ask = g.F.EngineFiles.asked e.files in
     let intact : e.intact ≡ true = search rules in
-    let writable : e.untold.items ≢ [] → IsWritableBatch e.untold = λ some. writable_of c.is_read_again.ensures.tiled c.is_read_again.ensures.in_range c.is_read_again.ensures.in_bytes some c.in_ok-len.ensures.accepted in
+    let writable : e.untold.items ≢ [] → IsWritableBatch e.untold = λ some. writable_of c.is_read_again.ensures.tiled c.is_read_again.ensures.in_range c.is_read_again.ensures.in_bytes some
+    (subst (λ (b : Batch). encoded_length b.items b.entry_bytes < 2 ^ 56) c.in_ok-telling.ensures.ok c.in_ok-len.ensures.accepted) in
     let file = c.new-file.ensures ∙ ap (λ (id : FileId). record { id = id; version = e.version }) c.new.ensures in
+    let made : c.finish_populate.new.self ≡ record e.untold { stage = encoded } = c.in_ok-len.ensures.ok ∙ ap (λ (b : Batch). record b { stage = encoded }) c.in_ok-telling.ensures.ok in
     kept_told c.asks_are_stored.ensures.synced c.asks_are_stored.ensures.told
     e.version old e.append e.rewrite e.untold e.accessor e.intact c.self.invariant intact writable
-    c.new-file.result file c.finish_populate.new.self c.in_ok-len.ensures.ok (g.F.EngineFiles.asked c.sync.new.self) c.in_ok-sync.ensures.ok
+    c.new-file.result file c.finish_populate.new.self made (g.F.EngineFiles.asked c.sync.new.self) c.in_ok-sync.ensures.ok
     (g.F.EngineFiles.asked c.put_items.new.files) c.in_ok-put_items.ensures.ok c.drain-told.new.self c.drain-told.ensures.emptied
-    _ c.in_ok-len.len c.in_ok-len.ensures.len refl refl refl
+    _ c.in_ok-len.len (c.in_ok-len.ensures.len ∙ ap (λ (b : Batch). encoded_length b.items b.entry_bytes) c.in_ok-telling.ensures.ok) refl refl refl
 
 pub returns-clause-ok : goal.returns-clause-ok
 returns-clause-ok g c =
     let e = c.self.inside in
     let old : List Ask = g.F.EngineFiles.asked e.files in
     let intact : e.intact ≡ true = search rules in
-    let writable : e.untold.items ≢ [] → IsWritableBatch e.untold = λ some. writable_of c.is_read_again.ensures.tiled c.is_read_again.ensures.in_range c.is_read_again.ensures.in_bytes some c.in_ok-len.ensures.accepted in
+    let writable : e.untold.items ≢ [] → IsWritableBatch e.untold = λ some. writable_of c.is_read_again.ensures.tiled c.is_read_again.ensures.in_range c.is_read_again.ensures.in_bytes some
+    (subst (λ (b : Batch). encoded_length b.items b.entry_bytes < 2 ^ 56) c.in_ok-telling.ensures.ok c.in_ok-len.ensures.accepted) in
     let file = c.new-file.ensures ∙ ap (λ (id : FileId). record { id = id; version = e.version }) c.new.ensures in
+    let made : c.finish_populate.new.self ≡ record e.untold { stage = encoded } = c.in_ok-len.ensures.ok ∙ ap (λ (b : Batch). record b { stage = encoded }) c.in_ok-telling.ensures.ok in
     subst (λ (o : KeptEngine). IsTold o (record { version = e.version; asks = g.F.EngineFiles.asked c.put_items.new.files; untold = c.drain-told.new.self; accessor = e.accessor; intact = true })) c.self.view_is
     (is_told c.asks_are_stored.ensures.synced c.asks_are_stored.ensures.told
     e.version old e.append e.rewrite e.untold e.accessor e.intact c.self.invariant intact writable
-    c.new-file.result file c.finish_populate.new.self c.in_ok-len.ensures.ok (g.F.EngineFiles.asked c.sync.new.self) c.in_ok-sync.ensures.ok
+    c.new-file.result file c.finish_populate.new.self made (g.F.EngineFiles.asked c.sync.new.self) c.in_ok-sync.ensures.ok
     (g.F.EngineFiles.asked c.put_items.new.files) c.in_ok-put_items.ensures.ok c.drain-told.new.self c.drain-told.ensures.emptied)

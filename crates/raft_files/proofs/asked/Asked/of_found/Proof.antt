@@ -1,5 +1,5 @@
 -- `of_found` makes a value of no bytes, with the list that its premise says.
-use Rattle.std.proofs.Common.{◌≡◌, ℕ, List, [], ◌∷◌, refl}
+use Rattle.std.proofs.Common.{ℕ, List, [], ◌∷◌, refl}
 use mir.Syntax.{a_type, dcons, dnil, named}
 use mir.Val.{Val, vptr, vstruct, vcons, vnil}
 use mir.MapTy.{inst_fn}
@@ -24,7 +24,6 @@ use denote.Triple.Walked.{says, Stays, stay_dropped, walk_of, ends_at, Goes-drop
 use Rattle.std.proofs.raw_atomic.Walks.{proved}
 use Rattle.raft_base.specs.declared.pipe_log.LogQueue.TheVariants.{Append, Rewrite}
 use Rattle.raft_files.specs.Asks.{Found, NumberedBytes, ask}
-use Rattle.raft_files.specs.declared.asked.Asked.{Asked}
 use Rattle.raft_files.specs.contracts.asked.Asked.of_found.{ended, clauses}
 use Rattle.raft_files.specs.contracts.asked.Asked.of_found.Key.{name as #self}
 use Rattle.raft_files.proofs.asked.Asked.of_found.Statement.{statement}

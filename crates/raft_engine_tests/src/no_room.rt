@@ -1,0 +1,194 @@
+//! Tests of an engine whose files have no room for a while: what was to be put is taken back, and the engine goes on once there
+//! is room, without being opened again.
+
+ghost use Rattle.std.specs.Prelude.{◌≡◌};
+
+use crate::batches::Part::{Delete, Entries, Put};
+use crate::batches::{Part, REGION, batch_of};
+use crate::calls::{holds, open, purge, purge_rewrites, rewrite, rewrite_again, rotate};
+use crate::reopened::holds;
+use raft_base::{FileBlockHandle, FileSeq, LogQueue, Version};
+use raft_engine::Engine;
+use raft_files::{AppendError, EngineFiles, MemoryFiles};
+use raft_records::{Error, LogBatch, Result};
+use std::alloc::Global;
+use std::io;
+use std::io::ErrorKind;
+use std::thread::Threads;
+
+/// Files in memory of which one append finds no room.
+#[derive(Drop)]
+struct FullOnce {
+    /// The files.
+    files: MemoryFiles,
+    /// How many appends come before it.
+    before: usize,
+    /// Whether it came.
+    was_full: bool,
+}
+
+impl FullOnce {
+    /// Counts an append. Returns whether there is room for it.
+    fn has_room(&mut self) -> bool
+        ensures { self.new.files ≡ self.old.files }
+    {
+        if self.before > 0 {
+            self.before -= 1;
+            return true;
+        }
+        let had = self.was_full;
+        self.was_full = true;
+        had
+    }
+}
+
+impl EngineFiles for FullOnce {
+    ghost asked = { λ f. f.files };
+
+    fn append(&mut self, queue: LogQueue, bytes: &[u8]) -> std::result::Result<(), AppendError> {
+        if self.has_room() {
+            return self.files.append(queue, bytes);
+        }
+        let full = io::Error::from(ErrorKind::StorageFull);
+        Err(AppendError::AsBefore(Error::Io(full)))
+    }
+
+    fn rotate(&mut self, queue: LogQueue, seq: FileSeq) -> Result<()> {
+        self.files.rotate(queue, seq)
+    }
+
+    fn sync(&mut self, queue: LogQueue) -> Result<()> {
+        self.files.sync(queue)
+    }
+
+    fn delete_oldest(&mut self, queue: LogQueue) -> Result<()> {
+        self.files.delete_oldest(queue)
+    }
+
+    fn truncate(&mut self, queue: LogQueue, len: u64) -> Result<()> {
+        self.files.truncate(queue, len)
+    }
+
+    fn read(&mut self, place: FileBlockHandle) -> Result<Vec<u8>> {
+        self.files.read(place)
+    }
+}
+
+/// Makes an engine over files of which one append finds no room, behind so many others.
+fn new_engine(alloc: Global, before: usize) -> Result<Engine<FullOnce>> {
+    let files = FullOnce {
+        files: MemoryFiles::new(alloc),
+        before,
+        was_full: false,
+    };
+    Engine::new(alloc, Version::V2, files)
+}
+
+/// Returns whether a call found no room and left an intact engine, so that it can be made again.
+///
+/// # Errors
+///
+/// `Failed` if it left one that isn't intact. Any other error is passed on.
+fn is_to_repeat<T: Drop>(engine: &Engine<FullOnce>, answer: Result<T>) -> Result<bool> {
+    match answer {
+        Ok(_) => Ok(false),
+        Err(Error::Io(_)) if engine.is_intact() => Ok(true),
+        Err(Error::Io(_)) => Err(Error::Failed),
+        Err(e) => Err(e),
+    }
+}
+
+fn write_whole(engine: &mut Engine<FullOnce>, batch: &mut LogBatch) -> Result<()> {
+    engine.write(batch, false)
+}
+
+/// Writes a batch of these parts; where it finds no room, once more. Returns whether it had its items in between, and none
+/// afterwards.
+fn is_written(alloc: Global, engine: &mut Engine<FullOnce>, parts: &[Part]) -> Result<bool> {
+    let mut batch = batch_of(alloc, parts)?;
+    let answer = write_whole(engine, &mut batch);
+    if is_to_repeat(engine, answer)? {
+        if batch.items().len() != parts.len() {
+            return Ok(false);
+        }
+        write_whole(engine, &mut batch)?;
+    }
+    Ok(batch.is_empty() && batch.is_open())
+}
+
+/// Moves all records to the rewrite queue; where there is no room, once more.
+fn move_all(engine: &mut Engine<FullOnce>) -> Result<()> {
+    rotate(engine)?;
+    let answer = rewrite(engine, FileSeq::MAX);
+    if is_to_repeat(engine, answer)? {
+        rewrite(engine, FileSeq::MAX)?;
+    }
+    Ok(())
+}
+
+/// Purges the append queue; where there is no room for what has to be told, once more. Returns whether one file is left.
+fn purge_all(engine: &mut Engine<FullOnce>) -> Result<bool> {
+    rotate(engine)?;
+    let answer = purge(engine);
+    if is_to_repeat(engine, answer)? {
+        purge(engine)?;
+    }
+    Ok(engine.files().files.files(LogQueue::Append).len() == 1)
+}
+
+/// Moves all records to a new rewrite file, where there is no room, once more; and purges the others. Returns whether one is
+/// left.
+fn move_again(engine: &mut Engine<FullOnce>) -> Result<bool> {
+    let answer = rewrite_again(engine);
+    if is_to_repeat(engine, answer)? {
+        rewrite_again(engine)?;
+    }
+    purge_rewrites(engine)?;
+    Ok(engine.files().files.files(LogQueue::Rewrite).len() == 1)
+}
+
+/// Writes entries and a key, moves them, deletes the key, purges and moves the entries again. Returns whether all went well.
+fn is_lived(alloc: Global, engine: &mut Engine<FullOnce>) -> Result<bool> {
+    if !is_written(alloc, engine, &[Entries(1, 3), Put("v")])? {
+        return Ok(false);
+    }
+    move_all(engine)?;
+    if !is_written(alloc, engine, &[Entries(3, 5), Delete])? {
+        return Ok(false);
+    }
+    move_all(engine)?;
+    Ok(purge_all(engine)? && move_again(engine)?)
+}
+
+/// Tests whether an engine has the entries 1 to 4, and no key.
+fn has_entries(engine: &Engine<FullOnce>) -> bool {
+    engine.first_index(REGION) == Some(1)
+        && engine.last_index(REGION) == Some(4)
+        && engine.get(REGION, b"k").is_none()
+}
+
+/// Tests whether the engine lives so where it finds no room behind so many appends, and holds what it should, before and after a
+/// restart.
+fn lives<R: Threads + Sync>(rt: &R, alloc: Global, before: usize) -> Result<bool> {
+    let mut engine = new_engine(alloc, before)?;
+    Ok(
+        is_lived(alloc, &mut engine)?
+            && engine.files().was_full
+            && has_entries(&engine)
+            && is_found(rt, alloc, &engine.files().files)?,
+    )
+}
+
+/// Tests whether an engine that is opened over copies of the files holds the entries, and no key.
+fn is_found<R: Threads + Sync>(rt: &R, alloc: Global, files: &MemoryFiles) -> Result<bool> {
+    let append = files.copies(LogQueue::Append)?;
+    let found = open(rt, alloc, append, files.copies(LogQueue::Rewrite)?)?;
+    holds(alloc, &found, "[1,5)")
+}
+
+#[test]
+fn an_engine_goes_on_once_there_is_room(rt: HostRuntime) {
+    for before in 0usize..6 {
+        assert!(rt; holds!(lives(&rt, rt.alloc(), before)), "append {before}");
+    }
+}

@@ -1,5 +1,5 @@
 -- An engine whose files failed.
-use Rattle.raft_engine.proofs.Common.{◌≡◌, ℕ, zero, suc, ◌+◌, ◌≤◌, List, [], ◌∷◌, ◌++◌, inl, inr, sym, subst, append_assoc, arith, Error, LogFileContext, LogQueue, Version, Item, Batch, Tables, Accessor, Act, Ask, Begin, Cut, Delete, Found, NoSyncFailed, Put, Read, Sync}
+use Rattle.raft_engine.proofs.Common.{◌≡◌, ℕ, zero, suc, ◌≤◌, List, [], ◌∷◌, ◌++◌, inl, inr, sym, subst, append_assoc, arith, Error, LogFileContext, LogQueue, Version, Item, Batch, Tables, Accessor, Act, Ask, Begin, Cut, Delete, Found, NoSyncFailed, Put, Read, Sync}
 use Rattle.raft_engine.proofs.Common.{Unsynced, ask, failed_act, Failures, IsKeptBy, asks_of_items, delete_asks, FailedSyncsAreStored, QueueFiles, FailsAmong, AreKeptStored, Bases, false}
 use Rattle.raft_engine.proofs.TrustLemmas.{failed_trusted, unfailed_trusted}
 

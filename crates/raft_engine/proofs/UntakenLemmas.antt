@@ -1,5 +1,5 @@
 -- Why tables take no more of the items that move.
-use Rattle.raft_engine.proofs.Common.{◌≡◌, ◌≢◌, inl, inr, ℕ, suc, ◌+◌, ◌<◌, ◌-◌, ◌^◌, true, List, [], ◌∷◌, ◌++◌, map, Option, Some, None, Result, Ok, Err, IfErr, refl, sym, ap, ◌∙◌, subst, append_assoc, map-append, AllByRecursion, option_and_then, Global, Yields, into_iter_items}
+use Rattle.raft_engine.proofs.Common.{◌≡◌, ◌≢◌, inl, inr, ℕ, suc, ◌<◌, ◌-◌, ◌^◌, true, List, [], ◌∷◌, ◌++◌, map, Option, Some, None, Result, Ok, Err, IfErr, refl, sym, ap, ◌∙◌, subst, append_assoc, map-append, AllByRecursion, option_and_then, Global, Yields, into_iter_items}
 use Rattle.raft_engine.proofs.Common.{into_iter_steps, IntoIter, IsConsecutive, IsRun, RisesFrom, EntryIndex, Error, FileBlockHandle, FileId, Rewrite, with_lengths, Content, Item, item_of, placed_item, with_offsets_from, Batch, entry_place, LogItem, Tables, with_table, Table}
 use Rattle.raft_engine.proofs.Common.{AreTableEntries, IsRunIn, is_placed_in, Accessor, AreItemsRefused, IsFor, IsWriteFault, Rewriting, after_content, after_items, none_some, Ask, placed_entries, AreCopies, moving_items, put_items, place_at, placed_at, AreTaken, AreUntaken}
 use Rattle.raft_engine.proofs.Common.{IsBatchMoving, moving_entries, moving_pairs, pairs_with, IsNextRefused, LacksRoom}

@@ -30,8 +30,8 @@ struct EntryBlock {
 ///
 /// # Errors
 ///
-/// Those of [`read_by_blocks`].
-pub fn read_alone<F: EngineFiles>(
+/// Those of [`read_entries`].
+pub fn read_one_entry<F: EngineFiles>(
     alloc: Global,
     files: &mut F,
     region: u64,
@@ -41,8 +41,8 @@ pub fn read_alone<F: EngineFiles>(
         (F.asked files.old) (F.asked files.new)) }
     ensures err { IfErr result (AreUnread F.may_fail region (entry.now ∷ []) (F.asked files.old) (F.asked files.new)) }
 {
-    let block = block_of(alloc, files, region, entry)?;
-    bytes_in(alloc, region, &block, entry)
+    let block = read_block_of(alloc, files, region, entry)?;
+    copy_entry_bytes(alloc, region, &block, entry)
 }
 
 /// Reads the bytes of entries, and returns those of each, in order. A block that holds several neighbors is read once.
@@ -51,7 +51,7 @@ pub fn read_alone<F: EngineFiles>(
 ///
 /// Those of `EngineFiles::read`; `Corruption` if an entry has no place, or what stands there is no sound block with its bytes:
 /// the text begins with the region, the index and the place then; `Memory`. Only reads were asked then.
-pub fn read_by_blocks<F: EngineFiles>(
+pub fn read_entries<F: EngineFiles>(
     alloc: Global,
     files: &mut F,
     region: u64,
@@ -64,9 +64,9 @@ pub fn read_by_blocks<F: EngineFiles>(
     let mut strings = Vec::new(alloc);
     let mut last = None;
     for entry in entries {
-        keep_block(alloc, files, region, entry, &mut last)?;
+        read_block_unless_kept(alloc, files, region, entry, &mut last)?;
         let Some(block) = &last else { unreachable!() };
-        strings.push(bytes_in(alloc, region, block, entry)?)?;
+        strings.push(copy_entry_bytes(alloc, region, block, entry)?)?;
     }
     Ok(strings)
 }
@@ -76,8 +76,8 @@ pub fn read_by_blocks<F: EngineFiles>(
 ///
 /// # Errors
 ///
-/// Those of [`read_by_blocks`].
-pub fn read_joined<F: EngineFiles>(
+/// Those of [`read_entries`].
+pub fn read_joined_entries<F: EngineFiles>(
     alloc: Global,
     files: &mut F,
     region: u64,
@@ -91,13 +91,13 @@ pub fn read_joined<F: EngineFiles>(
     if entries.is_empty() {
         return Ok(Vec::new(alloc));
     }
-    let room = parts::bytes_of(entries).min(MAX_REWRITE_BATCH_BYTES) as usize;
+    let room = parts::sum_entry_bytes(entries).min(MAX_REWRITE_BATCH_BYTES) as usize;
     let mut joined = Vec::with_capacity(alloc, room)?;
     let mut last = None;
     for entry in entries {
-        keep_block(alloc, files, region, entry, &mut last)?;
+        read_block_unless_kept(alloc, files, region, entry, &mut last)?;
         let Some(block) = &last else { unreachable!() };
-        push_bytes(&mut joined, region, block, entry)?;
+        push_entry_bytes(&mut joined, region, block, entry)?;
     }
     Ok(joined)
 }
@@ -106,8 +106,8 @@ pub fn read_joined<F: EngineFiles>(
 ///
 /// # Errors
 ///
-/// Those of [`read_by_blocks`]. `kept` is unchanged then.
-fn keep_block<F: EngineFiles>(
+/// Those of [`read_entries`]. `kept` is unchanged then.
+fn read_block_unless_kept<F: EngineFiles>(
     alloc: Global,
     files: &mut F,
     region: u64,
@@ -120,14 +120,14 @@ fn keep_block<F: EngineFiles>(
     ensures err { IfErr result (IsNoBlockOf F.may_fail region entry.now kept.old (F.asked files.old)
         (F.asked files.new)) }
 {
-    if !is_kept(kept, entry) {
-        *kept = Some(block_of(alloc, files, region, entry)?);
+    if !holds_block_of(kept, entry) {
+        *kept = Some(read_block_of(alloc, files, region, entry)?);
     }
     Ok(())
 }
 
 /// Tests whether `kept` is the block at the place of the entry.
-fn is_kept(kept: &Option<EntryBlock>, entry: &EntryIndex) -> bool
+fn holds_block_of(kept: &Option<EntryBlock>, entry: &EntryIndex) -> bool
     ensures { IsTrue result ↔ IsKeptOf entry.now kept.now }
 {
     match kept {
@@ -140,8 +140,8 @@ fn is_kept(kept: &Option<EntryBlock>, entry: &EntryIndex) -> bool
 ///
 /// # Errors
 ///
-/// Those of [`read_by_blocks`].
-fn block_of<F: EngineFiles>(
+/// Those of [`read_entries`].
+fn read_block_of<F: EngineFiles>(
     alloc: Global,
     files: &mut F,
     region: u64,
@@ -153,21 +153,21 @@ fn block_of<F: EngineFiles>(
     ensures err { IfErr result (IsUnreadOf F.may_fail region entry.now (F.asked files.old) (F.asked files.new)) }
 {
     let Some(place) = entry.entries else {
-        return Err(of_no_place(alloc, region, entry.index));
+        return Err(no_place_error(alloc, region, entry.index));
     };
     let mut entries = files.read(place)?;
-    match entries_len(alloc, entries.as_slice(), place.len, entry.compression_type) {
+    match checked_entries_len(alloc, entries.as_slice(), place.len, entry.compression_type) {
         Ok(len) => {
             entries.truncate(len);
             Ok(EntryBlock { place, entries })
         }
-        Err(unsound) => Err(of_entry(alloc, region, entry.index, place, unsound)),
+        Err(unsound) => Err(name_entry_in_error(alloc, region, entry.index, place, unsound)),
     }
 }
 
 /// Returns the error for an entry that has no place: `Corruption`, which names the region and the index, or `Memory`.
 #[inline(never)]
-fn of_no_place(alloc: Global, region: u64, index: u64) -> Error
+fn no_place_error(alloc: Global, region: u64, index: u64) -> Error
     ensures { IsAnyCorruption result }
 {
     let text = format!(in alloc; "region {region}, index {index}: the entry has no place");
@@ -183,7 +183,7 @@ fn of_no_place(alloc: Global, region: u64, index: u64) -> Error
 /// # Errors
 ///
 /// `Corruption` if it isn't; `Memory`.
-fn entries_len(
+fn checked_entries_len(
     alloc: Global,
     block: &[u8],
     len: usize,
@@ -203,7 +203,12 @@ fn entries_len(
 /// # Errors
 ///
 /// `Corruption` if they would end after the block; `Memory`.
-fn bytes_in(alloc: Global, region: u64, block: &EntryBlock, entry: &EntryIndex) -> Result<Vec<u8>>
+fn copy_entry_bytes(
+    alloc: Global,
+    region: u64,
+    block: &EntryBlock,
+    entry: &EntryIndex,
+) -> Result<Vec<u8>>
     ensures ok { IfOk result (λ bytes. AreBytesIn block.now.entries.items entry.now bytes.items) }
     ensures err { IfErr result
         (AreNoBytesIn region block.now.place block.now.entries.items entry.now) }
@@ -211,7 +216,7 @@ fn bytes_in(alloc: Global, region: u64, block: &EntryBlock, entry: &EntryIndex) 
     let begin = entry.entry_offset as usize;
     let end = begin + entry.entry_len as usize;
     if block.entries.len() < end {
-        return Err(of_lacking(alloc, region, block, entry));
+        return Err(short_block_error(alloc, region, block, entry));
     }
     Ok(Vec::from_slice(alloc, &block.entries[begin..end])?)
 }
@@ -221,7 +226,7 @@ fn bytes_in(alloc: Global, region: u64, block: &EntryBlock, entry: &EntryIndex) 
 /// # Errors
 ///
 /// `Corruption` if they would end after the block; `Memory`. Nothing is appended then.
-fn push_bytes(
+fn push_entry_bytes(
     joined: &mut Vec<u8>,
     region: u64,
     block: &EntryBlock,
@@ -237,7 +242,7 @@ fn push_bytes(
     let begin = entry.entry_offset as usize;
     let end = begin + entry.entry_len as usize;
     if block.entries.len() < end {
-        return Err(of_lacking(*joined.allocator(), region, block, entry));
+        return Err(short_block_error(*joined.allocator(), region, block, entry));
     }
     Ok(joined.extend_from_slice(&block.entries[begin..end])?)
 }
@@ -245,19 +250,25 @@ fn push_bytes(
 /// Returns the error for an entry whose bytes would end after its block: `Corruption`, which names the entry and the place, or
 /// `Memory`.
 #[inline(never)]
-fn of_lacking(alloc: Global, region: u64, block: &EntryBlock, entry: &EntryIndex) -> Error
+fn short_block_error(alloc: Global, region: u64, block: &EntryBlock, entry: &EntryIndex) -> Error
     requires { length block.now.entries.items < entry.now.entry_offset + entry.now.entry_len }
     ensures { AreNoBytesIn region block.now.place block.now.entries.items entry.now result }
 {
     match entry_bytes(alloc, block.entries.as_slice(), entry) {
         Ok(_) => unreachable!(),
-        Err(error) => of_entry(alloc, region, entry.index, block.place, error),
+        Err(error) => name_entry_in_error(alloc, region, entry.index, block.place, error),
     }
 }
 
 /// Returns `error` with the entry that it is about: the text of a `Corruption` gets the region, the index and the place at its
 /// start; any other error is unchanged. Returns `Memory` if there is none for the text.
-fn of_entry(alloc: Global, region: u64, index: u64, place: FileBlockHandle, error: Error) -> Error
+fn name_entry_in_error(
+    alloc: Global,
+    region: u64,
+    index: u64,
+    place: FileBlockHandle,
+    error: Error,
+) -> Error
     ensures { IsOfEntry region index place error result }
 {
     let Error::Corruption(reason) = error else {

@@ -33,13 +33,13 @@ pub fn check_blocks(file: &FilePart, tail: &Option<CutTail>) -> Result<()>
 {
     match file.id().queue {
         LogQueue::Append => Ok(()),
-        LogQueue::Rewrite => check_all(file, batches_end(file, tail)),
+        LogQueue::Rewrite => check_all_blocks(file, end_of_batches(file, tail)),
     }
 }
 
 /// Returns the position at which the batches of a file with this tail end: that of the tail, or the end of the file without
 /// one.
-pub(crate) fn batches_end(file: &FilePart, tail: &Option<CutTail>) -> usize
+pub(crate) fn end_of_batches(file: &FilePart, tail: &Option<CutTail>) -> usize
     requires { IsTornAs file.now tail.now }
     ensures { StopsAt file.now result }
 {
@@ -54,7 +54,7 @@ pub(crate) fn batches_end(file: &FilePart, tail: &Option<CutTail>) -> usize
 /// # Errors
 ///
 /// Those of [`check_blocks`], for the first batch with damaged entries.
-fn check_all(file: &FilePart, end: usize) -> Result<()>
+fn check_all_blocks(file: &FilePart, end: usize) -> Result<()>
     requires { StopsAt file.now end }
     ensures ok { OnOk result (AreBlocksSound file.now) }
     ensures refused { IfErr result (λ e. e ≢ Error.Memory → IsUnsoundAs file.now e) }

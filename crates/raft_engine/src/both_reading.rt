@@ -13,8 +13,8 @@ ghost use Rattle.raft_engine.specs.ReadQueues.{AreBothReadUpTo, HaveBothRead, Ha
 
 use crate::both::{Both, BothFactory};
 use crate::group_rows::{GroupRows, GroupRowsFactory, OUT_OF_ROW};
-use crate::queue_reading::{LEAST_SHARE, QueueRead, bytes_of, read_queue};
-use crate::segments::check_few;
+use crate::queue_reading::{LEAST_SHARE, QueueRead, read_queue, sum_segment_bytes};
+use crate::segments::check_few_bytes;
 use raft_base::{Error, LogQueue, Result};
 use raft_contexts::{MemTableRecoverContext, MemTableRecoverContextFactory};
 use raft_recover::recovery::part_of_workers;
@@ -49,8 +49,8 @@ pub fn read_both<R: Threads + Sync>(
 {
     check_arguments(alloc, rewrite, LogQueue::Rewrite, workers)?;
     check_arguments(alloc, append, LogQueue::Append, workers)?;
-    check_few(append)?;
-    check_few(rewrite)?;
+    check_few_bytes(append)?;
+    check_few_bytes(rewrite)?;
     let (rewritten, appended) = read_queues(rt, alloc, rewrite, append, workers)?;
     let QueueRead { machine, tail } = rewritten;
     let Both { first, second } = machine;
@@ -91,13 +91,13 @@ fn read_queues<R: Threads + Sync>(
     ensures appended { (version : Version) (files : List NumberedBytes) → AreWholeFiles Append version files append.now
         → IfOk result (λ both. IsReadUpTo HasRead HasReadExactly Append version files both.1.machine both.1.tail) }
 {
-    let rewrite_bytes = bytes_of(rewrite);
+    let rewrite_bytes = sum_segment_bytes(rewrite);
     if workers == 1 || rewrite_bytes < LEAST_SHARE {
         let rewritten = read_rewrite(rt, alloc, rewrite, workers)?;
         let appended = read_append(rt, alloc, append, workers)?;
         return Ok((rewritten, appended));
     }
-    let rewriters = part_of_workers(workers, rewrite_bytes, bytes_of(append));
+    let rewriters = part_of_workers(workers, rewrite_bytes, sum_segment_bytes(append));
     let appenders = workers - rewriters;
     let read_first = || -> Result<QueueRead<Both<MemTableRecoverContext, GroupRows>>>
         requires { IsSync R.row × MayReplay Rewrite rewriters rewrite.now }

@@ -10,7 +10,7 @@ ghost use Rattle.raft_engine.specs.DamagedBatches.{AreDamagedBatches, IsDamagedB
 ghost use Rattle.raft_engine.specs.DamagedStretches.{AreDamagedBetween, AreReached, IsGathered, IsReachedAt};
 ghost use Rattle.raft_engine.specs.SoundBlocks.{IsUnsoundAt};
 
-use crate::blocks::{DAMAGED_ENTRIES, HEADER_LEN, batches_end};
+use crate::blocks::{DAMAGED_ENTRIES, HEADER_LEN, end_of_batches};
 use crate::found::unless_memory;
 use crate::queue_reading::LEAST_SHARE;
 use crate::recovered::{CutTail, DamagedBatch};
@@ -35,7 +35,7 @@ pub fn damaged_batches<R: Threads + Sync>(
     ensures ok { IfOk result (λ damaged. AreDamagedBatches file.now damaged.items) }
     ensures memory { IfErr result (λ e. e ≡ Error.Memory) }
 {
-    gather_at_once(rt, file, 0, batches_end(file, tail), workers)
+    gather_at_once(rt, file, 0, end_of_batches(file, tail), workers)
 }
 
 /// Returns the batches of `file` before `tail` whose entries are damaged, in order, as [`damaged_batches`] does, but on the
@@ -49,7 +49,7 @@ pub fn damaged_batches_alone(file: &FilePart, tail: &Option<CutTail>) -> Result<
     ensures ok { IfOk result (λ damaged. AreDamagedBatches file.now damaged.items) }
     ensures memory { IfErr result (λ e. e ≡ Error.Memory) }
 {
-    gather(file, 0, batches_end(file, tail))
+    gather_damaged(file, 0, end_of_batches(file, tail))
 }
 
 /// Returns the batches with damaged entries between the positions `from` and `end` of a file, in order. A long stretch is
@@ -70,9 +70,9 @@ fn gather_at_once<R: Threads + Sync>(
     ensures memory { IfErr result (λ e. e ≡ Error.Memory) }
 {
     if workers < 2 || end - from < LEAST_SHARE {
-        return gather(file, from, end);
+        return gather_damaged(file, from, end);
     }
-    let middle = middle_between(file, from, end)?;
+    let middle = batch_end_past_middle(file, from, end)?;
     let first_half = workers / 2;
     let second_half = workers - first_half;
     let front = || -> Result<Vec<DamagedBatch>>
@@ -97,7 +97,7 @@ fn gather_at_once<R: Threads + Sync>(
 /// # Errors
 ///
 /// `Memory` alone.
-fn middle_between(file: &FilePart, from: usize, end: usize) -> Result<usize>
+fn batch_end_past_middle(file: &FilePart, from: usize, end: usize) -> Result<usize>
     requires { AreReached file.now from end }
     ensures ok { IfOk result (λ middle. AreReached file.now from middle × AreReached file.now middle end) }
     ensures memory { IfErr result (λ e. e ≡ Error.Memory) }
@@ -131,7 +131,7 @@ fn end_of_batch(file: &FilePart, at: usize) -> Result<usize>
 /// # Errors
 ///
 /// `Memory` alone.
-fn gather(file: &FilePart, from: usize, end: usize) -> Result<Vec<DamagedBatch>>
+fn gather_damaged(file: &FilePart, from: usize, end: usize) -> Result<Vec<DamagedBatch>>
     requires { AreReached file.now from end }
     ensures ok { IfOk result (λ damaged. AreDamagedBetween file.now from end damaged.items) }
     ensures memory { IfErr result (λ e. e ≡ Error.Memory) }
@@ -139,7 +139,7 @@ fn gather(file: &FilePart, from: usize, end: usize) -> Result<Vec<DamagedBatch>>
     let mut damaged = Vec::new(file.allocator());
     let mut at = from;
     while at < end {
-        at = gather_one(file, at, &mut damaged)?;
+        at = gather_if_damaged(file, at, &mut damaged)?;
     }
     Ok(damaged)
 }
@@ -150,7 +150,7 @@ fn gather(file: &FilePart, from: usize, end: usize) -> Result<Vec<DamagedBatch>>
 /// # Errors
 ///
 /// `Memory` alone. Nothing is added then.
-fn gather_one(file: &FilePart, at: usize, damaged: &mut Vec<DamagedBatch>) -> Result<usize>
+fn gather_if_damaged(file: &FilePart, at: usize, damaged: &mut Vec<DamagedBatch>) -> Result<usize>
     requires { IsReachedAt file.now at }
     ensures ok { IfOk result (λ end. (items : List Item) (next : ℕ) → IsBatchAt file.now at items next → end ≡ next) }
     ensures gathered { OnOk result (IsGathered file.now at damaged.old.items damaged.new.items) }

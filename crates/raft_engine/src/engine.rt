@@ -27,17 +27,17 @@ ghost use Rattle.raft_engine.specs.Purged.{ArePurged, IsUnpurged};
 ghost use Rattle.raft_engine.specs.WrittenBatch.{IsNextRefused, IsOneMore, IsOnlySynced, IsRotated, IsUnrotated, IsUnsynced, IsUnwritten, LacksRoom};
 
 use crate::limits::{FIRST_SEQ, LAST_OFFSET};
-use crate::opened::complete;
-use crate::put::{sync_if, try_put};
+use crate::opened::ask_for_missing;
+use crate::put::{sync_append_if, try_put};
 use crate::queue_files::QueueFiles;
 use crate::read_back::batches_are_read_back;
-use crate::reading::{Reading, read_found};
+use crate::reading::{Reading, read_found_files};
 use crate::recovered::{DamagedBatch, Recovered};
 use crate::recovery_mode::RecoveryMode;
 use crate::stored::{asks_are_stored, what_is_done_lasts};
 use crate::stored_found::found_files_are_stored;
 use crate::unopened::{Opened, Unopened};
-use crate::untold::taken_away;
+use crate::untold::removals_by_items;
 use raft_accessor::MemTableAccessor;
 use raft_accessor::accessor::accepted_items_lack_room_alone;
 use raft_base::{Error, FileId, FileSeq, LogFileContext, LogQueue, Result, Version};
@@ -234,7 +234,7 @@ impl<F: EngineFiles> Engine<F> {
         ensures err { IfErr result (λ unopened. IsUnopened (AreUnrecoveredAs version workers) F.may_fail mode version
             (map file_shown append.items) (map file_shown rewrite.items) (F.asked unopened.files) unopened.error) }
     {
-        match read_found(rt, alloc, mode, version, append, rewrite, workers) {
+        match read_found_files(rt, alloc, mode, version, append, rewrite, workers) {
             Ok(read) => Engine::of_reading(version, files, read.reading, read.damaged),
             Err(error) => Err(Unopened { files, error }),
         }
@@ -270,7 +270,7 @@ impl<F: EngineFiles> Engine<F> {
     {
         found_files_are_stored();
         let (mut files, mut reading) = (files, reading);
-        match complete(&mut files, version, &mut reading) {
+        match ask_for_missing(&mut files, version, &mut reading) {
             Ok(()) => {
                 reading.rewrite.len += reading.told_len as u64;
                 let recovered = Recovered {
@@ -459,7 +459,7 @@ impl<F: EngineFiles> Engine<F> {
         if self.append.len > LAST_OFFSET {
             return Err(Error::Full);
         }
-        let mut taken = taken_away(self.append.allocator(), &self.accessor, batch.items())?;
+        let mut taken = removals_by_items(self.append.allocator(), &self.accessor, batch.items())?;
         let len = make_bytes(batch)?;
         let file = LogFileContext::new(
             FileId::new(LogQueue::Append, self.append.seq),
@@ -474,8 +474,8 @@ impl<F: EngineFiles> Engine<F> {
             &mut self.intact,
         )?;
         self.intact = false;
-        sync_if(&mut self.files, sync)?;
-        apply(&mut self.accessor, batch)?;
+        sync_append_if(&mut self.files, sync)?;
+        apply_batch(&mut self.accessor, batch)?;
         self.untold.merge(&mut taken)?;
         self.append.len += len as u64;
         self.intact = true;
@@ -497,7 +497,7 @@ impl<F: EngineFiles> Engine<F> {
         ensures accepted { OnOk result (self.old.intact ≡ true) }
         ensures err { IfErr result (IsUnpurged F.may_fail self.old self.new) }
     {
-        self.purge(LogQueue::Append)
+        self.purge_queue(LogQueue::Append)
     }
 }
 
@@ -528,7 +528,7 @@ fn make_bytes(batch: &mut LogBatch) -> Result<usize>
 ///
 /// Those of `apply_append_writes`; only `Memory` and `Full` if the tables accept the items. The first ones of the items are
 /// written then, and the batch is empty too.
-fn apply(accessor: &mut MemTableAccessor, batch: &mut LogBatch) -> Result<()>
+fn apply_batch(accessor: &mut MemTableAccessor, batch: &mut LogBatch) -> Result<()>
     ensures ok { OnOk result (AreWritten Appending batch.old.items accessor.old accessor.new) }
     ensures room { AreAccepted accessor.old.tables batch.old.items → IfErr result LacksRoom }
     ensures fault { IfErr result

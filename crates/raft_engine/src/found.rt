@@ -69,14 +69,14 @@ pub fn check_next(alloc: Global, queue: LogQueue, last: FileSeq, next: FileSeq) 
         return Err(Error::corruption(alloc, NOT_ABOVE));
     }
     if next - last > 1 {
-        return Err(missing_file(alloc, queue, last, next));
+        return Err(missing_file_error(alloc, queue, last, next));
     }
     Ok(())
 }
 
 /// Returns the error for a queue in which at least one file is missing between the files `last` and `next`: `Corruption`,
 /// which names the first one missing, or `Memory` if there is none for the text.
-fn missing_file(alloc: Global, queue: LogQueue, last: FileSeq, next: FileSeq) -> Error
+fn missing_file_error(alloc: Global, queue: LogQueue, last: FileSeq, next: FileSeq) -> Error
     requires { suc last < next }
     ensures { IsCorruption (missing_text queue last next) result }
 {
@@ -226,24 +226,24 @@ pub fn check_beginning(file: &FilePart, at: usize) -> Result<()>
     if at != 0 {
         return Ok(());
     }
-    if is_of_engine(file) {
-        return Err(of_engine(file));
+    if has_raft_engine_header(file) {
+        return Err(raft_engine_file_error(file));
     }
-    if begins_in_other(file)? {
+    if begins_in_other_version(file)? {
         return Err(corruption_at(file.allocator(), file.id(), 0, OF_OTHER_VERSION));
     }
     Ok(())
 }
 
 /// Tests whether a file begins with the header of raft-engine's files.
-fn is_of_engine(file: &FilePart) -> bool
+fn has_raft_engine_header(file: &FilePart) -> bool
     ensures { IsTrue result ↔ IsOfEngine file.now }
 {
     file.bytes().starts_with(ENGINE_HEADER)
 }
 
 /// Returns the error for a file of raft-engine: `InvalidArgument`, which names the place, or `Memory`.
-fn of_engine(file: &FilePart) -> Error
+fn raft_engine_file_error(file: &FilePart) -> Error
     ensures { IsArgumentRefusal (place_text file.now.id 0 ++ codes "the file is one of raft-engine, which begins with a header") result }
 {
     match corruption_at(file.allocator(), file.id(), 0, OF_ENGINE) {
@@ -257,11 +257,11 @@ fn of_engine(file: &FilePart) -> Error
 /// # Errors
 ///
 /// `Memory` alone.
-fn begins_in_other(file: &FilePart) -> Result<bool>
+fn begins_in_other_version(file: &FilePart) -> Result<bool>
     ensures ok { IfOk result (λ begins. IsTrue begins ↔ BeginsInOther file.now) }
     ensures memory { IfErr result (λ e. e ≡ Error.Memory) }
 {
-    let context = LogFileContext::new(file.id(), other(file.version()));
+    let context = LogFileContext::new(file.id(), version_other_than(file.version()));
     match next_in(file.allocator(), &context, file.offset(), file.bytes(), 0) {
         Ok(next) => Ok(next.is_some()),
         Err(error) => {
@@ -272,7 +272,7 @@ fn begins_in_other(file: &FilePart) -> Result<bool>
 }
 
 /// Returns the version that `version` isn't.
-fn other(version: Version) -> Version
+fn version_other_than(version: Version) -> Version
     ensures { result ≡ other_version version }
 {
     match version {

@@ -74,24 +74,24 @@ impl FoundQueue {
     /// # Errors
     ///
     /// `Memory` alone.
-    pub fn tail(&self) -> Result<Option<CutTail>>
+    pub fn find_tail(&self) -> Result<Option<CutTail>>
         ensures ok { (queue : LogQueue) (version : Version) (files : List NumberedBytes) → IsFoundQueue queue version files self.now
             → IfOk result (IsTailTold queue version files) }
         ensures memory { IfErr result (λ e. e ≡ Error.Memory) }
     {
-        match last_part(self.segments.as_slice()) {
+        match last_file_part(self.segments.as_slice()) {
             Some(last) => tail_of(last),
             None => Ok(None),
         }
     }
 
     /// Returns the batches of the last file, before its `tail`, whose entries are damaged, in order. They are looked for by
-    /// `workers` threads. `tail` is what [`FoundQueue::tail`] returns.
+    /// `workers` threads. `tail` is what [`FoundQueue::find_tail`] returns.
     ///
     /// # Errors
     ///
     /// `Memory` alone.
-    pub fn damaged<R: Threads + Sync>(
+    pub fn find_damaged<R: Threads + Sync>(
         &self,
         rt: &R,
         tail: &Option<CutTail>,
@@ -103,26 +103,26 @@ impl FoundQueue {
             → IfOk result (λ damaged. AreDamagedTold version files damaged.items) }
         ensures memory { IfErr result (λ e. e ≡ Error.Memory) }
     {
-        match last_part(self.segments.as_slice()) {
+        match last_file_part(self.segments.as_slice()) {
             Some(last) => damaged_batches(rt, last, tail, workers),
             None => Ok(Vec::new(self.known.allocator())),
         }
     }
 
     /// Returns the batches of the last file, before its `tail`, whose entries are damaged, in order, as
-    /// [`FoundQueue::damaged`] does, but on the caller's thread. `tail` is what [`FoundQueue::tail`] returns.
+    /// [`FoundQueue::find_damaged`] does, but on the caller's thread. `tail` is what [`FoundQueue::find_tail`] returns.
     ///
     /// # Errors
     ///
     /// `Memory` alone.
-    pub fn damaged_alone(&self, tail: &Option<CutTail>) -> Result<Vec<DamagedBatch>>
+    pub fn find_damaged_alone(&self, tail: &Option<CutTail>) -> Result<Vec<DamagedBatch>>
         requires { (queue : LogQueue) × (version : Version) × (files : List NumberedBytes)
             × IsFoundQueue queue version files self.now × IsTailTold queue version files tail.now }
         ensures ok { (version : Version) (files : List NumberedBytes) → IsFoundQueue Append version files self.now
             → IfOk result (λ damaged. AreDamagedTold version files damaged.items) }
         ensures memory { IfErr result (λ e. e ≡ Error.Memory) }
     {
-        match last_part(self.segments.as_slice()) {
+        match last_file_part(self.segments.as_slice()) {
             Some(last) => damaged_batches_alone(last, tail),
             None => Ok(Vec::new(self.known.allocator())),
         }
@@ -130,13 +130,13 @@ impl FoundQueue {
 
     /// Checks that the found files may be opened in `mode`. Returns what has to be asked before anything can be put after them
     /// (a first file, or the cut of `tail`), with what is known of the files once that is done; and their segments, unchanged.
-    /// Nothing is asked of the files yet. `tail` is what [`FoundQueue::tail`] returned.
+    /// Nothing is asked of the files yet. `tail` is what [`FoundQueue::find_tail`] returned.
     ///
     /// # Errors
     ///
     /// `Corruption` if `mode` doesn't allow that tail to be cut, the last file is of the other version, or a batch of the last
     /// rewrite file has damaged entries; `InvalidArgument` if the last file is one of raft-engine; `Memory`.
-    pub fn ready(
+    pub fn into_ready(
         self,
         mode: RecoveryMode,
         tail: Option<CutTail>,
@@ -150,8 +150,8 @@ impl FoundQueue {
             → IsTailTold queue version files tail → IfErr result (λ e. e ≢ Error.Memory → IsFoundFault mode queue version files e) }
     {
         let FoundQueue { segments, known } = self;
-        let missing = missing_of(mode, segments.as_slice(), tail)?;
-        let known = known_with(known, &missing);
+        let missing = find_missing(mode, segments.as_slice(), tail)?;
+        let known = known_after_asking(known, &missing);
         Ok((ReadyQueue { missing, known }, segments))
     }
 }
@@ -174,7 +174,7 @@ fn known_files(files: &Vec<(FileSeq, Vec<u8>)>) -> Result<QueueFiles>
 
 /// Returns what is known of files once `missing` was asked, given what is known of them before: a cut makes the last one
 /// shorter.
-fn known_with(known: QueueFiles, missing: &Missing) -> QueueFiles
+fn known_after_asking(known: QueueFiles, missing: &Missing) -> QueueFiles
     ensures { result ≡ known_with missing.now known }
 {
     match missing {
@@ -187,7 +187,7 @@ fn known_with(known: QueueFiles, missing: &Missing) -> QueueFiles
 }
 
 /// Returns the last file of a queue as a part. `None` if the queue has no file.
-pub fn last_part(segments: &[Segment]) -> Option<&FilePart>
+pub fn last_file_part(segments: &[Segment]) -> Option<&FilePart>
     ensures { (queue : LogQueue) (version : Version) (files : List NumberedBytes) → AreWholeFiles queue version files segments.now
         → MatchOption result (files ≡ []) (λ part. IsLastOf queue version files part.now) }
 {
@@ -201,7 +201,7 @@ pub fn last_part(segments: &[Segment]) -> Option<&FilePart>
 /// # Errors
 ///
 /// Those of [`check_tail`] and of [`check_blocks`].
-fn missing_of(mode: RecoveryMode, segments: &[Segment], tail: Option<CutTail>) -> Result<Missing>
+fn find_missing(mode: RecoveryMode, segments: &[Segment], tail: Option<CutTail>) -> Result<Missing>
     requires { (queue : LogQueue) × (version : Version) × (files : List NumberedBytes)
         × AreWholeFiles queue version files segments.now × IsTailTold queue version files tail }
     ensures ok { (queue : LogQueue) (version : Version) (files : List NumberedBytes) → AreWholeFiles queue version files segments.now
@@ -209,7 +209,7 @@ fn missing_of(mode: RecoveryMode, segments: &[Segment], tail: Option<CutTail>) -
     ensures fault { (queue : LogQueue) (version : Version) (files : List NumberedBytes) → AreWholeFiles queue version files segments.now
         → IsTailTold queue version files tail → IfErr result (λ e. e ≢ Error.Memory → IsFoundFault mode queue version files e) }
 {
-    let Some(last) = last_part(segments) else {
+    let Some(last) = last_file_part(segments) else {
         return Ok(Missing::FirstFile);
     };
     check_tail(mode, last, &tail)?;
@@ -241,8 +241,8 @@ pub fn complete_segments(
 {
     match missing {
         Missing::Nothing => Ok(()),
-        Missing::FirstFile => add_first(queue, version, segments),
-        Missing::Cut(tail) => cut_last(segments, tail.offset as usize),
+        Missing::FirstFile => add_first_segment(queue, version, segments),
+        Missing::Cut(tail) => cut_last_segment(segments, tail.offset as usize),
     }
 }
 
@@ -251,7 +251,7 @@ pub fn complete_segments(
 /// # Errors
 ///
 /// `Memory` alone.
-fn add_first(queue: LogQueue, version: Version, segments: &mut Vec<Segment>) -> Result<()>
+fn add_first_segment(queue: LogQueue, version: Version, segments: &mut Vec<Segment>) -> Result<()>
     ensures ok { OnOk result (AreWholeFiles queue version [] segments.old.items
         → AreWholeFiles queue version ((1, []) ∷ []) segments.new.items) }
     ensures memory { IfErr result (λ e. e ≡ Error.Memory) }
@@ -269,7 +269,7 @@ fn add_first(queue: LogQueue, version: Version, segments: &mut Vec<Segment>) -> 
 /// # Errors
 ///
 /// `Memory` alone. The file may be lost then.
-fn cut_last(segments: &mut Vec<Segment>, at: usize) -> Result<()>
+fn cut_last_segment(segments: &mut Vec<Segment>, at: usize) -> Result<()>
     requires { (queue : LogQueue) × (version : Version) × (closed : List NumberedBytes) × (last : NumberedBytes)
         × AreWholeFiles queue version (closed ++ last ∷ []) segments.old.items × (at ≤ length last.1) }
     ensures ok { (queue : LogQueue) (version : Version) (files : List NumberedBytes) → AreWholeFiles queue version files segments.old.items

@@ -12,8 +12,8 @@ ghost use Rattle.raft_engine.specs.Reads.{AreOnlyRead};
 ghost use Rattle.raft_engine.specs.Rewriting.{with_puts};
 ghost use Rattle.raft_engine.specs.Unmoved.{AreKeysRefused};
 
-use crate::block_reads::read_joined;
-use crate::parts::part_len;
+use crate::block_reads::read_joined_entries;
+use crate::parts::count_in_next_part;
 use crate::rewriting::{entries_to_move, pairs_to_move, put_pairs};
 use raft_base::{EntryIndex, Error, Result};
 use raft_files::EngineFiles;
@@ -22,14 +22,14 @@ use raft_table::MemTable;
 use std::alloc::Global;
 
 /// Returns the batches of the atomic group numbered `group` that move what a table has in rewrite files: a Begin, a batch for
-/// each part of the entries (see [`part_len`]), and an End with the keys. It reads the bytes of the entries, each block of a
+/// each part of the entries (see [`count_in_next_part`]), and an End with the keys. It reads the bytes of the entries, each block of a
 /// part once for all neighbors in it.
 ///
 /// # Errors
 ///
-/// Those of [`read_joined`]; `Full` if the entries of a part have 2^31 bytes or more; `InvalidArgument` if a key is that of
+/// Those of [`read_joined_entries`]; `Full` if the entries of a part have 2^31 bytes or more; `InvalidArgument` if a key is that of
 /// the group markers; `Memory`. Only reads were asked then.
-pub fn moving_group<F: EngineFiles>(
+pub fn moving_group_batches<F: EngineFiles>(
     alloc: Global,
     files: &mut F,
     table: &MemTable,
@@ -46,15 +46,15 @@ pub fn moving_group<F: EngineFiles>(
     let region = table.region_id();
     let mut builder = AtomicGroupBuilder::with_id(group);
     let mut batches = Vec::new(alloc);
-    batches.push(begin_batch(alloc, &mut builder)?)?;
-    push_parts(
+    batches.push(new_begin_batch(alloc, &mut builder)?)?;
+    push_part_batches(
         files,
         region,
         entries.as_slice(),
         &mut builder,
         &mut batches,
     )?;
-    batches.push(end_batch(alloc, region, pairs, &mut builder)?)?;
+    batches.push(new_end_batch(alloc, region, pairs, &mut builder)?)?;
     Ok(batches)
 }
 
@@ -63,7 +63,7 @@ pub fn moving_group<F: EngineFiles>(
 /// # Errors
 ///
 /// `Memory` alone.
-fn begin_batch(alloc: Global, builder: &mut AtomicGroupBuilder) -> Result<LogBatch>
+fn new_begin_batch(alloc: Global, builder: &mut AtomicGroupBuilder) -> Result<LogBatch>
     requires { builder.old.state ≡ None }
     ensures ok { IfOk result (λ batch. batch ≡ marker_batch builder.old.id Begin) }
     ensures state { OnOk result (builder.new ≡ record builder.old { state = Some Begin }) }
@@ -79,9 +79,9 @@ fn begin_batch(alloc: Global, builder: &mut AtomicGroupBuilder) -> Result<LogBat
 ///
 /// # Errors
 ///
-/// Those of [`read_joined`]; `Full` if the entries of a part have 2^31 bytes or more. Only reads were asked then, and some
+/// Those of [`read_joined_entries`]; `Full` if the entries of a part have 2^31 bytes or more. Only reads were asked then, and some
 /// batches may have been added.
-fn push_parts<F: EngineFiles>(
+fn push_part_batches<F: EngineFiles>(
     files: &mut F,
     region: u64,
     entries: &[EntryIndex],
@@ -100,8 +100,8 @@ fn push_parts<F: EngineFiles>(
 {
     let mut rest = entries;
     while !rest.is_empty() {
-        let (part, behind) = rest.split_at(part_len(rest));
-        batches.push(part_batch(*batches.allocator(), files, region, part, builder)?)?;
+        let (part, behind) = rest.split_at(count_in_next_part(rest));
+        batches.push(new_part_batch(*batches.allocator(), files, region, part, builder)?)?;
         rest = behind;
     }
     Ok(())
@@ -112,8 +112,8 @@ fn push_parts<F: EngineFiles>(
 ///
 /// # Errors
 ///
-/// Those of [`read_joined`]; `Full` if the bytes of the entries are 2^31 or more. Only reads were asked then.
-fn part_batch<F: EngineFiles>(
+/// Those of [`read_joined_entries`]; `Full` if the bytes of the entries are 2^31 or more. Only reads were asked then.
+fn new_part_batch<F: EngineFiles>(
     alloc: Global,
     files: &mut F,
     region: u64,
@@ -130,7 +130,7 @@ fn part_batch<F: EngineFiles>(
     ensures refused { IfErr result (λ e. e ≢ Error.Memory → IsPartRefused F.may_fail region entries.now
         (F.asked files.old) (F.asked files.new) e) }
 {
-    let bytes = read_joined(alloc, files, region, entries)?;
+    let bytes = read_joined_entries(alloc, files, region, entries)?;
     let mut batch = LogBatch::default(alloc);
     builder.add(&mut batch)?;
     batch.add_joined_entries(region, Vec::from_slice(alloc, entries)?, bytes.as_slice())?;
@@ -142,7 +142,7 @@ fn part_batch<F: EngineFiles>(
 /// # Errors
 ///
 /// `InvalidArgument` if a key is that of the group markers; `Memory`.
-fn end_batch(
+fn new_end_batch(
     alloc: Global,
     region: u64,
     pairs: Vec<(Vec<u8>, Vec<u8>)>,

@@ -9,7 +9,7 @@ ghost use Rattle.raft_engine.specs.FileFailures.{FailsAmong};
 ghost use Rattle.raft_engine.specs.StoredAsks.{IsWritableBatch};
 
 use crate::limits::LAST_OFFSET;
-use crate::put::put;
+use crate::put::put_batch;
 use raft_base::{Error, LogFileContext, Result};
 use raft_files::EngineFiles;
 use raft_records::LogBatch;
@@ -20,7 +20,7 @@ use raft_records::LogBatch;
 /// # Errors
 ///
 /// `Full` if one would begin past 2^63, or has 2^56 bytes or more; `Memory`. The batches are gone then.
-pub fn encode_all(batches: Vec<LogBatch>, offset: u64) -> Result<(Vec<LogBatch>, u64)>
+pub fn encode_batches(batches: Vec<LogBatch>, offset: u64) -> Result<(Vec<LogBatch>, u64)>
     requires opened { AllByRecursion (λ (b : Batch). b.stage ≡ is_open) batches.items }
     requires some { AllByRecursion (λ (b : Batch). b.items ≢ []) batches.items }
     ensures ok { IfOk result (λ made. made.0.items ≡ map as_encoded batches.items) }
@@ -50,7 +50,7 @@ pub fn encode_all(batches: Vec<LogBatch>, offset: u64) -> Result<(Vec<LogBatch>,
 /// # Errors
 ///
 /// Those of `EngineFiles::append`: the first ones of the batches were put then, and all are gone.
-pub fn put_all<F: EngineFiles>(
+pub fn put_batches<F: EngineFiles>(
     files: &mut F,
     file: &LogFileContext,
     offset: u64,
@@ -72,7 +72,7 @@ pub fn put_all<F: EngineFiles>(
     for batch in placed.iter_mut() {
         batch.is_read_again();
         let len = batch.approximate_size();
-        put(files, file, at, batch, len)?;
+        put_batch(files, file, at, batch, len)?;
         at += len as u64;
     }
     Ok(placed)

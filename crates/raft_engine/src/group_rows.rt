@@ -59,7 +59,7 @@ impl GroupRows {
     {
         GroupRows {
             first: Some(batch),
-            left: left_open(batch),
+            left: group_left_open(batch),
             rest_stands: true,
         }
     }
@@ -69,20 +69,20 @@ impl GroupRows {
         ensures { (h : List Event) → IsSummaryOf (rows_shown self.now) h → (IsTrue result ↔ AreGroupsInRows h) }
     {
         match self.first {
-            Some(first) => self.rest_stands && may_stand(first, None),
+            Some(first) => self.rest_stands && may_follow(first, None),
             None => self.rest_stands,
         }
     }
 
     /// Takes in `newer`, the summary of the batches that follow.
-    fn join(&mut self, newer: GroupRows)
+    fn join_newer(&mut self, newer: GroupRows)
         ensures { AreJoined (rows_shown self.old) (rows_shown newer) (rows_shown self.new) }
     {
         let Some(first) = newer.first else {
             self.rest_stands = self.rest_stands && newer.rest_stands;
             return;
         };
-        let seam = self.first.is_none() || may_stand(first, self.left);
+        let seam = self.first.is_none() || may_follow(first, self.left);
         self.rest_stands = self.rest_stands && seam && newer.rest_stands;
         self.left = newer.left;
         self.first = self.first.or(newer.first);
@@ -101,8 +101,8 @@ impl ReplayMachine for GroupRows {
     /// `Corruption` if the marker's status is unknown; `Memory`. Nothing is taken in then.
     fn replay(&mut self, batch: LogItemBatch, file_id: FileId) -> Result<()> {
         let items = batch.into_items();
-        let marker = group_marker(*items.allocator(), file_id.queue, items.as_slice())?;
-        self.join(GroupRows::of_batch(MarkedBatch {
+        let marker = marker_of_batch(*items.allocator(), file_id.queue, items.as_slice())?;
+        self.join_newer(GroupRows::of_batch(MarkedBatch {
             marker,
             seq: file_id.seq,
         }));
@@ -115,8 +115,8 @@ impl ReplayMachine for GroupRows {
     ///
     /// `Corruption` if the marker's status is unknown; `Memory`. Nothing is taken in then.
     fn replay_read(&mut self, batch: &ReadBatch<'_>, file_id: FileId) -> Result<()> {
-        if is_unmarked(batch, file_id.queue) {
-            self.join(GroupRows::of_batch(MarkedBatch {
+        if has_surely_no_marker(batch, file_id.queue) {
+            self.join_newer(GroupRows::of_batch(MarkedBatch {
                 marker: None,
                 seq: file_id.seq,
             }));
@@ -128,7 +128,7 @@ impl ReplayMachine for GroupRows {
 
     /// Takes in the summary of the batches that follow. It never fails.
     fn merge(&mut self, rhs: GroupRows, _queue: LogQueue) -> Result<()> {
-        self.join(rhs);
+        self.join_newer(rhs);
         Ok(())
     }
 
@@ -152,27 +152,27 @@ impl Factory<GroupRows> for GroupRowsFactory {
 
 /// Tests whether a batch of `queue`, as it was read, surely has no group marker: `false` says nothing. Batches of the append
 /// queue have none.
-fn is_unmarked(batch: &ReadBatch<'_>, queue: LogQueue) -> bool
+fn has_surely_no_marker(batch: &ReadBatch<'_>, queue: LogQueue) -> bool
     ensures { IsTrue result → marker_in queue batch.now ≡ None }
 {
     match queue {
         LogQueue::Append => true,
         LogQueue::Rewrite => {
             let (_, items, _) = batch.parts();
-            have_no_marker(items)
+            surely_none_is_marker(items)
         }
     }
 }
 
 /// Tests whether surely none of `items` is a group marker, by their keys: `false` says nothing.
-fn have_no_marker(items: &[ReadItem<'_>]) -> bool
+fn surely_none_is_marker(items: &[ReadItem<'_>]) -> bool
     ensures { IsTrue result → AreUnmarked items.now }
 {
-    items.iter().all(|item| is_no_marker(item))
+    items.iter().all(|item| is_surely_no_marker(item))
 }
 
 /// Tests whether an item is surely no group marker: it puts no reserved key.
-fn is_no_marker(item: &ReadItem<'_>) -> bool
+fn is_surely_no_marker(item: &ReadItem<'_>) -> bool
     ensures { IsTrue result → IsUnmarked item.now }
 {
     match &item.content {
@@ -187,7 +187,7 @@ fn is_no_marker(item: &ReadItem<'_>) -> bool
 /// # Errors
 ///
 /// `Corruption` if the marker's status is unknown; `Memory`.
-fn group_marker(
+fn marker_of_batch(
     alloc: Global,
     queue: LogQueue,
     items: &[LogItem],
@@ -199,7 +199,7 @@ fn group_marker(
 {
     match queue {
         LogQueue::Append => Ok(None),
-        LogQueue::Rewrite => first_marker(alloc, items),
+        LogQueue::Rewrite => first_marker_of_items(alloc, items),
     }
 }
 
@@ -208,7 +208,10 @@ fn group_marker(
 /// # Errors
 ///
 /// `Corruption` if a marker's status is unknown; `Memory`.
-fn first_marker(alloc: Global, items: &[LogItem]) -> Result<Option<(u64, AtomicGroupStatus)>>
+fn first_marker_of_items(
+    alloc: Global,
+    items: &[LogItem],
+) -> Result<Option<(u64, AtomicGroupStatus)>>
     ensures ok { IfOk result
         (λ marker. marker_shown marker ≡ marker_in Rewrite (map item_of items.now)) }
     ensures refused { IfErr result
@@ -225,7 +228,7 @@ fn first_marker(alloc: Global, items: &[LogItem]) -> Result<Option<(u64, AtomicG
 
 /// Tests whether `batch` may stand directly after one that leaves the group `left` open; `None` if it leaves none open, or no
 /// batch comes before.
-fn may_stand(batch: MarkedBatch, left: Option<(u64, FileSeq)>) -> bool
+fn may_follow(batch: MarkedBatch, left: Option<(u64, FileSeq)>) -> bool
     ensures { IsTrue result ↔ MayStandBy (marker_shown batch.marker) batch.seq left }
 {
     match batch.marker {
@@ -238,7 +241,7 @@ fn may_stand(batch: MarkedBatch, left: Option<(u64, FileSeq)>) -> bool
 }
 
 /// Returns the group that `batch` leaves open, with the number of its file; `None` if it leaves none open.
-fn left_open(batch: MarkedBatch) -> Option<(u64, FileSeq)>
+fn group_left_open(batch: MarkedBatch) -> Option<(u64, FileSeq)>
     ensures { result ≡ open_by (marker_shown batch.marker) batch.seq }
 {
     match batch.marker {

@@ -4,7 +4,7 @@ ghost use Rattle.std.specs.Prelude.{◌≡◌, ◌++◌, IfErr, OnOk};
 ghost use Rattle.raft_engine.specs.OpeningAsks.{FailsAmong, asks_that_tell};
 ghost use Rattle.raft_engine.specs.ReadFound.{IsToBeTold, reading_asks};
 
-use crate::put::put;
+use crate::put::put_batch;
 use crate::reading::Reading;
 use raft_base::{FileId, LogFileContext, LogQueue, Result, Version};
 use raft_files::EngineFiles;
@@ -15,7 +15,7 @@ use raft_files::EngineFiles;
 /// # Errors
 ///
 /// Those of `EngineFiles`: some of it was asked then.
-pub fn complete<F: EngineFiles>(
+pub fn ask_for_missing<F: EngineFiles>(
     files: &mut F,
     version: Version,
     reading: &mut Reading,
@@ -29,7 +29,7 @@ pub fn complete<F: EngineFiles>(
 {
     reading.append_missing.ask(files, LogQueue::Append)?;
     reading.rewrite_missing.ask(files, LogQueue::Rewrite)?;
-    tell(files, version, reading)
+    put_told_batch(files, version, reading)
 }
 
 /// Puts the batch that the rewrite queue has to be told at once after the bytes of its last file, and syncs the queue; nothing
@@ -38,7 +38,11 @@ pub fn complete<F: EngineFiles>(
 /// # Errors
 ///
 /// Those of `EngineFiles::append` and `EngineFiles::sync`: some of it was asked then.
-fn tell<F: EngineFiles>(files: &mut F, version: Version, reading: &mut Reading) -> Result<()>
+fn put_told_batch<F: EngineFiles>(
+    files: &mut F,
+    version: Version,
+    reading: &mut Reading,
+) -> Result<()>
     requires { IsToBeTold reading.old }
     ensures ok { OnOk result (F.asked files.new
         ≡ asks_that_tell version reading.old.rewrite.seq reading.old.told reading.old.told.items ++ F.asked files.old) }
@@ -51,7 +55,7 @@ fn tell<F: EngineFiles>(files: &mut F, version: Version, reading: &mut Reading) 
         return Ok(());
     }
     let file = LogFileContext::new(FileId::new(LogQueue::Rewrite, reading.rewrite.seq), version);
-    put(
+    put_batch(
         files,
         &file,
         reading.rewrite.len,

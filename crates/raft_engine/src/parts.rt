@@ -8,16 +8,16 @@ use raft_base::{EntryIndex, FileBlockHandle};
 
 /// Returns how many of `entries`, from the first one on, go into the next batch. These are the entries of as many blocks as
 /// have [`MAX_REWRITE_BATCH_BYTES`] together at most, and always those of the first block. 0 without entries.
-pub fn part_len(entries: &[EntryIndex]) -> usize
+pub fn count_in_next_part(entries: &[EntryIndex]) -> usize
     ensures { IsFirstPart entries.now result }
 {
     let mut len = 0;
     let mut bytes = 0;
     let mut rest = entries;
     while !rest.is_empty() {
-        let count = block_len(rest);
+        let count = count_in_first_block(rest);
         let (block, behind) = rest.split_at(count);
-        bytes += bytes_of(block);
+        bytes += sum_entry_bytes(block);
         if len > 0 && bytes > MAX_REWRITE_BATCH_BYTES {
             return len;
         }
@@ -29,7 +29,7 @@ pub fn part_len(entries: &[EntryIndex]) -> usize
 
 /// Returns how many of `entries`, from the first one on, stand in the block of the first entry. It stops at the first one in
 /// another block.
-fn block_len(entries: &[EntryIndex]) -> usize
+fn count_in_first_block(entries: &[EntryIndex]) -> usize
     ensures { IsFirstBlock entries.now result }
 {
     let Some(first) = entries.first() else {
@@ -37,7 +37,7 @@ fn block_len(entries: &[EntryIndex]) -> usize
     };
     let mut len = 0;
     for entry in entries {
-        if !stands_at(entry, first.entries) {
+        if !is_in_block(entry, first.entries) {
             return len;
         }
         len += 1;
@@ -46,7 +46,7 @@ fn block_len(entries: &[EntryIndex]) -> usize
 }
 
 /// Tests whether the entry stands in the block at `place`; for `None` whether it has no place.
-fn stands_at(entry: &EntryIndex, place: Option<FileBlockHandle>) -> bool
+fn is_in_block(entry: &EntryIndex, place: Option<FileBlockHandle>) -> bool
     ensures { IsTrue result ↔ (entry.now.entries ≡ place) }
 {
     entry.entries == place
@@ -54,7 +54,7 @@ fn stands_at(entry: &EntryIndex, place: Option<FileBlockHandle>) -> bool
 
 /// Returns how many bytes `entries` have together. If these are more than [`MAX_REWRITE_BATCH_BYTES`], it returns some number
 /// above that.
-pub(crate) fn bytes_of(entries: &[EntryIndex]) -> u64
+pub(crate) fn sum_entry_bytes(entries: &[EntryIndex]) -> u64
     ensures capped { IsCapped result entries.now }
     ensures small { result < 2 ^ 33 }
 {
@@ -63,13 +63,13 @@ pub(crate) fn bytes_of(entries: &[EntryIndex]) -> u64
         if bytes > MAX_REWRITE_BATCH_BYTES {
             return bytes;
         }
-        bytes += len_of(entry);
+        bytes += entry_byte_count(entry);
     }
     bytes
 }
 
 /// Returns how many bytes an entry has.
-fn len_of(entry: &EntryIndex) -> u64
+fn entry_byte_count(entry: &EntryIndex) -> u64
     ensures len { result ≡ entry.now.entry_len }
     ensures small { result < 2 ^ 32 }
 {

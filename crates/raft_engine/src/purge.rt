@@ -18,17 +18,21 @@ use raft_table::MemTable;
 /// # Errors
 ///
 /// `Memory` alone.
-pub fn least_needed(accessor: &MemTableAccessor, queue: LogQueue, last: FileSeq) -> Result<FileSeq>
+pub fn least_needed_file(
+    accessor: &MemTableAccessor,
+    queue: LogQueue,
+    last: FileSeq,
+) -> Result<FileSeq>
     ensures ok { IfOk result (λ least. IsLeastNeeded queue accessor.now.tables last least) }
     ensures memory { IfErr result (λ e. e ≡ Error.Memory) }
 {
     let tables = accessor.tables()?;
-    Ok(least_among(tables.as_slice(), queue, last))
+    Ok(least_file_among(tables.as_slice(), queue, last))
 }
 
 /// Returns the least file number that one of `tables` has in `queue` (`MemTable::min_file_seq`), or `last` if that is less, or
 /// none has a record there.
-fn least_among(tables: &[&MemTable], queue: LogQueue, last: FileSeq) -> FileSeq
+fn least_file_among(tables: &[&MemTable], queue: LogQueue, last: FileSeq) -> FileSeq
     ensures { result ≡ least_among queue last (map (λ t. t.now) tables.now) }
 {
     let mut least = last;

@@ -19,7 +19,7 @@ use raft_records::LogBatch;
 /// # Errors
 ///
 /// Those of `EngineFiles::append`. Some of the bytes may be in the file then, and the items have no places.
-pub fn put<F: EngineFiles>(
+pub fn put_batch<F: EngineFiles>(
     files: &mut F,
     file: &LogFileContext,
     offset: u64,
@@ -41,7 +41,7 @@ pub fn put<F: EngineFiles>(
     try_put(files, file, offset, batch, len, &mut intact)
 }
 
-/// Puts a batch of `len` bytes, which are made, after those of `file`, as [`put`] does. After an error `intact` says whether the
+/// Puts a batch of `len` bytes, which are made, after those of `file`, as [`put_batch`] does. After an error `intact` says whether the
 /// files are as if this hadn't been asked.
 ///
 /// # Errors
@@ -94,7 +94,7 @@ pub fn try_put<F: EngineFiles>(
 ///
 /// Those of `EngineFiles::append`. If `intact` is set, what was put of the bytes was taken back; else some of them may be in the
 /// file.
-pub fn put_items<F: EngineFiles>(
+pub fn put_unless_empty<F: EngineFiles>(
     files: &mut F,
     file: &LogFileContext,
     offset: u64,
@@ -124,7 +124,7 @@ pub fn put_items<F: EngineFiles>(
 /// # Errors
 ///
 /// Those of `EngineFiles::sync`.
-pub fn sync_if<F: EngineFiles>(files: &mut F, sync: bool) -> Result<()>
+pub fn sync_append_if<F: EngineFiles>(files: &mut F, sync: bool) -> Result<()>
     ensures ok { OnOk result (F.asked files.new ≡ synced_if sync (F.asked files.old)) }
     ensures fault { IfErr result (FailsAmong F.may_fail (synced_if sync []) (F.asked files.old)
         (F.asked files.new)) }

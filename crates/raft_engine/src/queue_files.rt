@@ -22,7 +22,7 @@ pub struct QueueFiles {
 }
 
 /// Returns that one of `append` and `rewrite` which is about `queue`.
-pub fn files_known<'a>(
+pub fn pick_queue_files<'a>(
     queue: LogQueue,
     append: &'a QueueFiles,
     rewrite: &'a QueueFiles,

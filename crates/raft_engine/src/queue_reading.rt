@@ -9,8 +9,8 @@ ghost use Rattle.raft_replay.specs.Segments.{MayReplay};
 ghost use Rattle.raft_engine.specs.FoundQueues.{IsLastOf};
 ghost use Rattle.raft_engine.specs.ReadQueues.{IsReadUpTo, IsReplayedTo};
 
-use crate::found_queue::last_part;
-use crate::readable_replay::replay_whole;
+use crate::found_queue::last_file_part;
+use crate::readable_replay::replay_whole_file;
 use crate::recovered::CutTail;
 use raft_base::{Error, Factory, LogQueue, Result};
 use raft_history::ReplayMachine;
@@ -61,7 +61,7 @@ pub fn read_queue<M: ReplayMachine, F: Factory<M>, R: Threads + Sync>(
     let count = closed.len();
     let (_, last) = segments.split_at(count);
     let mut machine = replay_shares(rt, alloc, factory, closed, queue, workers)?;
-    let tail = read_last(rt, alloc, factory, &mut machine, last, queue, workers)?;
+    let tail = read_last_file(rt, alloc, factory, &mut machine, last, queue, workers)?;
     Ok(QueueRead { machine, tail })
 }
 
@@ -72,7 +72,7 @@ pub fn read_queue<M: ReplayMachine, F: Factory<M>, R: Threads + Sync>(
 /// # Errors
 ///
 /// `Memory`, those of the factory and of the machine. Some of the batches may have been replayed then.
-fn read_last<M: ReplayMachine, F: Factory<M>, R: Threads + Sync>(
+fn read_last_file<M: ReplayMachine, F: Factory<M>, R: Threads + Sync>(
     rt: &R,
     alloc: Global,
     factory: &F,
@@ -86,7 +86,7 @@ fn read_last<M: ReplayMachine, F: Factory<M>, R: Threads + Sync>(
     ensures { (version : Version) (file : NumberedBytes) → AreWholeFiles queue version (file ∷ []) last.now
         → IfOk result (λ tail. IsReplayedTo M.stands_for M.stands_exactly (whole_file queue version file) machine.old machine.new tail) }
 {
-    if workers > 1 && bytes_of(last) > LEAST_SHARE {
+    if workers > 1 && sum_segment_bytes(last) > LEAST_SHARE {
         match replay_shares(rt, alloc, factory, last, queue, workers) {
             Ok(newer) => {
                 machine.merge(newer, queue)?;
@@ -96,8 +96,8 @@ fn read_last<M: ReplayMachine, F: Factory<M>, R: Threads + Sync>(
             Err(_) => {}
         }
     }
-    match last_part(last) {
-        Some(part) => replay_whole(machine, part),
+    match last_file_part(last) {
+        Some(part) => replay_whole_file(machine, part),
         None => Ok(None),
     }
 }
@@ -133,7 +133,7 @@ fn replay_shares<M: ReplayMachine, F: Factory<M>, R: Threads + Sync>(
 }
 
 /// Returns how many bytes all segments have together, at most `usize::MAX`.
-pub fn bytes_of(segments: &[Segment]) -> usize {
+pub fn sum_segment_bytes(segments: &[Segment]) -> usize {
     let mut bytes = 0usize;
     for segment in segments {
         for part in segment {

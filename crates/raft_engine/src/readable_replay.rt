@@ -21,7 +21,10 @@ use std::alloc::Global;
 /// # Errors
 ///
 /// `Memory`, and those of the machine. Some of the batches may have been replayed then.
-pub fn replay_whole<M: ReplayMachine>(machine: &mut M, file: &FilePart) -> Result<Option<CutTail>>
+pub fn replay_whole_file<M: ReplayMachine>(
+    machine: &mut M,
+    file: &FilePart,
+) -> Result<Option<CutTail>>
     ensures { IfOk result (λ tail. IsReplayedTo M.stands_for M.stands_exactly file.now machine.old machine.new tail) }
 {
     let context = LogFileContext::new(file.id(), file.version());

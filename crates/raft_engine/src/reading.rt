@@ -20,7 +20,7 @@ use crate::missing::Missing;
 use crate::queue_files::QueueFiles;
 use crate::recovered::{CutTail, DamagedBatch};
 use crate::recovery_mode::RecoveryMode;
-use crate::segments::check_few;
+use crate::segments::check_few_bytes;
 use raft_accessor::MemTableAccessor;
 use raft_base::{Error, FileSeq, LogQueue, Result, Version};
 use raft_contexts::MemTableRecoverContext;
@@ -86,11 +86,11 @@ pub struct ReadFiles {
 
 impl Ready {
     /// Checks that the found files of both queues may be opened in `mode`. Returns what is known of them, and their segments,
-    /// unchanged. `append_tail` and `rewrite_tail` are what [`FoundQueue::tail`] returned of each queue.
+    /// unchanged. `append_tail` and `rewrite_tail` are what [`FoundQueue::find_tail`] returned of each queue.
     ///
     /// # Errors
     ///
-    /// Those of [`FoundQueue::ready`].
+    /// Those of [`FoundQueue::into_ready`].
     fn of(
         mode: RecoveryMode,
         append: FoundQueue,
@@ -112,8 +112,8 @@ impl Ready {
             → IsTailTold Rewrite version rewrite_files rewrite_tail → IfErr result (λ e. e ≢ Error.Memory
             → IsFoundFault mode Append version append_files e ⊎ IsFoundFault mode Rewrite version rewrite_files e) }
     {
-        let (append_ready, append_segments) = append.ready(mode, append_tail)?;
-        let (rewrite_ready, rewrite_segments) = rewrite.ready(mode, rewrite_tail)?;
+        let (append_ready, append_segments) = append.into_ready(mode, append_tail)?;
+        let (rewrite_ready, rewrite_segments) = rewrite.into_ready(mode, rewrite_tail)?;
         Ok(ReadySegments {
             ready: Ready {
                 append: append_ready,
@@ -167,12 +167,12 @@ impl Ready {
 
 impl ReadySegments {
     /// Checks that the found files of both queues may be opened in `mode`, and turns their segments into those of the files
-    /// that are there once what is missing was asked. `append_tail` is what [`FoundQueue::tail`] returned of the append queue;
+    /// that are there once what is missing was asked. `append_tail` is what [`FoundQueue::find_tail`] returned of the append queue;
     /// the last rewrite file is read here to find its tail.
     ///
     /// # Errors
     ///
-    /// Those of [`FoundQueue::ready`]; `Full` if the files of a queue have 2^63 bytes or more then.
+    /// Those of [`FoundQueue::into_ready`]; `Full` if the files of a queue have 2^63 bytes or more then.
     fn of(
         mode: RecoveryMode,
         version: Version,
@@ -191,7 +191,7 @@ impl ReadySegments {
             → IsFoundQueue Rewrite version rewrite_files rewrite → IsTailTold Append version append_files append_tail
             → IfErr result (IsOpeningRefusal IsNoRefusal mode version append_files rewrite_files) }
     {
-        let rewrite_tail = rewrite.tail()?;
+        let rewrite_tail = rewrite.find_tail()?;
         let mut both = Ready::of(mode, append, append_tail, rewrite, rewrite_tail)?;
         complete_segments(
             LogQueue::Append,
@@ -205,8 +205,8 @@ impl ReadySegments {
             &both.ready.rewrite.missing,
             &mut both.rewrite,
         )?;
-        check_few(both.append.as_slice())?;
-        check_few(both.rewrite.as_slice())?;
+        check_few_bytes(both.append.as_slice())?;
+        check_few_bytes(both.rewrite.as_slice())?;
         Ok(both)
     }
 }
@@ -217,9 +217,9 @@ impl ReadySegments {
 ///
 /// # Errors
 ///
-/// Those of [`FoundQueue::of`] and of [`FoundQueue::ready`], and those of [`read_again`]: if the files are refused they are
+/// Those of [`FoundQueue::of`] and of [`FoundQueue::into_ready`], and those of [`read_again_in_order`]: if the files are refused they are
 /// read once more, since the error must be that of a tail which `mode` refuses, if there is one, before any other.
-pub fn read_found<R: Threads + Sync>(
+pub fn read_found_files<R: Threads + Sync>(
     rt: &R,
     alloc: Global,
     mode: RecoveryMode,
@@ -242,12 +242,12 @@ pub fn read_found<R: Threads + Sync>(
     let read = match read_both(rt, alloc, rewrite_segments, segments, workers) {
         Ok(read) => read,
         Err(Error::Memory) => return Err(Error::Memory),
-        Err(_) => return read_again(rt, alloc, mode, version, append, rewrite, workers),
+        Err(_) => return read_again_in_order(rt, alloc, mode, version, append, rewrite, workers),
     };
     files_hold_few_records();
     torn_tails_are_found();
     let (appended, rewritten) = (read.appended, read.rewritten);
-    let damaged = append.damaged(rt, &appended.tail, workers)?;
+    let damaged = append.find_damaged(rt, &appended.tail, workers)?;
     let both = Ready::of(mode, append, appended.tail, rewrite, rewritten.tail)?;
     let reading = both
         .ready
@@ -261,7 +261,7 @@ pub fn read_found<R: Threads + Sync>(
 ///
 /// Those of `ReadySegments::of` and of `replay_both`; `InvalidArgument` if an atomic group of the rewrite files doesn't stand
 /// in a row, in one file; `Full` if what has to be told at once has 2^56 bytes or more; `Memory`.
-fn read_again<R: Threads + Sync>(
+fn read_again_in_order<R: Threads + Sync>(
     rt: &R,
     alloc: Global,
     mode: RecoveryMode,
@@ -284,8 +284,8 @@ fn read_again<R: Threads + Sync>(
 {
     files_hold_few_records();
     segments_read_as_one_history();
-    let tail = append.tail()?;
-    let damaged = append.damaged(rt, &tail, workers)?;
+    let tail = append.find_tail()?;
+    let damaged = append.find_damaged(rt, &tail, workers)?;
     let both = ReadySegments::of(mode, version, append, tail, rewrite)?;
     let (append, rewrite) = (both.append.as_slice(), both.rewrite.as_slice());
     let (rewritten, appended) = replay_both(rt, alloc, rewrite, append, workers)?;
@@ -294,14 +294,14 @@ fn read_again<R: Threads + Sync>(
     Ok(ReadFiles { reading, damaged })
 }
 
-/// Returns what the reading of found files gives, as [`read_found`] does, from contexts of the caller: `appended` has read the
+/// Returns what the reading of found files gives, as [`read_found_files`] does, from contexts of the caller: `appended` has read the
 /// batches of the append files and `rewritten` those of the rewrite files, each up to the tail of the last file. It starts no
 /// threads.
 ///
 /// # Errors
 ///
-/// Those of [`read_found`], but never for a batch that can't be read or can't follow, nor for the number of workers.
-pub fn read_over(
+/// Those of [`read_found_files`], but never for a batch that can't be read or can't follow, nor for the number of workers.
+pub fn read_with_contexts(
     alloc: Global,
     mode: RecoveryMode,
     version: Version,
@@ -324,8 +324,8 @@ pub fn read_over(
     segments_read_as_one_history();
     let append = FoundQueue::of(LogQueue::Append, version, append)?;
     let rewrite = FoundQueue::of(LogQueue::Rewrite, version, rewrite)?;
-    let tail = append.tail()?;
-    let damaged = append.damaged_alone(&tail)?;
+    let tail = append.find_tail()?;
+    let damaged = append.find_damaged_alone(&tail)?;
     let both = ReadySegments::of(mode, version, append, tail, rewrite)?;
     check_groups(alloc, both.rewrite.as_slice())?;
     let reading = both.ready.with_contexts(alloc, appended, rewritten)?;

@@ -12,8 +12,8 @@ ghost use Rattle.raft_engine.specs.Parts.{IsFirstPart};
 ghost use Rattle.raft_engine.specs.Rewriting.{IsBatchMoving, IsNextPart, moving_entries, moving_pairs, pairs_with, with_puts};
 ghost use Rattle.raft_engine.specs.Unmoved.{AreKeysRefused, IsBatchRefused};
 
-use crate::block_reads::read_joined;
-use crate::parts::part_len;
+use crate::block_reads::read_joined_entries;
+use crate::parts::count_in_next_part;
 use raft_accessor::MemTableAccessor;
 use raft_base::{EntryIndex, Error, FileSeq, Result};
 use raft_files::EngineFiles;
@@ -96,13 +96,13 @@ pub fn put_pairs(batch: &mut LogBatch, region: u64, pairs: Vec<(Vec<u8>, Vec<u8>
 }
 
 /// Returns how many of the entries that move, from the first one on, are in the next batch: with a gate those of the first
-/// part (see [`part_len`]), without one all.
-pub fn batch_len(entries: &[EntryIndex], gate: Option<FileSeq>) -> usize
+/// part (see [`count_in_next_part`]), without one all.
+pub fn count_in_next_batch(entries: &[EntryIndex], gate: Option<FileSeq>) -> usize
     ensures part { gate ≢ None → IsFirstPart entries.now result }
     ensures all { gate ≡ None → result ≡ length entries.now }
 {
     match gate {
-        Some(_) => part_len(entries),
+        Some(_) => count_in_next_part(entries),
         None => entries.len(),
     }
 }
@@ -112,9 +112,9 @@ pub fn batch_len(entries: &[EntryIndex], gate: Option<FileSeq>) -> usize
 ///
 /// # Errors
 ///
-/// Those of [`read_joined`]; `Full` if the bytes of the entries are 2^31 or more; `InvalidArgument` if a key is that of the
+/// Those of [`read_joined_entries`]; `Full` if the bytes of the entries are 2^31 or more; `InvalidArgument` if a key is that of the
 /// group markers; `Memory`. Only reads were asked then.
-pub fn moving_batch<F: EngineFiles>(
+pub fn next_moving_batch<F: EngineFiles>(
     alloc: Global,
     files: &mut F,
     table: &MemTable,
@@ -130,9 +130,9 @@ pub fn moving_batch<F: EngineFiles>(
     ensures refused { IfErr result (λ e. e ≢ Error.Memory → IsBatchRefused F.may_fail gate left.now table.now
         (F.asked files.old) (F.asked files.new) e) }
 {
-    let pairs = batch_pairs(alloc, table, gate, left)?;
+    let pairs = pairs_of_next_batch(alloc, table, gate, left)?;
     let region = table.region_id();
-    let bytes = read_joined(alloc, files, region, part)?;
+    let bytes = read_joined_entries(alloc, files, region, part)?;
     let mut batch = LogBatch::default(alloc);
     batch.add_joined_entries(region, Vec::from_slice(alloc, part)?, bytes.as_slice())?;
     put_pairs(&mut batch, region, pairs)?;
@@ -145,7 +145,7 @@ pub fn moving_batch<F: EngineFiles>(
 /// # Errors
 ///
 /// `Memory` alone.
-fn batch_pairs(
+fn pairs_of_next_batch(
     alloc: Global,
     table: &MemTable,
     gate: Option<FileSeq>,
@@ -172,7 +172,7 @@ pub fn regions_of(accessor: &MemTableAccessor) -> Result<Vec<u64>>
     ensures memory { IfErr result (λ e. e ≡ Error.Memory) }
 {
     let tables = accessor.tables()?;
-    ids_of(*tables.allocator(), tables.as_slice())
+    region_ids_of(*tables.allocator(), tables.as_slice())
 }
 
 /// Returns the region ids of `tables`, in their order.
@@ -180,7 +180,7 @@ pub fn regions_of(accessor: &MemTableAccessor) -> Result<Vec<u64>>
 /// # Errors
 ///
 /// `Memory` alone.
-fn ids_of(alloc: Global, tables: &[&MemTable]) -> Result<Vec<u64>>
+fn region_ids_of(alloc: Global, tables: &[&MemTable]) -> Result<Vec<u64>>
     ensures ok { IfOk result (λ ids. ids.items ≡ map (λ t. t.now.region_id) tables.now) }
     ensures memory { IfErr result (λ e. e ≡ Error.Memory) }
 {

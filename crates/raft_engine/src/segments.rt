@@ -11,13 +11,13 @@ use raft_replay::Segment;
 /// # Errors
 ///
 /// `Full` alone, if they have as many or more.
-pub fn check_few(segments: &[Segment]) -> Result<()>
+pub fn check_few_bytes(segments: &[Segment]) -> Result<()>
     ensures ok { OnOk result (bytes_of_segments segments.now < 2 ^ 63) }
     ensures fault { IfErr result (λ e. (2 ^ 63 ≤ bytes_of_segments segments.now) × (e ≡ Error.Full)) }
 {
     let mut left: u64 = (1 << 63) - 1;
     for segment in segments {
-        let Some(less) = bytes_left(segment, left) else {
+        let Some(less) = subtract_segment_bytes(segment, left) else {
             return Err(Error::Full);
         };
         left = less;
@@ -26,7 +26,7 @@ pub fn check_few(segments: &[Segment]) -> Result<()>
 }
 
 /// Returns `count` less the number of bytes that `segment` has; `None` if it has more than `count`.
-fn bytes_left(segment: &Segment, count: u64) -> Option<u64>
+fn subtract_segment_bytes(segment: &Segment, count: u64) -> Option<u64>
     ensures { MatchOption result (count < bytes_of_parts segment.now.items)
         (λ left. left + bytes_of_parts segment.now.items ≡ count) }
 {

@@ -21,7 +21,11 @@ use std::alloc::Global;
 /// # Errors
 ///
 /// `Memory` alone.
-pub fn taken_away(alloc: Global, accessor: &MemTableAccessor, items: &[LogItem]) -> Result<LogBatch>
+pub fn removals_by_items(
+    alloc: Global,
+    accessor: &MemTableAccessor,
+    items: &[LogItem],
+) -> Result<LogBatch>
     ensures ok { IfOk result (λ taken. taken ≡ record empty_batch {
       items = told_items (taking_items accessor.now.tables (map item_of items.now));
     }) }
@@ -79,14 +83,14 @@ fn tell_run(
         return Ok(());
     };
     let index = first.index;
-    if index < end_in(accessor, region) {
+    if index < end_of_region_table(accessor, region) {
         return taken.add_command(region, Command::Truncate { index });
     }
     Ok(())
 }
 
 /// Returns the index after the last entry of a region's table, or 0 if it has no table.
-fn end_in(accessor: &MemTableAccessor, region: u64) -> u64
+fn end_of_region_table(accessor: &MemTableAccessor, region: u64) -> u64
     ensures { result ≡ end_of (table_of region (finite.get accessor.now.tables region)).entries }
 {
     match accessor.get(region) {

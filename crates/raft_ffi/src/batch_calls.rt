@@ -6,8 +6,8 @@ ghost use Rattle.raft_ffi.specs.Words.{at_stage, bare, command_item, concat, emp
 ghost use Rattle.raft_ffi.specs.Words.{strings_of, with_batch, with_entries_added, with_item, written_to, Clean, Compact, Truncate, Put, Del};
 
 use crate::handles::{Batch, Handle, Items, or_told, told, with};
-use crate::item_list::items_of;
-use crate::status::{File, Status, copy_front, memory_code, queue};
+use crate::item_list::take_items;
+use crate::status::{File, Status, copy_front, memory_code, to_queue};
 use raft_base::{CompressionType, EntryIndex, Error, FileBlockHandle, FileId, Result};
 use raft_records::{Command, LogBatch};
 use std::alloc::Global;
@@ -112,11 +112,11 @@ fn add_entries(
     let [_, ..] = lens else {
         return Ok(());
     };
-    let joined = joined(lens, bytes);
+    let joined = joined_bytes(lens, bytes);
     if joined.len() > MOST_ENTRY_BYTES {
         return Err(Error::Full);
     }
-    let entries = sized(alloc, first, lens)?;
+    let entries = entries_of_lens(alloc, first, lens)?;
     batch.add_joined_entries(region, entries, joined)
 }
 
@@ -183,7 +183,7 @@ pub extern "C" fn raft_ffi_batch_put(
     ensures accepted { result.code ≡ 0 → key.now ≢ reserved_key }
     ensures text { HasText result text.old text.new }
 {
-    told!(held in batch, alloc, text; put(alloc, &mut *held, region, key, value))
+    told!(held in batch, alloc, text; add_put(alloc, &mut *held, region, key, value))
 }
 
 /// Adds to an open batch that a key of a region gets a value, of both of which it takes copies.
@@ -191,7 +191,7 @@ pub extern "C" fn raft_ffi_batch_put(
 /// # Errors
 ///
 /// `InvalidArgument` if the key is that of the group markers; `Memory`. The batch is unchanged then.
-fn put(alloc: Global, batch: &mut LogBatch, region: u64, key: &[u8], value: &[u8]) -> Result<()>
+fn add_put(alloc: Global, batch: &mut LogBatch, region: u64, key: &[u8], value: &[u8]) -> Result<()>
     requires { batch.old.stage ≡ is_open }
     ensures ok { OnOk result (batch.new ≡ with_item batch.old (pair_item region Put key.now (Some value.now))) }
     ensures accepted { OnOk result (key.now ≢ reserved_key) }
@@ -279,7 +279,7 @@ pub extern "C" fn raft_ffi_batch_sign(alloc: Global, batch: &mut Batch, file: Fi
     requires encoded { Holds (λ b. b.stage ≢ is_open) batch.old.value }
     ensures { BothHold (λ old new. new ≡ at_stage (sealed (signature_of (file_of file))) old) batch.old.value batch.new.value }
 {
-    with!(held in batch, alloc; held.prepare_write(&file.context()));
+    with!(held in batch, alloc; held.prepare_write(&file.to_context()));
 }
 
 /// Copies the bytes of a signed batch into `bytes`, as many as there is room for. Returns how many the batch has, which may be
@@ -316,7 +316,7 @@ pub extern "C" fn raft_ffi_batch_written(
     ensures bytes { BothHold (λ old new. (signature : Option ℕ) → log_batch_bytes signature new.items new.entry_bytes ≡
         log_batch_bytes signature old.items old.entry_bytes) batch.old.value batch.new.value }
 {
-    let id = FileId::new(queue(is_rewrite), seq);
+    let id = FileId::new(to_queue(is_rewrite), seq);
     with!(held in batch, alloc; held.finish_write(FileBlockHandle { id, offset, len }));
 }
 
@@ -330,7 +330,7 @@ pub extern "C" fn raft_ffi_batch_into_items(alloc: Global, batch: Batch, items: 
     ensures err { result ≢ 0 → items.new.value ≡ None }
     ensures fault { result ≢ 0 → result ≡ 11 }
 {
-    let found = or_told!(items_of(alloc, batch.into_held()));
+    let found = or_told!(take_items(alloc, batch.into_held()));
     memory_code(&items.put_new(alloc, found))
 }
 
@@ -343,7 +343,7 @@ pub extern "C" fn raft_ffi_batch_drop(batch: Batch)
 }
 
 /// Returns the bytes of `bytes` that belong to strings of the lengths `lens`, which stand at its start, one after another.
-fn joined<'a>(lens: &[usize], bytes: &'a [u8]) -> &'a [u8]
+fn joined_bytes<'a>(lens: &[usize], bytes: &'a [u8]) -> &'a [u8]
     requires { HasStrings lens.now bytes.now }
     ensures { result.now ≡ concat (strings_of lens.now bytes.now) }
 {
@@ -360,7 +360,7 @@ fn joined<'a>(lens: &[usize], bytes: &'a [u8]) -> &'a [u8]
 /// # Errors
 ///
 /// `Memory` alone.
-fn sized(alloc: Global, first: u64, lens: &[usize]) -> Result<Vec<EntryIndex>>
+fn entries_of_lens(alloc: Global, first: u64, lens: &[usize]) -> Result<Vec<EntryIndex>>
     requires indexes { first + length lens.now < 2 ^ 64 }
     requires lengths { AllByRecursion (λ len. len < 2 ^ 32) lens.now }
     ensures ok { IfOk result (λ entries. entries.items ≡ sized_entries first lens.now) }

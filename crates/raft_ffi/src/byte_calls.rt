@@ -3,7 +3,7 @@
 ghost use Rattle.std.specs.Prelude.{◌≡◌, ◌≢◌, ◌+◌, ◌^◌, ◌<◌, ℕ, List, length, drop, take, IfOk, OnOk, OnErr, IfErr};
 ghost use Rattle.raft_ffi.specs.Words.{AreBatchesUpTo, HasLength, HasNoFront, HasText, IsAnyCorruption, IsCodeOf, IsEntryBlockOf, IsHeader, IsNextFault, crc32_of, file_of, part_of, signature_of};
 
-use crate::status::{File, Status, answered, answered_with};
+use crate::status::{File, Status, status_of, store_and_answer};
 use raft_base::{LogFileContext, Result, crc32};
 use raft_records::{LogBatch, lent_entry_block, next_in};
 use std::alloc::Global;
@@ -41,14 +41,19 @@ pub extern "C" fn raft_ffi_readable_front(
     ensures fault { result.code ≢ 0 → IsCodeOf (IsNextFault (signature_of (file_of file)) (drop len.new bytes.now)) result.code }
     ensures text { HasText result text.old text.new }
 {
-    let (end, answer) = walk(alloc, &file.context(), offset, bytes);
+    let (end, answer) = walk_readable_batches(alloc, &file.to_context(), offset, bytes);
     *len = end;
-    answered(alloc, &answer, text)
+    status_of(alloc, &answer, text)
 }
 
 /// Returns how many of `bytes`, from the first one on, are readable batches, one after another, and the error for which no
 /// batch can be read after them: `Ok` if they are all of `bytes`. These stand in `file` from `offset` on.
-fn walk(alloc: Global, file: &LogFileContext, offset: u64, bytes: &[u8]) -> (usize, Result<()>)
+fn walk_readable_batches(
+    alloc: Global,
+    file: &LogFileContext,
+    offset: u64,
+    bytes: &[u8],
+) -> (usize, Result<()>)
     requires ends { offset + length bytes.now < 2 ^ 64 }
     ensures readable { AreBatchesUpTo (part_of file.now offset bytes.now) result.0 }
     ensures whole { OnOk result.1 (result.0 ≡ length bytes.now) }
@@ -88,7 +93,7 @@ pub extern "C" fn raft_ffi_block_entries(
     ensures fault { result.code ≢ 0 → IsCodeOf IsAnyCorruption result.code }
     ensures text { HasText result text.old text.new }
 {
-    answered_with(alloc, entries_len(alloc, bytes), len, text)
+    store_and_answer(alloc, entries_len(alloc, bytes), len, text)
 }
 
 /// Returns how many bytes of a whole entry block, from the first one on, are its entry bytes: 0 for a block without bytes.

@@ -6,7 +6,7 @@ ghost use Rattle.raft_ffi.specs.Words.{IsCompacted, IsDeleted, IsKeyRewritten, I
 
 use crate::entries::{Entry, entry_indexes};
 use crate::handles::{Handle, Tables, or_told, told, with};
-use crate::status::{Maybe, Status, queue};
+use crate::status::{Maybe, Status, to_queue};
 use raft_accessor::MemTableAccessor;
 use raft_base::{Error, FileId, Result};
 use raft_table::TableChange;
@@ -89,8 +89,8 @@ pub extern "C" fn raft_ffi_tables_put(
         is_rewrite seq) region) tables.old.value tables.new.value }
     ensures text { HasText result text.old text.new }
 {
-    let file = FileId::new(queue(is_rewrite), seq);
-    told!(held in tables, alloc, text; put(alloc, &mut *held, region, key, value, file))
+    let file = FileId::new(to_queue(is_rewrite), seq);
+    told!(held in tables, alloc, text; put_copied_pair(alloc, &mut *held, region, key, value, file))
 }
 
 /// Deletes `key` of a region with its value. The code is 0, or 11 (`Memory`). The tables are unchanged after an error.
@@ -130,7 +130,7 @@ pub extern "C" fn raft_ffi_tables_rewrite(
     ensures text { HasText result text.old text.new }
 {
     let entries = or_told!(entry_indexes(alloc, entries), alloc, text);
-    let gate = gate.number();
+    let gate = gate.to_option();
     told!(held in tables, alloc, text; change_table(&mut *held, region, TableChange::Rewrite { entries, gate }))
 }
 
@@ -152,7 +152,7 @@ pub extern "C" fn raft_ffi_tables_rewrite_key(
         (number_in gate) seq key.now region) tables.old.value tables.new.value }
     ensures text { HasText result text.old text.new }
 {
-    told!(held in tables, alloc, text; rewrite_key(alloc, &mut *held, region, key, gate.number(), seq))
+    told!(held in tables, alloc, text; rewrite_key(alloc, &mut *held, region, key, gate.to_option(), seq))
 }
 
 /// Applies `change` to the table of a region. Returns how many entries a compaction or a truncation drops, and 0 for any other
@@ -179,7 +179,7 @@ fn change_table(tables: &mut MemTableAccessor, region: u64, change: TableChange)
 /// # Errors
 ///
 /// Those of [`MemTableAccessor::change`]. The tables are unchanged then.
-fn put(
+fn put_copied_pair(
     alloc: Global,
     tables: &mut MemTableAccessor,
     region: u64,

@@ -6,7 +6,7 @@ ghost use Rattle.raft_ffi.specs.Words.{IsCodeForBoth, IsMadeIfMemory, IsMemoryOr
 ghost use Rattle.raft_ffi.specs.Words.{StandsForBothExactly, StopsByFault, blank_context, capped, file_of, kept_of, part_of, queue_of, Failed, Reading};
 
 use crate::handles::{Context, Handle, Tables, or_told, told, told_or_gone, with};
-use crate::status::{File, Status, answered, memory_code, queue};
+use crate::status::{File, Status, memory_code, status_of, to_queue};
 use raft_accessor::MemTableAccessor;
 use raft_base::{Error, LogFileContext, LogQueue, Result};
 use raft_contexts::MemTableRecoverContext;
@@ -68,7 +68,7 @@ pub extern "C" fn raft_ffi_context_replay(
         (part_of (file_of file) offset bytes.now)) result text.old text.new) context.old.value }
     ensures text { HasText result text.old text.new }
 {
-    told_or_gone!(held in context, alloc, text; replay(&mut *held, alloc, &file.context(), offset, bytes))
+    told_or_gone!(held in context, alloc, text; replay_batches(&mut *held, alloc, &file.to_context(), offset, bytes))
 }
 
 /// Replays `bytes`, batches that stand in `file` from `offset` on.
@@ -77,7 +77,7 @@ pub extern "C" fn raft_ffi_context_replay(
 ///
 /// `Failed` if the context doesn't read on: it is unchanged then. Those of [`replay_bytes`]: the context may have taken in
 /// some of the batches then.
-fn replay(
+fn replay_batches(
     context: &mut MemTableRecoverContext,
     alloc: Global,
     file: &LogFileContext,
@@ -124,7 +124,7 @@ pub extern "C" fn raft_ffi_context_merge(
         → result.code ≡ 12) context.old.value newer.value }
     ensures text { HasText result text.old text.new }
 {
-    told_or_gone!(held in context, alloc, text; merge(&mut *held, newer.into_held(), queue(is_rewrite)))
+    told_or_gone!(held in context, alloc, text; merge_newer(&mut *held, newer.into_held(), to_queue(is_rewrite)))
 }
 
 /// Takes in `newer`, the context of the batches that follow in the same `queue`.
@@ -132,7 +132,7 @@ pub extern "C" fn raft_ffi_context_merge(
 /// # Errors
 ///
 /// Those of [`MemTableRecoverContext::merge`]. A context that read on has failed then; one that didn't is unchanged.
-fn merge(
+fn merge_newer(
     context: &mut MemTableRecoverContext,
     newer: MemTableRecoverContext,
     queue: LogQueue,
@@ -169,7 +169,7 @@ pub extern "C" fn raft_ffi_context_overlay(
         → result.code ≡ 12) context.old.value append.value }
     ensures text { HasText result text.old text.new }
 {
-    told_or_gone!(held in context, alloc, text; overlay(&mut *held, append.into_held()))
+    told_or_gone!(held in context, alloc, text; overlay_append(&mut *held, append.into_held()))
 }
 
 /// Takes in `append`, the context of the append queue, over this one, that of the rewrite queue.
@@ -178,7 +178,10 @@ pub extern "C" fn raft_ffi_context_overlay(
 ///
 /// Those of [`MemTableRecoverContext::merge_append_context`]. A context that read on has failed then; one that didn't is
 /// unchanged.
-fn overlay(context: &mut MemTableRecoverContext, append: MemTableRecoverContext) -> Result<()>
+fn overlay_append(
+    context: &mut MemTableRecoverContext,
+    append: MemTableRecoverContext,
+) -> Result<()>
     ensures ok { OnOk result (IsOverlaidWith append context.old context.new) }
     ensures exact { OnOk result (IsOverlaidExactly append context.old context.new) }
     ensures fault { IfErr result (IsMergeAppendFault context.old append) }
@@ -217,18 +220,18 @@ fn count_kept(context: &MemTableRecoverContext, kept: &mut KeptNumbers) -> Resul
 {
     let shown = context.kept()?;
     *kept = KeptNumbers {
-        entries: capped(shown.entries),
-        keys: capped(shown.keys),
-        marks: capped(shown.marks),
-        deleted_keys: capped(shown.deleted_keys),
-        cleaned: capped(shown.cleaned),
-        waiting_items: capped(shown.waiting_items),
+        entries: cap_to_u64(shown.entries),
+        keys: cap_to_u64(shown.keys),
+        marks: cap_to_u64(shown.marks),
+        deleted_keys: cap_to_u64(shown.deleted_keys),
+        cleaned: cap_to_u64(shown.cleaned),
+        waiting_items: cap_to_u64(shown.waiting_items),
     };
     Ok(())
 }
 
 /// Returns a number, or 2^64 - 1 if it is above that.
-fn capped(number: u128) -> u64
+fn cap_to_u64(number: u128) -> u64
     ensures { result ≡ capped number }
 {
     number.min(u128::from(u64::MAX)) as u64
@@ -253,14 +256,14 @@ pub extern "C" fn raft_ffi_context_finish(
     ensures fault { result.code ≢ 0 → IsCodeFor (λ c. IsMemoryOr (IsOfFailed c)) context.value result.code }
     ensures text { HasText result text.old text.new }
 {
-    let answer = match finished(alloc, context.into_held()) {
+    let answer = match finish_into_box(alloc, context.into_held()) {
         Ok(held) => {
             tables.put(held);
             Ok(())
         }
         Err(e) => Err(e),
     };
-    answered(alloc, &answer, text)
+    status_of(alloc, &answer, text)
 }
 
 /// Makes the tables of a context, and returns them in a box.
@@ -268,7 +271,7 @@ pub extern "C" fn raft_ffi_context_finish(
 /// # Errors
 ///
 /// `Failed` if the context failed; `Memory`. The context is gone then.
-fn finished(alloc: Global, context: MemTableRecoverContext) -> Result<Box<MemTableAccessor>>
+fn finish_into_box(alloc: Global, context: MemTableRecoverContext) -> Result<Box<MemTableAccessor>>
     ensures ok { IfOk result (λ a. AreTablesOf context a.value) }
     ensures reading { IfOk result (λ a. HasTablesRead context a.value) }
     ensures overlaid { IfOk result (λ a. HasBothRead context a.value) }

@@ -9,7 +9,7 @@ use crate::handles::{Batch, Engine, Handle, Reader, told, with};
 use crate::held_engine::HeldEngine;
 use crate::opening::open_into;
 use crate::read_queue::Size;
-use crate::status::{Status, Tail, answered, recovery_mode, version};
+use crate::status::{Status, Tail, status_of, to_recovery_mode, to_version};
 use raft_base::Result;
 use raft_engine::Recovered;
 use std::alloc::Global;
@@ -56,8 +56,8 @@ pub extern "C" fn raft_ffi_engine_open(
     let answer = open_into(
         engine,
         alloc,
-        recovery_mode(mode),
-        version(is_signed),
+        to_recovery_mode(mode),
+        to_version(is_signed),
         append,
         append_rest,
         rewrite,
@@ -65,7 +65,7 @@ pub extern "C" fn raft_ffi_engine_open(
         appended,
         rewritten,
     );
-    tell(
+    set_tails(
         alloc,
         &answer,
         append_tail,
@@ -73,12 +73,12 @@ pub extern "C" fn raft_ffi_engine_open(
         rewrite_tail,
         rewrite_reason,
     );
-    answered(alloc, &answer, text)
+    status_of(alloc, &answer, text)
 }
 
 /// Sets the tails and the texts of their reasons to what an opening cut off, as far as there is room for the texts. Nothing is
 /// set if the opening failed.
-fn tell(
+fn set_tails(
     alloc: Global,
     answer: &Result<Recovered>,
     append_tail: &mut Tail,
@@ -90,8 +90,8 @@ fn tell(
         rewrite_reason.old rewrite_reason.new) }
 {
     if let Ok(recovered) = answer {
-        *append_tail = Tail::of(alloc, &recovered.append, append_reason);
-        *rewrite_tail = Tail::of(alloc, &recovered.rewrite, rewrite_reason);
+        *append_tail = Tail::of_cut_tail(alloc, &recovered.append, append_reason);
+        *rewrite_tail = Tail::of_cut_tail(alloc, &recovered.rewrite, rewrite_reason);
     }
 }
 

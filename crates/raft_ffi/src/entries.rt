@@ -3,7 +3,7 @@
 ghost use Rattle.std.specs.Prelude.{◌≡◌, map, IfOk, IfErr};
 ghost use Rattle.raft_ffi.specs.Words.{AreEntriesIn, entry_of};
 
-use crate::status::{is_rewrite, queue};
+use crate::status::{is_rewrite_queue, to_queue};
 use raft_base::{CompressionType, EntryIndex, Error, FileBlockHandle, FileId, Result};
 use std::alloc::Global;
 
@@ -34,7 +34,7 @@ pub(crate) fn entry_index(entry: &Entry) -> EntryIndex
     ensures { result ≡ entry_of entry.now }
 {
     let place = FileBlockHandle {
-        id: FileId::new(queue(entry.is_rewrite), entry.seq),
+        id: FileId::new(to_queue(entry.is_rewrite), entry.seq),
         offset: entry.offset,
         len: entry.len,
     };
@@ -64,7 +64,7 @@ pub(crate) fn entry_indexes(alloc: Global, entries: &[Entry]) -> Result<Vec<Entr
 }
 
 /// Returns an entry as plain data. Without a place the numbers of its block are 0.
-pub(crate) fn plain(entry: &EntryIndex) -> Entry
+pub(crate) fn to_plain_entry(entry: &EntryIndex) -> Entry
     ensures { entry_of result ≡ entry.now }
 {
     match entry.entries {
@@ -75,7 +75,7 @@ pub(crate) fn plain(entry: &EntryIndex) -> Entry
             len: place.len,
             entry_offset: entry.entry_offset,
             entry_len: entry.entry_len,
-            is_rewrite: is_rewrite(place.id.queue),
+            is_rewrite: is_rewrite_queue(place.id.queue),
             is_placed: true,
         },
         None => Entry {
@@ -98,7 +98,7 @@ pub(crate) fn copy_entries(found: &[EntryIndex], room: &mut [Entry]) -> usize
 {
     let count = found.len().min(room.len());
     for k in 0..count {
-        room[k] = plain(&found[k]);
+        room[k] = to_plain_entry(&found[k]);
     }
     found.len()
 }

@@ -76,11 +76,11 @@ macro_rules! told {
     }};
     ($held:ident in $handle:ident, $alloc:ident, $text:ident; $body:expr) => {{
         let answer = with!($held in $handle, $alloc; $body);
-        crate::status::answered($alloc, &answer, $text)
+        crate::status::status_of($alloc, &answer, $text)
     }};
     ($held:ident in $handle:ident, $alloc:ident, $found:ident, $text:ident; $body:expr) => {{
         let answer = with!($held in $handle, $alloc; $body);
-        crate::status::answered_with($alloc, answer, $found, $text)
+        crate::status::store_and_answer($alloc, answer, $found, $text)
     }};
 }
 
@@ -94,7 +94,7 @@ macro_rules! told_or_gone {
             Ok(()) => $handle.put($held),
             Err(_) => drop($held),
         }
-        crate::status::answered($alloc, &answer, $text)
+        crate::status::status_of($alloc, &answer, $text)
     }};
 }
 
@@ -110,7 +110,7 @@ macro_rules! or_told {
     ($made:expr, $alloc:ident, $text:ident) => {
         match $made {
             Ok(made) => made,
-            Err(_) => return crate::status::answered::<()>($alloc, &Err(Error::Memory), $text),
+            Err(_) => return crate::status::status_of::<()>($alloc, &Err(Error::Memory), $text),
         }
     };
 }

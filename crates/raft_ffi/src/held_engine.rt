@@ -3,7 +3,7 @@
 ghost use Rattle.std.specs.Prelude.{◌≡◌, true, IfErr, OnOk};
 ghost use Rattle.raft_ffi.specs.Words.{HandedFails, IsRewritten, IsUnrewritten, AreMovedAgain, AreUnmovedAgain, IsTaking};
 
-use crate::order_calls::{Taking, take_within};
+use crate::order_calls::{Taking, take_order_within};
 use raft_base::{Error, FileId, FileSeq, Result};
 use raft_engine::Engine;
 use raft_orders::HandedFiles;
@@ -31,7 +31,7 @@ impl Model for HeldEngine {
 
 impl HeldEngine {
     /// Makes the value for a handle of an engine.
-    pub(crate) fn of(engine: Engine<HandedFiles>) -> HeldEngine
+    pub(crate) fn of_engine(engine: Engine<HandedFiles>) -> HeldEngine
         ensures { result ≡ engine }
     {
         HeldEngine { engine }
@@ -44,7 +44,7 @@ impl HeldEngine {
     {
         let take = |files: &mut HandedFiles| -> Taking
             ensures { IsTaking files.old.asks room result × (files.new.asks ≡ files.old.asks) }
-        { take_within(files, room) };
+        { take_order_within(files, room) };
         self.engine.with_files(take)
     }
 
@@ -54,7 +54,7 @@ impl HeldEngine {
     /// # Errors
     ///
     /// `Memory` alone. This block isn't lent then.
-    pub(crate) fn lend(&mut self, file: FileId, offset: u64, bytes: &[u8]) -> Result<()>
+    pub(crate) fn lend_block(&mut self, file: FileId, offset: u64, bytes: &[u8]) -> Result<()>
         ensures same { self.new ≡ self.old }
         ensures memory { IfErr result (λ e. e ≡ Error.Memory) }
     {
@@ -77,7 +77,7 @@ impl HeldEngine {
         ensures err { IfErr result (IsUnrewritten HandedFails gate self.old self.new) }
     {
         let answer = self.engine.rewrite(gate);
-        self.clear_lent();
+        self.drop_lent_blocks();
         answer
     }
 
@@ -93,12 +93,12 @@ impl HeldEngine {
         ensures err { IfErr result (AreUnmovedAgain HandedFails self.old self.new) }
     {
         let answer = self.engine.rewrite_again();
-        self.clear_lent();
+        self.drop_lent_blocks();
         answer
     }
 
     /// Drops all blocks that were lent. The engine itself is unchanged.
-    fn clear_lent(&mut self)
+    fn drop_lent_blocks(&mut self)
         ensures { self.new ≡ self.old }
     {
         let clear = |files: &mut HandedFiles| -> ()

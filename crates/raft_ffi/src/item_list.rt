@@ -6,7 +6,7 @@ ghost use Rattle.raft_ffi.specs.Words.{key_at, value_at, AreEntriesIn, IsCopiedI
 
 use crate::entries::{Entry, copy_entries};
 use crate::handles::{Handle, Items, with};
-use crate::status::{File, Status, answered, copy_found};
+use crate::status::{File, Status, copy_found, status_of};
 use raft_base::{EntryIndex, Error, LogFileContext, Result};
 use raft_records::{Command, LogBatch, LogItem, LogItemContent, OpType, next_in};
 use std::alloc::Global;
@@ -33,7 +33,7 @@ impl Model for ItemList {
 
 impl ItemList {
     /// Makes a list of items.
-    pub(crate) fn of(items: Vec<LogItem>) -> ItemList
+    pub(crate) fn of_items(items: Vec<LogItem>) -> ItemList
         ensures { result ≡ map item_of items.items }
     {
         ItemList { items }
@@ -47,7 +47,7 @@ impl ItemList {
     }
 
     /// Returns the items one after another, in order.
-    pub(crate) fn drain(self) -> vec::IntoIter<LogItem>
+    pub(crate) fn into_items(self) -> vec::IntoIter<LogItem>
         ensures items { map item_of (into_iter_items result) ≡ self }
         ensures len { into_iter_len result ≡ length self }
     {
@@ -61,7 +61,7 @@ impl ItemList {
 /// # Errors
 ///
 /// `Memory` alone. They are lost then.
-pub(crate) fn items_of(alloc: Global, mut batch: LogBatch) -> Result<ItemList>
+pub(crate) fn take_items(alloc: Global, mut batch: LogBatch) -> Result<ItemList>
     ensures ok { IfOk result (λ list. list ≡ batch.items) }
     ensures memory { IfErr result (λ e. e ≡ Error.Memory) }
 {
@@ -69,7 +69,7 @@ pub(crate) fn items_of(alloc: Global, mut batch: LogBatch) -> Result<ItemList>
     for item in batch.drain() {
         items.push(item)?;
     }
-    Ok(ItemList::of(items))
+    Ok(ItemList::of_items(items))
 }
 
 /// What an item says, without its entries, its key and its value.
@@ -108,8 +108,8 @@ pub extern "C" fn raft_ffi_items_next(
         (IsMemoryOr (IsNextFault (signature_of (file_of file)) (drop at bytes.now))) result.code }
     ensures text { HasText result text.old text.new }
 {
-    let answer = put_next(alloc, items, &file.context(), offset, bytes, at, next);
-    answered(alloc, &answer, text)
+    let answer = read_next_items(alloc, items, &file.to_context(), offset, bytes, at, next);
+    status_of(alloc, &answer, text)
 }
 
 /// Reads the items of the log batch at position `at` of `bytes` into `items`, which is empty before, and sets `next` to the
@@ -118,7 +118,7 @@ pub extern "C" fn raft_ffi_items_next(
 /// # Errors
 ///
 /// Those of [`next_in`]; `Memory`. `items` stays empty then, and `next` isn't set.
-fn put_next(
+fn read_next_items(
     alloc: Global,
     items: &mut Items,
     file: &LogFileContext,
@@ -135,7 +135,7 @@ fn put_next(
     ensures fault { IfErr result (IsMemoryOr (IsNextFault (signature_of file.now) (drop at bytes.now))) }
 {
     if let Some((batch, behind)) = next_in(alloc, file, offset, bytes, at)? {
-        items.put_new(alloc, ItemList::of(batch.into_items()))?;
+        items.put_new(alloc, ItemList::of_items(batch.into_items()))?;
         *next = behind;
     }
     Ok(())
@@ -161,7 +161,7 @@ pub extern "C" fn raft_ffi_items_head(
     requires held { IsTrue (is_some items.old.value) }
     ensures found { IsRead (λ xs. IsFound (λ item. IsHeadOf item head.new) (slice_get xs i) result) items.old.value items.new.value }
 {
-    with!(held in items, alloc; find_head(&*held, i, head))
+    with!(held in items, alloc; set_head_of_item(&*held, i, head))
 }
 
 /// Returns whether there is an item `i`, counted from 0, and it is one of entries. If so, as many of them as there is room for
@@ -178,7 +178,7 @@ pub extern "C" fn raft_ffi_items_entries(
     ensures found { IsRead (λ xs. IsFound (λ es. AreEntriesIn es entries.old entries.new count.new) (entries_at xs i) result)
         items.old.value items.new.value }
 {
-    with!(held in items, alloc; find_entries(&*held, i, entries, count))
+    with!(held in items, alloc; copy_item_entries(&*held, i, entries, count))
 }
 
 /// Returns whether there is an item `i`, counted from 0, and it changes a key. If so, as many bytes of the key as there is
@@ -229,13 +229,13 @@ fn item_at(items: &ItemList, i: usize) -> Option<&LogItem>
 }
 
 /// Sets `head` to what item `i` says. Returns whether there is one; without it nothing is changed.
-fn find_head(items: &ItemList, i: usize, head: &mut ItemHead) -> bool
+fn set_head_of_item(items: &ItemList, i: usize, head: &mut ItemHead) -> bool
     ensures { IsFound (λ item. IsHeadOf item head.new) (slice_get items.now i) result }
 {
     let Some(item) = item_at(items, i) else {
         return false;
     };
-    let (kind, number) = said_by(&item.content);
+    let (kind, number) = kind_and_number(&item.content);
     *head = ItemHead {
         region: item.raft_group_id,
         number,
@@ -245,7 +245,7 @@ fn find_head(items: &ItemList, i: usize, head: &mut ItemHead) -> bool
 }
 
 /// Returns the number of an item's kind, and how many entries it has, or the index of its command, as [`ItemHead`] has them.
-fn said_by(content: &LogItemContent) -> (u32, u64)
+fn kind_and_number(content: &LogItemContent) -> (u32, u64)
     ensures kind { result.0 ≡ kind_of (content_of content.now) }
     ensures number { result.1 ≡ number_of (content_of content.now) }
 {
@@ -263,7 +263,7 @@ fn said_by(content: &LogItemContent) -> (u32, u64)
 
 /// Copies the entries of item `i` into `room`, as many as there is room for, and sets `count` to how many there are. Returns
 /// whether the item is one of entries; else nothing is changed.
-fn find_entries(items: &ItemList, i: usize, room: &mut [Entry], count: &mut usize) -> bool
+fn copy_item_entries(items: &ItemList, i: usize, room: &mut [Entry], count: &mut usize) -> bool
     ensures { IsFound (λ es. AreEntriesIn es room.old room.new count.new) (entries_at items.now i) result }
 {
     let Some(entries) = entries_of(items, i) else {

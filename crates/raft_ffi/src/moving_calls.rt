@@ -4,7 +4,7 @@ ghost use Rattle.std.specs.Prelude.{◌≡◌, ◌≢◌, true, IsTrue, is_some,
 ghost use Rattle.raft_ffi.specs.Words.{HandedFails, AreMovedAgain, AreUnmovedAgain, BothHold, HasText, Holds, IsCodeForBoth, IsCopied, IsRewritten, IsUnrewritten};
 
 use crate::handles::{Engine, Handle, or_told, told, with};
-use crate::status::{Maybe, Status, copy_front, is_rewrite, queue};
+use crate::status::{Maybe, Status, copy_front, is_rewrite_queue, to_queue};
 use raft_accessor::MemTableAccessor;
 use raft_base::{Error, FileId, FileSeq, Result};
 use raft_engine::rewriting::entries_to_move;
@@ -80,7 +80,7 @@ pub extern "C" fn raft_ffi_engine_moving_blocks(
     ensures ok { result ≡ 0 → (found : List Place) × IsCopied found places.old places.new count.new }
     ensures fault { result ≢ 0 → result ≡ 11 }
 {
-    let gate = gate.number();
+    let gate = gate.to_option();
     let found =
         with!(held in engine, alloc; blocks_to_move(alloc, held.engine.accessor(), gate, max_size));
     *count = copy_front(or_told!(found).as_slice(), places);
@@ -102,7 +102,7 @@ pub extern "C" fn raft_ffi_engine_lend(
     ensures same { engine.new.value ≡ engine.old.value }
     ensures fault { result ≢ 0 → result ≡ 11 }
 {
-    told!(held in engine, alloc; held.lend(FileId::new(queue(is_rewrite), seq), offset, bytes))
+    told!(held in engine, alloc; held.lend_block(FileId::new(to_queue(is_rewrite), seq), offset, bytes))
 }
 
 /// Returns the places of the blocks, each once, that have to be read if records move: with a gate those of the append files
@@ -141,7 +141,7 @@ fn blocks_to_move(
                     seq: place.id.seq,
                     offset: place.offset,
                     len: place.len,
-                    is_rewrite: is_rewrite(place.id.queue),
+                    is_rewrite: is_rewrite_queue(place.id.queue),
                 })?;
                 size = size.saturating_add(place.len);
             }

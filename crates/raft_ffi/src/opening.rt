@@ -51,7 +51,7 @@ impl Found for FoundByReaders<'_> {
 ///
 /// # Errors
 ///
-/// Those of [`read_over`], and those of an order: `Memory`, `Full`. `engine` stays empty then.
+/// Those of [`make_reading`], and those of an order: `Memory`, `Full`. `engine` stays empty then.
 pub(crate) fn open_into(
     engine: &mut Engine,
     alloc: Global,
@@ -82,7 +82,7 @@ pub(crate) fn open_into(
         rewritten: &rewritten,
     });
     let files = HandedFiles::found(alloc, found);
-    let reading = read_over(
+    let reading = make_reading(
         alloc,
         mode,
         version,
@@ -95,7 +95,7 @@ pub(crate) fn open_into(
     )?;
     let damaged = Vec::new(alloc);
     let opened = raft_engine::Engine::of_reading(version, files, reading, damaged)?;
-    engine.put_new(alloc, HeldEngine::of(opened.engine))?;
+    engine.put_new(alloc, HeldEngine::of_engine(opened.engine))?;
     Ok(opened.recovered)
 }
 
@@ -106,7 +106,7 @@ pub(crate) fn open_into(
 ///
 /// Those of [`sized_queue`]; `InvalidArgument` if an atomic group of the rewrite files doesn't stand in a row, in one file;
 /// `Full` if the files of a queue have 2^63 bytes or more, or 2^56 or more would have to be written at once; `Memory`.
-fn read_over(
+fn make_reading(
     alloc: Global,
     mode: RecoveryMode,
     version: Version,

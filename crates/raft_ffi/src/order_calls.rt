@@ -4,7 +4,7 @@ ghost use Rattle.std.specs.Prelude.{◌≡◌, ◌<◌, ◌≤◌, true, false, 
 ghost use Rattle.raft_ffi.specs.Words.{Holds, IsTaking, IsWaiting, Lasts, act_of, act_of_kind, ask_in, ask_of, length_put, next_to_do};
 
 use crate::handles::{Engine, Handle, with};
-use crate::status::{copy_front, is_rewrite};
+use crate::status::{copy_front, is_rewrite_queue};
 use raft_orders::{HandedFiles, NumberedOrder, Task};
 use std::alloc::Global;
 
@@ -55,7 +55,7 @@ pub extern "C" fn raft_ffi_engine_take_order(
     *is_taken = false;
     match taking {
         Taking::Taken(taken) => {
-            *order = head(&taken, bytes);
+            *order = order_head(&taken, bytes);
             *is_taken = true;
             true
         }
@@ -72,25 +72,25 @@ pub extern "C" fn raft_ffi_engine_take_order(
 }
 
 /// Returns what an order says without its bytes, and copies its bytes to the start of `bytes`, which has room for them.
-fn head(taken: &NumberedOrder, bytes: &mut [u8]) -> OrderHead
+fn order_head(taken: &NumberedOrder, bytes: &mut [u8]) -> OrderHead
     requires { length_put taken.now.order.task ≤ length bytes.old }
     ensures number { result.at ≡ taken.now.number }
     ensures says { ask_in result bytes.new ≡ ask_of taken.now.order }
 {
-    let (kind, number, len) = act(&taken.order.task, bytes);
+    let (kind, number, len) = task_numbers(&taken.order.task, bytes);
     OrderHead {
         at: taken.number,
         number,
         len,
         kind,
-        is_rewrite: is_rewrite(taken.order.queue),
+        is_rewrite: is_rewrite_queue(taken.order.queue),
     }
 }
 
 /// Returns the kind, the number and the length of a task, as [`OrderHead`] has them, and copies its bytes to the start of
 /// `bytes`, which has room for them.
 #[tactic(auto, using(crate::proofs::OrderLemmas::put_says))]
-fn act(task: &Task, bytes: &mut [u8]) -> (u32, u64, usize)
+fn task_numbers(task: &Task, bytes: &mut [u8]) -> (u32, u64, usize)
     requires { length_put task.now ≤ length bytes.old }
     ensures { act_of_kind result.0 result.1 (take result.2 bytes.new) ≡ act_of task.now }
 {
@@ -115,7 +115,7 @@ pub(crate) enum Taking {
 }
 
 /// Takes the oldest order that waits, if it has at most `room` bytes.
-pub(crate) fn take_within(files: &mut HandedFiles, room: usize) -> Taking
+pub(crate) fn take_order_within(files: &mut HandedFiles, room: usize) -> Taking
     ensures taking { IsTaking files.old.asks room result }
     ensures same { files.new.asks ≡ files.old.asks }
 {

@@ -32,7 +32,9 @@ pub extern "C" fn raft_ffi_tables_pairs_before(
     ensures found { IsReadIfMemory result (λ a. ArePairsIn (pairs_up_to Append (Some gate) (table_in a.tables region).keys) lens.old
         lens.new count.new bytes.old bytes.new len.new) tables.old.value tables.new.value }
 {
-    let found = or_told!(with!(held in tables, alloc; pairs_in(alloc, &*held, region, Some(gate))));
+    let found = or_told!(
+        with!(held in tables, alloc; copy_moving_pairs(alloc, &*held, region, Some(gate)))
+    );
     memory_code(&copy_pairs(alloc, &found, lens, count, bytes, len))
 }
 
@@ -52,7 +54,9 @@ pub extern "C" fn raft_ffi_tables_rewritten_pairs(
     ensures found { IsReadIfMemory result (λ a. ArePairsIn (pairs_up_to Rewrite None (table_in a.tables region).keys) lens.old
         lens.new count.new bytes.old bytes.new len.new) tables.old.value tables.new.value }
 {
-    let found = or_told!(with!(held in tables, alloc; pairs_in(alloc, &*held, region, None)));
+    let found = or_told!(
+        with!(held in tables, alloc; copy_moving_pairs(alloc, &*held, region, None))
+    );
     memory_code(&copy_pairs(alloc, &found, lens, count, bytes, len))
 }
 
@@ -76,8 +80,8 @@ pub extern "C" fn raft_ffi_tables_scan(
     ensures found { IsReadIfMemory result (λ a. AreScannedIn start.now (bound_in is_bounded end.now) (table_in a.tables region).keys
         lens.old lens.new count.new bytes.old bytes.new len.new) tables.old.value tables.new.value }
 {
-    let end = bound(is_bounded, end);
-    told!(held in tables, alloc; scan_in(alloc, &*held, region, start, end, lens, count, bytes, len))
+    let end = optional_bound(is_bounded, end);
+    told!(held in tables, alloc; scan_pairs(alloc, &*held, region, start, end, lens, count, bytes, len))
 }
 
 /// Lists the pairs of a region whose key is at or above `start` and, with `is_bounded`, below `end`, in the order of the keys.
@@ -100,12 +104,12 @@ pub extern "C" fn raft_ffi_engine_scan(
     ensures found { IsReadIfMemory result (λ e. AreScannedIn start.now (bound_in is_bounded end.now) (table_in e.accessor.tables
         region).keys lens.old lens.new count.new bytes.old bytes.new len.new) engine.old.value engine.new.value }
 {
-    let end = bound(is_bounded, end);
-    told!(held in engine, alloc; scan_in(alloc, held.engine.accessor(), region, start, end, lens, count, bytes, len))
+    let end = optional_bound(is_bounded, end);
+    told!(held in engine, alloc; scan_pairs(alloc, held.engine.accessor(), region, start, end, lens, count, bytes, len))
 }
 
 /// Returns `key` as the bound of a scan, or `None` if `is_bounded` isn't set.
-fn bound(is_bounded: bool, key: &[u8]) -> Option<&[u8]>
+fn optional_bound(is_bounded: bool, key: &[u8]) -> Option<&[u8]>
     ensures { option_copied result ≡ bound_in is_bounded key.now }
 {
     if is_bounded { Some(key) } else { None }
@@ -117,7 +121,7 @@ fn bound(is_bounded: bool, key: &[u8]) -> Option<&[u8]>
 /// # Errors
 ///
 /// `Memory` alone. Nothing is listed then.
-fn scan_in(
+fn scan_pairs(
     alloc: Global,
     accessor: &MemTableAccessor,
     region: u64,
@@ -132,7 +136,7 @@ fn scan_in(
         region).keys lens.old lens.new count.new bytes.old bytes.new len.new) }
     ensures memory { IfErr result (λ e. e ≡ Error.Memory) }
 {
-    let found = scanned(alloc, accessor, region, start, end)?;
+    let found = copy_pairs_between(alloc, accessor, region, start, end)?;
     copy_pairs(alloc, &found, lens, count, bytes, len)
 }
 
@@ -142,7 +146,7 @@ fn scan_in(
 /// # Errors
 ///
 /// `Memory` alone.
-fn scanned(
+fn copy_pairs_between(
     alloc: Global,
     accessor: &MemTableAccessor,
     region: u64,
@@ -153,7 +157,7 @@ fn scanned(
         (table_in accessor.now.tables region).keys (pairs_shown v.items)) }
     ensures memory { IfErr result (λ e. e ≡ Error.Memory) }
 {
-    let mut found = pairs_of_both(alloc, accessor, region)?;
+    let mut found = copy_pairs_of_both(alloc, accessor, region)?;
     keep_between(&mut found, start, end);
     sort_by_key(&mut found);
     Ok(found)
@@ -164,12 +168,12 @@ fn scanned(
 /// # Errors
 ///
 /// `Memory` alone.
-fn pairs_of_both(alloc: Global, accessor: &MemTableAccessor, region: u64) -> Result<Pairs>
+fn copy_pairs_of_both(alloc: Global, accessor: &MemTableAccessor, region: u64) -> Result<Pairs>
     ensures ok { IfOk result (λ v. pairs_shown v.items ≡ pairs_of_both (table_in accessor.now.tables region).keys) }
     ensures memory { IfErr result (λ e. e ≡ Error.Memory) }
 {
-    let mut found = pairs_in(alloc, accessor, region, Some(u64::MAX))?;
-    let mut rewritten = pairs_in(alloc, accessor, region, None)?;
+    let mut found = copy_moving_pairs(alloc, accessor, region, Some(u64::MAX))?;
+    let mut rewritten = copy_moving_pairs(alloc, accessor, region, None)?;
     found.append(&mut rewritten)?;
     Ok(found)
 }
@@ -180,7 +184,7 @@ fn pairs_of_both(alloc: Global, accessor: &MemTableAccessor, region: u64) -> Res
 /// # Errors
 ///
 /// `Memory` alone.
-fn pairs_in(
+fn copy_moving_pairs(
     alloc: Global,
     accessor: &MemTableAccessor,
     region: u64,

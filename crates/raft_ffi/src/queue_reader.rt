@@ -62,7 +62,7 @@ impl QueueReader {
     }
 
     /// Returns the offsets in the queue's last file of the batches with damaged entries that were found, in order.
-    pub(crate) fn damaged(&self) -> &[u64]
+    pub(crate) fn damaged_offsets(&self) -> &[u64]
         ensures { result.now ≡ self.now.damaged }
     {
         self.damaged.as_slice()

@@ -36,7 +36,7 @@ pub struct Size {
 ///
 /// # Errors
 ///
-/// `Corruption` if the number of a file isn't one above that of the file before it; those of [`tail_of`]; `Memory`.
+/// `Corruption` if the number of a file isn't one above that of the file before it; those of [`tail_of_rest`]; `Memory`.
 pub(crate) fn sized_queue(
     alloc: Global,
     mode: RecoveryMode,
@@ -53,7 +53,7 @@ pub(crate) fn sized_queue(
     let found = file_sizes(alloc, sizes)?;
     let files = found.as_slice();
     check_sizes(alloc, queue, files)?;
-    let missing = missing_of(alloc, mode, queue, version, files, rest)?;
+    let missing = find_missing(alloc, mode, queue, version, files, rest)?;
     let left = sizes_left(alloc, files, &missing)?;
     let known = known_of(alloc, left.as_slice())?;
     let ready = ReadyQueue { missing, known };
@@ -84,8 +84,8 @@ fn file_sizes(alloc: Global, sizes: &[Size]) -> Result<Vec<FileSize>>
 ///
 /// # Errors
 ///
-/// Those of [`tail_of`].
-fn missing_of(
+/// Those of [`tail_of_rest`].
+fn find_missing(
     alloc: Global,
     mode: RecoveryMode,
     queue: LogQueue,
@@ -102,7 +102,7 @@ fn missing_of(
         return Ok(Missing::FirstFile);
     };
     let file = LogFileContext::new(FileId::new(queue, last.seq), version);
-    match tail_of(alloc, mode, &file, last.len, rest)? {
+    match tail_of_rest(alloc, mode, &file, last.len, rest)? {
         None => Ok(Missing::Nothing),
         Some(tail) => Ok(Missing::Cut(tail)),
     }
@@ -115,7 +115,7 @@ fn missing_of(
 ///
 /// `Corruption` if `mode` refuses the tail, the file is of the other version, or a batch can be read at its start;
 /// `InvalidArgument` if the file is one of raft-engine; `Memory`.
-fn tail_of(
+fn tail_of_rest(
     alloc: Global,
     mode: RecoveryMode,
     file: &LogFileContext,
@@ -132,7 +132,7 @@ fn tail_of(
         return Ok(None);
     }
     let offset = len.saturating_sub(rest_len);
-    let error = stop_of(alloc, file, offset, rest)?;
+    let error = stop_error(alloc, file, offset, rest)?;
     let bytes = Vec::from_slice(alloc, rest)?;
     let part = FilePart::new(file.id, file.version, offset, bytes)?;
     check_rest(mode, &part)?;
@@ -149,7 +149,7 @@ fn tail_of(
 /// # Errors
 ///
 /// `Corruption` if a batch can be read there; `Memory`.
-fn stop_of(alloc: Global, file: &LogFileContext, offset: u64, rest: &[u8]) -> Result<Error>
+fn stop_error(alloc: Global, file: &LogFileContext, offset: u64, rest: &[u8]) -> Result<Error>
     requires ends { offset + length rest.now < 2 ^ 64 }
     ensures unreadable { IfOk result (λ e. HasNoFront (λ xs. IsReadable xs (signature_of file.now)) rest.now) }
     ensures why { IfOk result (IsNextFault (signature_of file.now) rest.now) }

@@ -6,7 +6,7 @@ ghost use Rattle.raft_ffi.specs.Words.{IsReadable, IsRefusedFor, IsReplayedBy, R
 
 use crate::handles::{Handle, Reader, or_told, told_or_gone, with};
 use crate::queue_reader::QueueReader;
-use crate::status::{File, Status, answered, answered_with, copy_front, memory_code, queue};
+use crate::status::{File, Status, copy_front, memory_code, status_of, store_and_answer, to_queue};
 use raft_base::Result;
 use raft_prefix::entry_blocks::damage_at;
 use std::alloc::Global;
@@ -44,7 +44,7 @@ pub extern "C" fn raft_ffi_reader_replay(
         offset bytes.now) 0) (HaveBothRead old.read)) reader.old.value }
     ensures text { HasText result text.old text.new }
 {
-    told_or_gone!(held in reader, alloc, text; held.replay(alloc, &file.context(), offset, bytes))
+    told_or_gone!(held in reader, alloc, text; held.replay(alloc, &file.to_context(), offset, bytes))
 }
 
 /// Replays the batches at the start of `bytes`, up to the first one that can't be read, and sets `len` to how many bytes they
@@ -73,12 +73,12 @@ pub extern "C" fn raft_ffi_reader_replay_last(
     ensures text { HasText result text.old text.new }
 {
     let mut held = reader.take(alloc);
-    let answer = held.replay_last(alloc, &file.context(), offset, bytes);
+    let answer = held.replay_last(alloc, &file.to_context(), offset, bytes);
     match &answer {
         Ok(_) => reader.put(held),
         Err(_) => drop(held),
     }
-    answered_with(alloc, answer, len, text)
+    store_and_answer(alloc, answer, len, text)
 }
 
 /// Takes in what `newer` has read, the batches that follow in the same queue. `newer` is gone then. The code is 0, or that of
@@ -101,7 +101,7 @@ pub extern "C" fn raft_ffi_reader_merge(
         → BothHold (AreReadersUnsound (queue_of is_rewrite)) reader.old.value newer.value }
     ensures text { HasText result text.old text.new }
 {
-    told_or_gone!(held in reader, alloc, text; held.merge(newer.into_held(), queue(is_rewrite)))
+    told_or_gone!(held in reader, alloc, text; held.merge(newer.into_held(), to_queue(is_rewrite)))
 }
 
 /// Lists in `offsets` where in the last append file the batches with damaged entries begin that a reader has found, in order,
@@ -115,7 +115,7 @@ pub extern "C" fn raft_ffi_reader_damaged(
     requires held { IsTrue (is_some reader.old.value) }
     ensures found { IsRead (λ r. IsCopied r.damaged offsets.old offsets.new result) reader.old.value reader.new.value }
 {
-    with!(held in reader, alloc; copy_front(held.damaged(), offsets))
+    with!(held in reader, alloc; copy_front(held.damaged_offsets(), offsets))
 }
 
 /// Returns the error with which damaged entries of the batch that begins at `offset` of `file` are refused: its code, and its
@@ -130,8 +130,8 @@ pub extern "C" fn raft_ffi_damaged_entries(
     ensures refused { IsRefusedFor (IsCorruption (damaged_entries_text (file_of file).id offset)) result text.old text.new }
     ensures text { HasText result text.old text.new }
 {
-    let refused: Result<()> = Err(damage_at(alloc, file.context().id, offset));
-    answered(alloc, &refused, text)
+    let refused: Result<()> = Err(damage_at(alloc, file.to_context().id, offset));
+    status_of(alloc, &refused, text)
 }
 
 /// Frees the reader.

@@ -34,7 +34,7 @@ pub struct Maybe {
 #[repr(C)]
 #[derive(Clone, Copy)]
 pub struct Status {
-    /// 0, or the number of the error (see `code`): 1 (`InvalidArgument`) to 12 (`Failed`).
+    /// 0, or the number of the error (see `error_code`): 1 (`InvalidArgument`) to 12 (`Failed`).
     pub code: u32,
     /// The length of the error's text in bytes, which may be more than were written; 0 without an error, or if there is no
     /// memory for the text.
@@ -60,7 +60,7 @@ pub struct Tail {
 }
 
 /// Returns the rewrite queue if `is_rewrite` is set, else the append queue.
-pub(crate) fn queue(is_rewrite: bool) -> LogQueue
+pub(crate) fn to_queue(is_rewrite: bool) -> LogQueue
     ensures { result ≡ queue_of is_rewrite }
 {
     if is_rewrite {
@@ -71,7 +71,7 @@ pub(crate) fn queue(is_rewrite: bool) -> LogQueue
 }
 
 /// Returns version 2 if `is_signed` is set, else version 1.
-pub(crate) fn version(is_signed: bool) -> Version
+pub(crate) fn to_version(is_signed: bool) -> Version
     ensures { result ≡ version_of is_signed }
 {
     if is_signed { Version::V2 } else { Version::V1 }
@@ -79,7 +79,7 @@ pub(crate) fn version(is_signed: bool) -> Version
 
 /// Returns the recovery mode with the number `mode`: 0 allows no cut, 2 allows the cut of damage too. Any other number stands
 /// for the mode in which torn tails alone are cut off.
-pub(crate) fn recovery_mode(mode: u32) -> RecoveryMode
+pub(crate) fn to_recovery_mode(mode: u32) -> RecoveryMode
     ensures { result ≡ mode_of mode }
 {
     match mode {
@@ -90,7 +90,7 @@ pub(crate) fn recovery_mode(mode: u32) -> RecoveryMode
 }
 
 /// Tests whether `queue` is the rewrite queue.
-pub(crate) fn is_rewrite(queue: LogQueue) -> bool
+pub(crate) fn is_rewrite_queue(queue: LogQueue) -> bool
     ensures { queue_of result ≡ queue }
 {
     match queue {
@@ -101,21 +101,21 @@ pub(crate) fn is_rewrite(queue: LogQueue) -> bool
 
 impl Maybe {
     /// Returns the number, or `None` if it is missing.
-    pub(crate) fn number(self) -> Option<u64>
+    pub(crate) fn to_option(self) -> Option<u64>
         ensures { result ≡ number_in self }
     {
         self.is_some.then_some(self.number)
     }
 
     /// Returns the number as a size, or `None` if it is missing.
-    pub(crate) fn size(self) -> Option<usize>
+    pub(crate) fn to_size_option(self) -> Option<usize>
         ensures { result ≡ number_in self }
     {
         self.is_some.then_some(self.number as usize)
     }
 
     /// Returns a number that may be missing as plain data, with 0 in place of a missing one.
-    pub(crate) fn of(number: Option<u64>) -> Maybe
+    pub(crate) fn of_option(number: Option<u64>) -> Maybe
         ensures { number_in result ≡ number }
     {
         Maybe {
@@ -128,7 +128,7 @@ impl Maybe {
 impl Tail {
     /// Returns as plain data which tail was cut off, if one was, and writes the text of the reason into `text` as far as there
     /// is room.
-    pub(crate) fn of(alloc: Global, cut: &Option<CutTail>, text: &mut [u8]) -> Tail
+    pub(crate) fn of_cut_tail(alloc: Global, cut: &Option<CutTail>, text: &mut [u8]) -> Tail
         ensures { IsTailIn cut.now result text.old text.new }
     {
         match cut {
@@ -137,7 +137,7 @@ impl Tail {
                 offset: cut.offset,
                 len: cut.len,
                 text_len: write_text(alloc, &cut.error, text),
-                code: code(&cut.error),
+                code: error_code(&cut.error),
                 is_some: true,
             },
             None => Tail {
@@ -154,16 +154,16 @@ impl Tail {
 
 impl File {
     /// Returns the file and its version as batches take them.
-    pub(crate) fn context(&self) -> LogFileContext
+    pub(crate) fn to_context(&self) -> LogFileContext
         ensures { result ≡ file_of self.now }
     {
-        let id = FileId::new(queue(self.is_rewrite), self.seq);
-        LogFileContext::new(id, version(self.is_signed))
+        let id = FileId::new(to_queue(self.is_rewrite), self.seq);
+        LogFileContext::new(id, to_version(self.is_signed))
     }
 }
 
 /// Returns the number of an error, from 1 to 12, as [`Status`] has it.
-pub(crate) fn code(e: &Error) -> u32
+pub(crate) fn error_code(e: &Error) -> u32
     ensures { result ≡ code_of e.now }
 {
     match e {
@@ -194,7 +194,7 @@ pub(crate) fn memory_code(answer: &Result<()>) -> u32
 }
 
 /// Returns how a call ended, and writes the text of its error into `text` as far as there is room.
-pub(crate) fn answered<T>(alloc: Global, answer: &Result<T>, text: &mut [u8]) -> Status
+pub(crate) fn status_of<T>(alloc: Global, answer: &Result<T>, text: &mut [u8]) -> Status
     ensures ok { OnOk answer.now (result.code ≡ 0) }
     ensures err { IfErr answer.now (λ e. result.code ≡ code_of e) }
     ensures text { HasText result text.old text.new }
@@ -206,7 +206,7 @@ pub(crate) fn answered<T>(alloc: Global, answer: &Result<T>, text: &mut [u8]) ->
             text_len: 0,
         },
         Err(e) => Status {
-            code: code(e),
+            code: error_code(e),
             text_len: write_text(alloc, e, text),
         },
     }
@@ -214,7 +214,7 @@ pub(crate) fn answered<T>(alloc: Global, answer: &Result<T>, text: &mut [u8]) ->
 
 /// Returns how a call ended. After an `Ok`, `found` is set to its value; after an `Err`, the text of the error is written into
 /// `text` as far as there is room, and `found` is unchanged.
-pub(crate) fn answered_with<T: Copy>(
+pub(crate) fn store_and_answer<T: Copy>(
     alloc: Global,
     answer: Result<T>,
     found: &mut T,
@@ -228,7 +228,7 @@ pub(crate) fn answered_with<T: Copy>(
     if let Ok(value) = &answer {
         *found = *value;
     }
-    answered(alloc, &answer, text)
+    status_of(alloc, &answer, text)
 }
 
 /// Writes the text of an error into `text` as far as there is room. Returns the length of the text in bytes, or 0 if there is

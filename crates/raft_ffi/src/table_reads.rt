@@ -4,9 +4,9 @@ ghost use Rattle.std.specs.Prelude.{◌≡◌, ◌≢◌, IsTrue, is_some, ◌+�
 ghost use Rattle.raft_ffi.specs.Words.{Rewrite, AreEntriesIn, AreRegionsIn, HasText, Holds, IsCopied, IsEntryIn, IsFetchFault, IsFetched, IsFound, IsRead, IsReadIfMemory, IsReadOrRefused, IsSummaryIn, IsValueIn, appended_before, end_of};
 ghost use Rattle.raft_ffi.specs.Words.{entry_at, live, moving_entries, number_in, placed_in, queue_of, range_answer, start_of, table_in, value_in};
 
-use crate::entries::{Entry, copy_entries, plain};
+use crate::entries::{Entry, copy_entries, to_plain_entry};
 use crate::handles::{Engine, Handle, Tables, or_told, told, with};
-use crate::status::{Maybe, Status, copy_found, copy_front, queue};
+use crate::status::{Maybe, Status, copy_found, copy_front, to_queue};
 use raft_accessor::MemTableAccessor;
 use raft_base::{EntryIndex, Error, LogQueue, Result};
 use raft_engine::rewriting::{entries_to_move, regions_of};
@@ -39,7 +39,7 @@ pub extern "C" fn raft_ffi_tables_live(
     requires held { IsTrue (is_some tables.old.value) }
     ensures live { IsRead (λ a. result ≡ live (queue_of is_rewrite) a.counts) tables.old.value tables.new.value }
 {
-    with!(held in tables, alloc; held.stats().live_entries(queue(is_rewrite)))
+    with!(held in tables, alloc; held.stats().live_entries(to_queue(is_rewrite)))
 }
 
 /// Returns whether a region has a table. If it has one, `summary` is set to what that has.
@@ -53,7 +53,7 @@ pub extern "C" fn raft_ffi_tables_summary(
     requires held { IsTrue (is_some tables.old.value) }
     ensures found { IsRead (IsSummaryIn region result summary.new) tables.old.value tables.new.value }
 {
-    with!(held in tables, alloc; summary_in(&*held, region, summary))
+    with!(held in tables, alloc; set_summary(&*held, region, summary))
 }
 
 /// Lists in `regions` the regions that have a table, in rising order, as many as there is room for. Sets `count` to how many
@@ -69,7 +69,7 @@ pub extern "C" fn raft_ffi_tables_regions(
     ensures found { IsReadIfMemory result (λ a. AreRegionsIn a.tables regions.old regions.new count.new) tables.old.value
         tables.new.value }
 {
-    told!(held in tables, alloc; find_regions(&*held, regions, count))
+    told!(held in tables, alloc; copy_regions(&*held, regions, count))
 }
 
 /// Lists in `regions` the regions that were cleaned, in order, as many as there is room for. Returns how many there are, which
@@ -98,7 +98,7 @@ pub extern "C" fn raft_ffi_tables_entry(
     requires held { IsTrue (is_some tables.old.value) }
     ensures found { IsRead (IsEntryIn region index result entry.new) tables.old.value tables.new.value }
 {
-    with!(held in tables, alloc; entry_in(&*held, region, index, entry))
+    with!(held in tables, alloc; set_entry(&*held, region, index, entry))
 }
 
 /// Lists in `entries` the entries of a region from `begin` on and below `end`, as many as there is room for. Sets `count` to
@@ -126,7 +126,7 @@ pub extern "C" fn raft_ffi_tables_entries(
     ensures text { HasText result text.old text.new }
 {
     let range = (begin, end);
-    told!(held in tables, alloc, text; entries_in(alloc, &*held, region, range, max_size.size(), entries, count))
+    told!(held in tables, alloc, text; copy_entries_in_range(alloc, &*held, region, range, max_size.to_size_option(), entries, count))
 }
 
 /// Lists in `entries` the appended entries of a region, from the first one on while their file is numbered at or below `gate`,
@@ -146,7 +146,7 @@ pub extern "C" fn raft_ffi_tables_entries_before(
         entries.new count.new) tables.old.value tables.new.value }
 {
     let found = or_told!(
-        with!(held in tables, alloc; moving_in(alloc, &*held, region, Some(gate)))
+        with!(held in tables, alloc; copy_moving_entries(alloc, &*held, region, Some(gate)))
     );
     *count = copy_entries(&found, entries);
     0
@@ -166,7 +166,9 @@ pub extern "C" fn raft_ffi_tables_rewritten_entries(
     ensures found { IsReadIfMemory result (λ a. AreEntriesIn (placed_in Rewrite (table_in a.tables region).entries) entries.old
         entries.new count.new) tables.old.value tables.new.value }
 {
-    let found = or_told!(with!(held in tables, alloc; moving_in(alloc, &*held, region, None)));
+    let found = or_told!(
+        with!(held in tables, alloc; copy_moving_entries(alloc, &*held, region, None))
+    );
     *count = copy_entries(&found, entries);
     0
 }
@@ -206,7 +208,7 @@ pub extern "C" fn raft_ffi_engine_live(
     requires held { IsTrue (is_some engine.old.value) }
     ensures live { IsRead (λ e. result ≡ live (queue_of is_rewrite) e.accessor.counts) engine.old.value engine.new.value }
 {
-    with!(held in engine, alloc; held.engine.accessor().stats().live_entries(queue(is_rewrite)))
+    with!(held in engine, alloc; held.engine.accessor().stats().live_entries(to_queue(is_rewrite)))
 }
 
 /// Returns whether a region has a table. If it has one, `summary` is set to what that has.
@@ -220,7 +222,7 @@ pub extern "C" fn raft_ffi_engine_summary(
     requires held { IsTrue (is_some engine.old.value) }
     ensures found { IsRead (λ e. IsSummaryIn region result summary.new e.accessor) engine.old.value engine.new.value }
 {
-    with!(held in engine, alloc; summary_in(held.engine.accessor(), region, summary))
+    with!(held in engine, alloc; set_summary(held.engine.accessor(), region, summary))
 }
 
 /// Lists in `regions` the regions that have a table, in rising order, as many as there is room for. Sets `count` to how many
@@ -236,7 +238,7 @@ pub extern "C" fn raft_ffi_engine_regions(
     ensures found { IsReadIfMemory result (λ e. AreRegionsIn e.accessor.tables regions.old regions.new count.new) engine.old.value
         engine.new.value }
 {
-    told!(held in engine, alloc; find_regions(held.engine.accessor(), regions, count))
+    told!(held in engine, alloc; copy_regions(held.engine.accessor(), regions, count))
 }
 
 /// Returns whether a region has an entry with the index `index`. If it has one, `entry` is set to it.
@@ -251,7 +253,7 @@ pub extern "C" fn raft_ffi_engine_entry(
     requires held { IsTrue (is_some engine.old.value) }
     ensures found { IsRead (λ e. IsEntryIn region index result entry.new e.accessor) engine.old.value engine.new.value }
 {
-    with!(held in engine, alloc; entry_in(held.engine.accessor(), region, index, entry))
+    with!(held in engine, alloc; set_entry(held.engine.accessor(), region, index, entry))
 }
 
 /// Lists in `entries` the entries of a region from `begin` on and below `end`, and sets `count` to how many there are, as
@@ -275,7 +277,7 @@ pub extern "C" fn raft_ffi_engine_entries(
     ensures text { HasText result text.old text.new }
 {
     let range = (begin, end);
-    told!(held in engine, alloc, text; entries_in(alloc, held.engine.accessor(), region, range, max_size.size(), entries, count))
+    told!(held in engine, alloc, text; copy_entries_in_range(alloc, held.engine.accessor(), region, range, max_size.to_size_option(), entries, count))
 }
 
 /// Returns whether `key` of a region has a value. If it has one, as many of its bytes are copied into `value` as there is room
@@ -311,7 +313,7 @@ pub extern "C" fn raft_ffi_engine_first_index(
     ensures none { result ≡ false → Holds (λ e. (table_in e.accessor.tables region).entries ≡ []) engine.old.value }
 {
     let found = with!(held in engine, alloc; held.engine.first_index(region));
-    found_number(found, index)
+    set_if_found(found, index)
 }
 
 /// Returns whether a region has entries. If it has, `index` is set to their greatest index.
@@ -328,11 +330,11 @@ pub extern "C" fn raft_ffi_engine_last_index(
     ensures none { result ≡ false → Holds (λ e. (table_in e.accessor.tables region).entries ≡ []) engine.old.value }
 {
     let found = with!(held in engine, alloc; held.engine.last_index(region));
-    found_number(found, index)
+    set_if_found(found, index)
 }
 
 /// Sets `number` to a number that was found. Returns whether one was; for `None` nothing is changed.
-fn found_number(found: Option<u64>, number: &mut u64) -> bool
+fn set_if_found(found: Option<u64>, number: &mut u64) -> bool
     ensures { IsFound (λ n. number.new ≡ n) found result }
 {
     let Some(found) = found else {
@@ -343,7 +345,7 @@ fn found_number(found: Option<u64>, number: &mut u64) -> bool
 }
 
 /// Sets `summary` to what the table of a region has. Returns whether there is one; without it nothing is changed.
-fn summary_in(accessor: &MemTableAccessor, region: u64, summary: &mut Summary) -> bool
+fn set_summary(accessor: &MemTableAccessor, region: u64, summary: &mut Summary) -> bool
     ensures { IsSummaryIn region result summary.new accessor.now }
 {
     let Some(table) = accessor.get(region) else {
@@ -352,21 +354,21 @@ fn summary_in(accessor: &MemTableAccessor, region: u64, summary: &mut Summary) -
     *summary = Summary {
         entries: table.entries_count(),
         keys: table.key_count(),
-        first: Maybe::of(table.first_index()),
-        append_seq: Maybe::of(table.min_file_seq(LogQueue::Append)),
-        rewrite_seq: Maybe::of(table.min_file_seq(LogQueue::Rewrite)),
+        first: Maybe::of_option(table.first_index()),
+        append_seq: Maybe::of_option(table.min_file_seq(LogQueue::Append)),
+        rewrite_seq: Maybe::of_option(table.min_file_seq(LogQueue::Rewrite)),
     };
     true
 }
 
 /// Sets `entry` to the entry of a region with the index `index`. Returns whether there is one; without it nothing is changed.
-fn entry_in(accessor: &MemTableAccessor, region: u64, index: u64, entry: &mut Entry) -> bool
+fn set_entry(accessor: &MemTableAccessor, region: u64, index: u64, entry: &mut Entry) -> bool
     ensures { IsEntryIn region index result entry.new accessor.now }
 {
     let Some(found) = entry_at(accessor, region, index) else {
         return false;
     };
-    *entry = plain(&found);
+    *entry = to_plain_entry(&found);
     true
 }
 
@@ -390,7 +392,7 @@ fn value_of<'a>(accessor: &'a MemTableAccessor, region: u64, key: &[u8]) -> Opti
 /// # Errors
 ///
 /// `Memory` alone. Nothing is copied then.
-fn find_regions(accessor: &MemTableAccessor, room: &mut [u64], count: &mut usize) -> Result<()>
+fn copy_regions(accessor: &MemTableAccessor, room: &mut [u64], count: &mut usize) -> Result<()>
     ensures ok { OnOk result (AreRegionsIn accessor.now.tables room.old room.new count.new) }
     ensures memory { IfErr result (λ e. e ≡ Error.Memory) }
 {
@@ -406,7 +408,7 @@ fn find_regions(accessor: &MemTableAccessor, room: &mut [u64], count: &mut usize
 /// # Errors
 ///
 /// Those of [`MemTable::fetch_entries_to`]. Nothing is copied then.
-fn entries_in(
+fn copy_entries_in_range(
     alloc: Global,
     accessor: &MemTableAccessor,
     region: u64,
@@ -437,7 +439,7 @@ fn entries_in(
 /// # Errors
 ///
 /// `Memory` alone.
-fn moving_in(
+fn copy_moving_entries(
     alloc: Global,
     accessor: &MemTableAccessor,
     region: u64,

@@ -136,7 +136,7 @@ pub(crate) fn apply_append(accessor: &mut MemTableAccessor, items: ItemList) -> 
     ensures ok { OnOk result (AreWritten Appending items accessor.old accessor.new) }
     ensures refused { IfErr result (IsStoppedAt Appending items accessor.old accessor.new) }
 {
-    accessor.apply_append_writes(items.drain())
+    accessor.apply_append_writes(items.into_items())
 }
 
 /// Writes `items`, which were rewritten to file `seq` of the rewrite queue, to the tables, in order; `gate` says which places
@@ -156,7 +156,7 @@ pub extern "C" fn raft_ffi_tables_apply_rewrite(
     ensures written { AreAllOrSomeWritten (Rewriting (number_in gate) seq) result.code items.value tables.old.value tables.new.value }
     ensures text { HasText result text.old text.new }
 {
-    told!(held in tables, alloc, text; apply_rewrite(&mut *held, items.into_held(), gate.number(), seq))
+    told!(held in tables, alloc, text; apply_rewrite(&mut *held, items.into_held(), gate.to_option(), seq))
 }
 
 /// Writes items that were rewritten to file `seq` of the rewrite queue to the tables, in order. `gate` limits which places
@@ -174,7 +174,7 @@ pub(crate) fn apply_rewrite(
     ensures ok { OnOk result (AreWritten (Rewriting gate seq) items accessor.old accessor.new) }
     ensures refused { IfErr result (IsStoppedAt (Rewriting gate seq) items accessor.old accessor.new) }
 {
-    accessor.apply_rewrite_writes(items.drain(), gate, seq)
+    accessor.apply_rewrite_writes(items.into_items(), gate, seq)
 }
 
 /// Tests whether the tables would accept the items of `batch` once it is written to the append queue, at whatever place. It
@@ -223,7 +223,7 @@ pub extern "C" fn raft_ffi_tables_cleaned_logs(
     ensures logs { result ≡ 0 → BothHold (λ old logs. logs ≡ cleans_of old.cleaned) tables.old.value batch.new.value }
     ensures batch_err { result ≢ 0 → batch.new.value ≡ None }
 {
-    told!(held in tables, alloc; cleaned_logs(alloc, &mut *held, batch))
+    told!(held in tables, alloc; take_cleaned_regions(alloc, &mut *held, batch))
 }
 
 /// Moves the cleaned regions into `batch`: an open batch with a `Clean` for each, in order. The box for it is allocated before
@@ -232,7 +232,11 @@ pub extern "C" fn raft_ffi_tables_cleaned_logs(
 /// # Errors
 ///
 /// `Memory` alone. The list is unchanged then, and `batch` stays empty.
-fn cleaned_logs(alloc: Global, accessor: &mut MemTableAccessor, batch: &mut Batch) -> Result<()>
+fn take_cleaned_regions(
+    alloc: Global,
+    accessor: &mut MemTableAccessor,
+    batch: &mut Batch,
+) -> Result<()>
     requires empty { batch.old.value ≡ None }
     ensures ok { OnOk result (accessor.new ≡ without_cleaned accessor.old) }
     ensures logs { OnOk result (batch.new.value ≡ Some (cleans_of accessor.old.cleaned)) }
@@ -316,7 +320,7 @@ pub extern "C" fn raft_ffi_slot_apply_append(
         old new) result.code) items.old.value tables.old.value tables.new.value }
     ensures text { HasText result text.old text.new }
 {
-    told!(held in tables, alloc, text; with!(list in items, alloc; append(alloc, &mut *held, number, &*list)))
+    told!(held in tables, alloc, text; with!(list in items, alloc; append_share(alloc, &mut *held, number, &*list)))
 }
 
 /// Writes the items whose regions are of slot `number`, and which were rewritten to file `seq` of the rewrite queue, to the
@@ -342,7 +346,7 @@ pub extern "C" fn raft_ffi_slot_apply_rewrite(
         (share_of number xs) old new) result.code) items.old.value tables.old.value tables.new.value }
     ensures text { HasText result text.old text.new }
 {
-    told!(held in tables, alloc, text; with!(list in items, alloc; rewrite(alloc, &mut *held, number, &*list, gate.number(), seq)))
+    told!(held in tables, alloc, text; with!(list in items, alloc; rewrite_share(alloc, &mut *held, number, &*list, gate.to_option(), seq)))
 }
 
 /// Moves the table of a region, if there is one, to the tables `to`, in place of the one that the region has there.
@@ -393,12 +397,17 @@ fn check_share(alloc: Global, tables: &MemTableAccessor, slot: usize, logs: &Log
 ///
 /// Those of [`apply_append`]: the items before the refused one are written then. `Memory` for the copies: none is written
 /// then.
-fn append(alloc: Global, tables: &mut MemTableAccessor, slot: usize, items: &ItemList) -> Result<()>
+fn append_share(
+    alloc: Global,
+    tables: &mut MemTableAccessor,
+    slot: usize,
+    items: &ItemList,
+) -> Result<()>
     ensures ok { OnOk result (AreWritten Appending (share_of slot items.now) tables.old tables.new) }
     ensures refused { IfErr result (IsShareRefused Appending (share_of slot items.now) tables.old tables.new) }
 {
     let share = share_of(alloc, slot, items.as_slice())?;
-    apply_append(tables, ItemList::of(share))
+    apply_append(tables, ItemList::of_items(share))
 }
 
 /// Writes copies of those items whose regions are of slot `number` to its tables, in order, as rewritten to file `seq` of the
@@ -408,7 +417,7 @@ fn append(alloc: Global, tables: &mut MemTableAccessor, slot: usize, items: &Ite
 ///
 /// Those of [`apply_rewrite`]: the items before the refused one are written then. `Memory` for the copies: none is written
 /// then.
-fn rewrite(
+fn rewrite_share(
     alloc: Global,
     accessor: &mut MemTableAccessor,
     number: usize,
@@ -420,7 +429,7 @@ fn rewrite(
     ensures refused { IfErr result (IsShareRefused (Rewriting gate seq) (share_of number items.now) accessor.old accessor.new) }
 {
     let share = share_of(alloc, number, items.as_slice())?;
-    apply_rewrite(accessor, ItemList::of(share), gate, seq)
+    apply_rewrite(accessor, ItemList::of_items(share), gate, seq)
 }
 
 /// Returns copies of those items whose regions are of slot `number`, in order.

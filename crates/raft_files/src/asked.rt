@@ -61,42 +61,42 @@ impl Asked {
     pub fn put(&mut self, queue: LogQueue, bytes: &[u8])
         ensures { IsAsked (ask queue (Put bytes.now)) self.old.asks self.new.asks }
     {
-        self.note(&[number_of(queue), PUT, 0], bytes);
+        self.note(&[queue_number(queue), PUT, 0], bytes);
     }
 
     /// Notes that a file with the number `seq` was begun after the last one of `queue`.
     pub fn begin(&mut self, queue: LogQueue, seq: FileSeq)
         ensures { IsAsked (ask queue (Begin seq)) self.old.asks self.new.asks }
     {
-        self.note(&[number_of(queue), BEGIN, seq], &[]);
+        self.note(&[queue_number(queue), BEGIN, seq], &[]);
     }
 
     /// Notes that `queue` was synced.
     pub fn sync(&mut self, queue: LogQueue)
         ensures { IsAsked (ask queue Sync) self.old.asks self.new.asks }
     {
-        self.note(&[number_of(queue), SYNC, 0], &[]);
+        self.note(&[queue_number(queue), SYNC, 0], &[]);
     }
 
     /// Notes that a sync of `queue` was begun and failed.
     pub fn unsynced(&mut self, queue: LogQueue)
         ensures { IsAsked (ask queue Unsynced) self.old.asks self.new.asks }
     {
-        self.note(&[number_of(queue), UNSYNCED, 0], &[]);
+        self.note(&[queue_number(queue), UNSYNCED, 0], &[]);
     }
 
     /// Notes that the oldest file of `queue` was deleted.
     pub fn delete(&mut self, queue: LogQueue)
         ensures { IsAsked (ask queue Delete) self.old.asks self.new.asks }
     {
-        self.note(&[number_of(queue), DELETE, 0], &[]);
+        self.note(&[queue_number(queue), DELETE, 0], &[]);
     }
 
     /// Notes that the last file of `queue` was cut to `len` bytes.
     pub fn cut(&mut self, queue: LogQueue, len: u64)
         ensures { IsAsked (ask queue (Cut len)) self.old.asks self.new.asks }
     {
-        self.note(&[number_of(queue), CUT, len], &[]);
+        self.note(&[queue_number(queue), CUT, len], &[]);
     }
 
     /// Notes that the bytes at `place` were read, and were `bytes`.
@@ -105,7 +105,7 @@ impl Asked {
     {
         self.note(
             &[
-                number_of(place.id.queue),
+                queue_number(place.id.queue),
                 READ,
                 place.id.seq,
                 place.offset,
@@ -120,7 +120,7 @@ impl Asked {
     pub fn found(&mut self, queue: LogQueue, files: &Vec<(FileSeq, Vec<u8>)>)
         ensures { IsAsked (ask queue (Found (map file_shown files.now.items))) self.old.asks self.new.asks }
     {
-        self.note_found(&[number_of(queue)], files);
+        self.note_found(&[queue_number(queue)], files);
     }
 
     /// Returns the list in which only the found files of both queues are noted, for files whose bytes nobody holds.
@@ -152,7 +152,7 @@ impl Asked {
 unsafe impl Send for Asked {}
 
 /// Returns the number by which `queue` is noted: 0 for the append queue, 1 for the rewrite queue.
-fn number_of(queue: LogQueue) -> u64
+fn queue_number(queue: LogQueue) -> u64
     ensures { queue_noted result ≡ queue }
 {
     match queue {

@@ -89,7 +89,7 @@ impl MemoryFiles {
         ensures ok { IfOk result (λ copies. map file_shown copies.items ≡ files_of queue self.now) }
         ensures fault { IfErr result (λ e. e ≡ Error.Memory) }
     {
-        copies_of(self.files(queue))
+        copy_files(self.files(queue))
     }
 
     /// Puts `bytes` at the end of the last file of `queue`, and notes it.
@@ -105,8 +105,8 @@ impl MemoryFiles {
         ensures fault { 0 < length (files_of queue self.old) → IfErr result (λ e. e ≡ Error.Memory) }
     {
         match queue {
-            LogQueue::Append => put(&mut self.append, bytes)?,
-            LogQueue::Rewrite => put(&mut self.rewrite, bytes)?,
+            LogQueue::Append => append_bytes(&mut self.append, bytes)?,
+            LogQueue::Rewrite => append_bytes(&mut self.rewrite, bytes)?,
         }
         self.asked.put(queue, bytes);
         Ok(())
@@ -151,8 +151,8 @@ impl EngineFiles for MemoryFiles {
         ensures fault { IsNext seq (files_of queue self.old) → IfErr result (λ e. e ≡ Error.Memory) }
     {
         match queue {
-            LogQueue::Append => begin(&mut self.append, seq)?,
-            LogQueue::Rewrite => begin(&mut self.rewrite, seq)?,
+            LogQueue::Append => begin_file(&mut self.append, seq)?,
+            LogQueue::Rewrite => begin_file(&mut self.rewrite, seq)?,
         }
         self.asked.begin(queue, seq);
         Ok(())
@@ -180,8 +180,8 @@ impl EngineFiles for MemoryFiles {
         ensures succeeds { 1 < length (files_of queue self.old) → IsOk result }
     {
         match queue {
-            LogQueue::Append => delete_first(&mut self.append)?,
-            LogQueue::Rewrite => delete_first(&mut self.rewrite)?,
+            LogQueue::Append => delete_first_file(&mut self.append)?,
+            LogQueue::Rewrite => delete_first_file(&mut self.rewrite)?,
         }
         self.asked.delete(queue);
         Ok(())
@@ -200,8 +200,8 @@ impl EngineFiles for MemoryFiles {
         ensures succeeds { 0 < length (files_of queue self.old) → IsOk result }
     {
         match queue {
-            LogQueue::Append => cut(&mut self.append, len)?,
-            LogQueue::Rewrite => cut(&mut self.rewrite, len)?,
+            LogQueue::Append => cut_last_file(&mut self.append, len)?,
+            LogQueue::Rewrite => cut_last_file(&mut self.rewrite, len)?,
         }
         self.asked.cut(queue, len);
         Ok(())
@@ -220,7 +220,7 @@ impl EngineFiles for MemoryFiles {
             → bytes_at (files_of place.id.queue self.old) place.id.seq place.offset place.len ≡ None) }
         ensures fault { IfErr result (IsMemoryFault self.old (ask place.id.queue (Read place []))) }
     {
-        let bytes = read_of(self.files(place.id.queue), place)?;
+        let bytes = read_bytes_at(self.files(place.id.queue), place)?;
         self.asked.read(place, &bytes);
         Ok(bytes)
     }
@@ -231,7 +231,7 @@ impl EngineFiles for MemoryFiles {
 /// # Errors
 ///
 /// `Memory` alone.
-fn copies_of(files: &Vec<(FileSeq, Vec<u8>)>) -> Result<Vec<(FileSeq, Vec<u8>)>>
+fn copy_files(files: &Vec<(FileSeq, Vec<u8>)>) -> Result<Vec<(FileSeq, Vec<u8>)>>
     ensures ok { IfOk result (λ copies. map file_shown copies.items ≡ map file_shown files.now.items) }
     ensures fault { IfErr result (λ e. e ≡ Error.Memory) }
 {
@@ -248,7 +248,7 @@ fn copies_of(files: &Vec<(FileSeq, Vec<u8>)>) -> Result<Vec<(FileSeq, Vec<u8>)>>
 /// # Errors
 ///
 /// `InvalidArgument` if there is no file; `Memory`. The files are unchanged then.
-fn put(files: &mut Vec<(FileSeq, Vec<u8>)>, bytes: &[u8]) -> Result<()>
+fn append_bytes(files: &mut Vec<(FileSeq, Vec<u8>)>, bytes: &[u8]) -> Result<()>
     ensures ok { OnOk result (map file_shown files.new.items
         ≡ put_behind bytes.now (map file_shown files.old.items)) }
     ensures some { OnOk result (0 < length files.old.items) }
@@ -269,7 +269,7 @@ fn put(files: &mut Vec<(FileSeq, Vec<u8>)>, bytes: &[u8]) -> Result<()>
 ///
 /// `InvalidArgument` if `seq` isn't above the number of the last file; `Memory`. The files are unchanged
 /// then.
-fn begin(files: &mut Vec<(FileSeq, Vec<u8>)>, seq: FileSeq) -> Result<()>
+fn begin_file(files: &mut Vec<(FileSeq, Vec<u8>)>, seq: FileSeq) -> Result<()>
     ensures ok { OnOk result (map file_shown files.new.items
         ≡ map file_shown files.old.items ++ (seq, []) ∷ []) }
     ensures accepted { OnOk result (IsNext seq (map file_shown files.old.items)) }
@@ -292,7 +292,7 @@ fn begin(files: &mut Vec<(FileSeq, Vec<u8>)>, seq: FileSeq) -> Result<()>
 ///
 /// `InvalidArgument` if there are fewer; `Memory` if there is none for its text. The files are unchanged
 /// then.
-fn delete_first(files: &mut Vec<(FileSeq, Vec<u8>)>) -> Result<()>
+fn delete_first_file(files: &mut Vec<(FileSeq, Vec<u8>)>) -> Result<()>
     ensures ok { OnOk result (map file_shown files.new.items
         ≡ drop 1 (map file_shown files.old.items)) }
     ensures some { OnOk result (1 < length files.old.items) }
@@ -313,7 +313,7 @@ fn delete_first(files: &mut Vec<(FileSeq, Vec<u8>)>) -> Result<()>
 ///
 /// `InvalidArgument` if there is no file; `Memory` if there is none for its text. The files are unchanged
 /// then.
-fn cut(files: &mut Vec<(FileSeq, Vec<u8>)>, len: u64) -> Result<()>
+fn cut_last_file(files: &mut Vec<(FileSeq, Vec<u8>)>, len: u64) -> Result<()>
     ensures ok { OnOk result (map file_shown files.new.items
         ≡ cut_last len (map file_shown files.old.items)) }
     ensures some { OnOk result (0 < length files.old.items) }
@@ -333,7 +333,7 @@ fn cut(files: &mut Vec<(FileSeq, Vec<u8>)>, len: u64) -> Result<()>
 /// # Errors
 ///
 /// `InvalidArgument` if there is no such file, or it doesn't have all of the place; `Memory`.
-fn read_of(files: &Vec<(FileSeq, Vec<u8>)>, place: FileBlockHandle) -> Result<Vec<u8>>
+fn read_bytes_at(files: &Vec<(FileSeq, Vec<u8>)>, place: FileBlockHandle) -> Result<Vec<u8>>
     ensures ok { IfOk result (λ bytes.
         bytes_at (map file_shown files.now.items) place.id.seq place.offset place.len ≡ Some bytes.items) }
     ensures refused { IfErr result (λ e. e ≢ Error.Memory
@@ -342,7 +342,7 @@ fn read_of(files: &Vec<(FileSeq, Vec<u8>)>, place: FileBlockHandle) -> Result<Ve
     let alloc = *files.allocator();
     for (seq, bytes) in files {
         if *seq == place.id.seq {
-            return stretch(bytes, place.offset, place.len);
+            return copy_stretch(bytes, place.offset, place.len);
         }
     }
     Err(Error::invalid_argument(alloc, "no file has this place"))
@@ -353,7 +353,7 @@ fn read_of(files: &Vec<(FileSeq, Vec<u8>)>, place: FileBlockHandle) -> Result<Ve
 /// # Errors
 ///
 /// `InvalidArgument` if there aren't as many; `Memory`.
-fn stretch(bytes: &Vec<u8>, offset: u64, len: usize) -> Result<Vec<u8>>
+fn copy_stretch(bytes: &Vec<u8>, offset: u64, len: usize) -> Result<Vec<u8>>
     ensures ok { IfOk result (λ found. stretch_of bytes.now.items offset len ≡ Some found.items) }
     ensures refused { IfErr result (λ e. e ≢ Error.Memory → stretch_of bytes.now.items offset len ≡ None) }
 {

@@ -2,7 +2,7 @@
 
 use crate::errors::{FolderError, FolderResult};
 use crate::host::FolderHost;
-use crate::names::name_of_cut;
+use crate::names::cut_file_name;
 use raft_base::FileId;
 use std::io::Write;
 use std::{fs, io};
@@ -17,15 +17,15 @@ const MOST_KEPT: u64 = 1 << 32;
 ///
 /// `System`; if it came from writing the file, that has been removed, unless this failed too. `Refused` if
 /// too much was cut off at this offset before; `Memory`.
-pub(crate) fn keep<R: FolderHost>(
+pub(crate) fn keep_cut_bytes<R: FolderHost>(
     rt: &R,
     folder: &str,
     id: FileId,
     offset: u64,
     bytes: &[u8],
 ) -> FolderResult<String> {
-    let path = path_for(rt, folder, id, offset, bytes)?;
-    match write(rt, path.as_str(), bytes) {
+    let path = find_free_path(rt, folder, id, offset, bytes)?;
+    match write_synced_file(rt, path.as_str(), bytes) {
         Ok(()) => Ok(path),
         Err(e) => {
             let _ = fs::remove_file(rt, path.as_str()); // all of it still stands in the log file
@@ -35,13 +35,13 @@ pub(crate) fn keep<R: FolderHost>(
 }
 
 /// Returns the path of the file for `bytes`, which are cut off the log file `id` at `offset`: the first one
-/// that [`is_free`] for them. So bytes that were kept but not cut off, since an opening ended too early, get
+/// that [`is_free_for`] for them. So bytes that were kept but not cut off, since an opening ended too early, get
 /// no second copy, and other bytes that were cut off there stay.
 ///
 /// # Errors
 ///
 /// `Refused` if no path is free whose number is below `MOST_KEPT`; `System`; `Memory`.
-fn path_for<R: FolderHost>(
+fn find_free_path<R: FolderHost>(
     rt: &R,
     folder: &str,
     id: FileId,
@@ -50,9 +50,9 @@ fn path_for<R: FolderHost>(
 ) -> FolderResult<String> {
     let alloc = rt.alloc();
     for nth in 1..MOST_KEPT {
-        let name = name_of_cut(alloc, id, offset, nth)?;
+        let name = cut_file_name(alloc, id, offset, nth)?;
         let path = format!(in alloc; "{folder}/{name}")?;
-        if is_free(rt, path.as_str(), bytes)? {
+        if is_free_for(rt, path.as_str(), bytes)? {
             return Ok(path);
         }
     }
@@ -66,7 +66,7 @@ fn path_for<R: FolderHost>(
 /// # Errors
 ///
 /// `System` if the file can't be read; `Memory`.
-fn is_free<R: FolderHost>(rt: &R, path: &str, bytes: &[u8]) -> FolderResult<bool> {
+fn is_free_for<R: FolderHost>(rt: &R, path: &str, bytes: &[u8]) -> FolderResult<bool> {
     match fs::exists(rt, path) {
         Ok(false) => return Ok(true),
         Ok(true) => {}
@@ -83,7 +83,7 @@ fn is_free<R: FolderHost>(rt: &R, path: &str, bytes: &[u8]) -> FolderResult<bool
 /// # Errors
 ///
 /// Those of the system. A part of the file may be there then.
-fn write<R: FolderHost>(rt: &R, path: &str, bytes: &[u8]) -> io::Result<()> {
+fn write_synced_file<R: FolderHost>(rt: &R, path: &str, bytes: &[u8]) -> io::Result<()> {
     let mut file = fs::create(rt, path)?;
     file.write_all(bytes)?;
     file.sync_all()

@@ -62,21 +62,24 @@ impl From<FolderError> for Error {
     /// `Foreign` and `Refused`; and `Memory` for `Memory`, or if there is none for one of the other texts.
     fn from(error: FolderError) -> Error {
         match error {
-            FolderError::System(path, error) => Error::Io(with_path(path, error)),
-            FolderError::Locked(path) => match told(path, "another engine has the folder open") {
+            FolderError::System(path, error) => Error::Io(error_with_path(path, error)),
+            FolderError::Locked(path) => match path_with_reason(
+                path,
+                "another engine has the folder open",
+            ) {
                 Ok(text) => Error::TryAgain(text),
                 Err(_) => Error::Memory,
             },
-            FolderError::Misnamed(path) => refused(path, "it isn't the name of a log file"),
-            FolderError::Foreign(path) => refused(path, "it is a file of raft-engine"),
-            FolderError::Refused(path, why) => refused(path, why),
+            FolderError::Misnamed(path) => refusal_of_path(path, "it isn't the name of a log file"),
+            FolderError::Foreign(path) => refusal_of_path(path, "it is a file of raft-engine"),
+            FolderError::Refused(path, why) => refusal_of_path(path, why),
             FolderError::Memory => Error::Memory,
         }
     }
 }
 
 /// Returns an error of the kind of `error` with the text `path: words`, or `error` itself if there is no memory for it.
-fn with_path(path: String, error: io::Error) -> io::Error {
+fn error_with_path(path: String, error: io::Error) -> io::Error {
     let mut text = path;
     match write!(text, ": {error}") {
         Ok(()) => io::Error::new(error.kind(), text.as_str()),
@@ -85,8 +88,8 @@ fn with_path(path: String, error: io::Error) -> io::Error {
 }
 
 /// Returns `InvalidArgument` with the text `path: why`, or `Memory` if there is none for it.
-fn refused(path: String, why: &str) -> Error {
-    match told(path, why) {
+fn refusal_of_path(path: String, why: &str) -> Error {
+    match path_with_reason(path, why) {
         Ok(text) => Error::InvalidArgument(text),
         Err(_) => Error::Memory,
     }
@@ -97,7 +100,7 @@ fn refused(path: String, why: &str) -> Error {
 /// # Errors
 ///
 /// `AllocError` if there is no memory for it.
-fn told(path: String, why: &str) -> AllocResult<String> {
+fn path_with_reason(path: String, why: &str) -> AllocResult<String> {
     let mut text = path;
     text.push_str(": ")?;
     text.push_str(why)?;

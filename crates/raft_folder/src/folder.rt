@@ -1,11 +1,11 @@
 //! [`Folder`]: a folder of log files, and what is done to it. Nothing is noted here of what was asked: that
 //! is up to its users.
 
-use crate::aside::keep;
+use crate::aside::keep_cut_bytes;
 use crate::errors::{FolderError, FolderResult};
 use crate::host::FolderHost;
 use crate::locking::LockedFolder;
-use crate::names::{Meaning, meaning_of, name_of};
+use crate::names::{NameMeaning, classify_name, log_file_name};
 use crate::read_folder::FolderFile;
 use crate::writing::{Unwritten, write_all_or_nothing};
 use raft_base::{FileBlockHandle, FileId, FileSeq, LogQueue};
@@ -67,15 +67,15 @@ impl<'a, R: FolderHost> Folder<'a, R> {
     /// `Locked` if another engine has the folder open; `Misnamed` if a name ends like that of a log file but
     /// isn't one; `System`; `Memory`.
     pub(crate) fn open(rt: &'a R, path: &'a str) -> FolderResult<Folder<'a, R>> {
-        if !is_there(rt, path)? {
-            about_path(rt, path, fs::create_dir(rt, path))?;
+        if !path_exists(rt, path)? {
+            name_path_in_error(rt, path, fs::create_dir(rt, path))?;
         }
-        let locked = LockedFolder::exclusive(rt, path)?;
+        let locked = LockedFolder::lock_exclusively(rt, path)?;
         let mut how = OpenOptions::new();
         how.read(true).append(true);
-        let mut folder = Folder::of(rt, path, locked);
+        let mut folder = Folder::without_files(rt, path, locked);
         folder.open_files(&how)?;
-        about_path(rt, path, folder.sync_names())?;
+        name_path_in_error(rt, path, folder.sync_names())?;
         Ok(folder)
     }
 
@@ -87,16 +87,16 @@ impl<'a, R: FolderHost> Folder<'a, R> {
     /// `Locked` if an engine that writes has the folder open; `Misnamed` if a name ends like that of a log
     /// file but isn't one; `System`, also if there is no folder; `Memory`.
     pub(crate) fn open_to_read(rt: &'a R, path: &'a str) -> FolderResult<Folder<'a, R>> {
-        let locked = LockedFolder::shared(rt, path)?;
+        let locked = LockedFolder::lock_shared(rt, path)?;
         let mut how = OpenOptions::new();
         how.read(true);
-        let mut folder = Folder::of(rt, path, locked);
+        let mut folder = Folder::without_files(rt, path, locked);
         folder.open_files(&how)?;
         Ok(folder)
     }
 
     /// Returns the folder at `path`, which is `locked`, without any open file.
-    fn of(rt: &'a R, path: &'a str, locked: LockedFolder) -> Folder<'a, R> {
+    fn without_files(rt: &'a R, path: &'a str, locked: LockedFolder) -> Folder<'a, R> {
         let alloc = rt.alloc();
         Folder {
             rt,
@@ -115,9 +115,9 @@ impl<'a, R: FolderHost> Folder<'a, R> {
     /// `Misnamed` if a name ends like that of a log file but isn't one; `System`; `Memory`. Some of the files
     /// are open then.
     fn open_files(&mut self, how: &OpenOptions) -> FolderResult<()> {
-        for entry in about_path(self.rt, self.path, fs::read_dir(self.rt, self.path))? {
-            let entry = about_path(self.rt, self.path, entry)?;
-            self.open_named(how, entry.file_name())?;
+        for entry in name_path_in_error(self.rt, self.path, fs::read_dir(self.rt, self.path))? {
+            let entry = name_path_in_error(self.rt, self.path, entry)?;
+            self.open_if_log_file(how, entry.file_name())?;
         }
         Ok(())
     }
@@ -127,19 +127,25 @@ impl<'a, R: FolderHost> Folder<'a, R> {
     /// # Errors
     ///
     /// `Misnamed` if `name` ends like that of a log file but isn't one; `Refused` if it isn't a regular file; `System`; `Memory`.
-    fn open_named(&mut self, how: &OpenOptions, name: &str) -> FolderResult<()> {
+    fn open_if_log_file(&mut self, how: &OpenOptions, name: &str) -> FolderResult<()> {
         let alloc = self.rt.alloc();
         let folder = self.path;
-        match meaning_of(alloc, name)? {
-            Meaning::Log(id) => {
+        match classify_name(alloc, name)? {
+            NameMeaning::Log(id) => {
                 let path = format!(in alloc; "{folder}/{name}")?;
-                refuse_irregular(self.rt, path.as_str())?;
-                let file = about_path(self.rt, path.as_str(), how.open(self.rt, path.as_str()))?;
+                refuse_irregular_file(self.rt, path.as_str())?;
+                let file = name_path_in_error(
+                    self.rt,
+                    path.as_str(),
+                    how.open(self.rt, path.as_str()),
+                )?;
                 self.files_mut(id.queue).insert(id.seq, file)?;
                 Ok(())
             }
-            Meaning::Misnamed => Err(FolderError::Misnamed(format!(in alloc; "{folder}/{name}")?)),
-            Meaning::Other => Ok(()),
+            NameMeaning::Misnamed => Err(FolderError::Misnamed(format!(in alloc;
+                "{folder}/{name}"
+            )?)),
+            NameMeaning::Other => Ok(()),
         }
     }
 
@@ -178,7 +184,7 @@ impl<'a, R: FolderHost> Folder<'a, R> {
     pub(crate) fn list(&self, queue: LogQueue) -> FolderResult<Vec<FolderFile>> {
         let mut files = Vec::new(self.rt.alloc());
         for (seq, file) in self.files(queue) {
-            let len = self.len_of(FileId::new(queue, *seq), file)?;
+            let len = self.file_len(FileId::new(queue, *seq), file)?;
             files.push(FolderFile { seq: *seq, len })?;
         }
         Ok(files)
@@ -204,7 +210,7 @@ impl<'a, R: FolderHost> Folder<'a, R> {
     /// `System`; `Memory`. Some of the files may not be synced then.
     pub(crate) fn sync_all(&self, queue: LogQueue) -> FolderResult<()> {
         for (seq, file) in self.files(queue) {
-            self.about_file(FileId::new(queue, *seq), file.sync_all())?;
+            self.name_file_in_error(FileId::new(queue, *seq), file.sync_all())?;
         }
         Ok(())
     }
@@ -218,8 +224,8 @@ impl<'a, R: FolderHost> Folder<'a, R> {
     pub(crate) fn check_headers(&self, queue: LogQueue) -> FolderResult<()> {
         for (seq, file) in self.files(queue) {
             let id = FileId::new(queue, *seq);
-            let len = self.len_of(id, file)?.min(FOREIGN_HEADER.len() as u64);
-            let begin = self.about_file(id, self.bytes_at(file, 0, len as usize))?;
+            let len = self.file_len(id, file)?.min(FOREIGN_HEADER.len() as u64);
+            let begin = self.name_file_in_error(id, self.read_bytes(file, 0, len as usize))?;
             if begin.as_slice() == FOREIGN_HEADER {
                 return Err(FolderError::Foreign(self.path_of(id)?));
             }
@@ -236,8 +242,8 @@ impl<'a, R: FolderHost> Folder<'a, R> {
         let mut files = Vec::new(self.rt.alloc());
         for (seq, file) in self.files(queue) {
             let id = FileId::new(queue, *seq);
-            let len = self.len_of(id, file)?;
-            let bytes = self.about_file(id, self.bytes_at(file, 0, len as usize))?;
+            let len = self.file_len(id, file)?;
+            let bytes = self.name_file_in_error(id, self.read_bytes(file, 0, len as usize))?;
             if bytes.starts_with(FOREIGN_HEADER) {
                 return Err(FolderError::Foreign(self.path_of(id)?));
             }
@@ -257,7 +263,7 @@ impl<'a, R: FolderHost> Folder<'a, R> {
         queue: LogQueue,
         bytes: &[u8],
     ) -> std::result::Result<(), Unappended> {
-        let (id, file) = match self.last(queue) {
+        let (id, file) = match self.last_file(queue) {
             Ok(last) => last,
             Err(error) => {
                 return Err(Unappended {
@@ -292,7 +298,7 @@ impl<'a, R: FolderHost> Folder<'a, R> {
     /// `System`; `Memory`.
     pub(crate) fn sync(&self, queue: LogQueue) -> FolderResult<()> {
         match self.files(queue).last_key_value() {
-            Some((seq, file)) => self.about_file(FileId::new(queue, *seq), file.sync_all()),
+            Some((seq, file)) => self.name_file_in_error(FileId::new(queue, *seq), file.sync_all()),
             None => Ok(()),
         }
     }
@@ -307,14 +313,16 @@ impl<'a, R: FolderHost> Folder<'a, R> {
     pub(crate) fn create(&mut self, id: FileId) -> FolderResult<()> {
         if let Some((last, _)) = self.files(id.queue).last_key_value() {
             if id.seq <= *last {
-                return Err(self.refusal("a new file has a greater number than the last one"));
+                return Err(self.refusal_because(
+                    "a new file has a greater number than the last one",
+                ));
             }
         }
         let mut how = OpenOptions::new();
         how.create_new(true).read(true).append(true);
         let path = self.path_of(id)?;
-        let file = self.about_file(id, how.open(self.rt, path.as_str()))?;
-        about_path(self.rt, self.path, self.locked.entry.sync_all())?;
+        let file = self.name_file_in_error(id, how.open(self.rt, path.as_str()))?;
+        name_path_in_error(self.rt, self.path, self.locked.entry.sync_all())?;
         self.files_mut(id.queue).insert(id.seq, file)?;
         Ok(())
     }
@@ -327,13 +335,13 @@ impl<'a, R: FolderHost> Folder<'a, R> {
     /// file is no longer listed here then, but it may still be on the disk.
     pub(crate) fn delete_oldest(&mut self, queue: LogQueue) -> FolderResult<()> {
         if self.files(queue).len() < 2 {
-            return Err(self.refusal("a queue keeps its last file"));
+            return Err(self.refusal_because("a queue keeps its last file"));
         }
         if let Some((seq, _)) = self.files_mut(queue).pop_first() {
             let id = FileId::new(queue, seq);
             let path = self.path_of(id)?;
-            self.about_file(id, fs::remove_file(self.rt, path.as_str()))?;
-            about_path(self.rt, self.path, self.locked.entry.sync_all())?;
+            self.name_file_in_error(id, fs::remove_file(self.rt, path.as_str()))?;
+            name_path_in_error(self.rt, self.path, self.locked.entry.sync_all())?;
         }
         Ok(())
     }
@@ -346,16 +354,16 @@ impl<'a, R: FolderHost> Folder<'a, R> {
     /// `Refused` if the queue has no file, or too much was cut off at this offset before; `System`; `Memory`.
     /// The file may be cut then, or not; what was cut off is kept.
     pub(crate) fn truncate(&mut self, queue: LogQueue, len: u64) -> FolderResult<()> {
-        let (id, file) = self.last(queue)?;
-        let old = self.len_of(id, file)?;
+        let (id, file) = self.last_file(queue)?;
+        let old = self.file_len(id, file)?;
         if len >= old {
             return Ok(());
         }
-        let tail = self.about_file(id, self.bytes_at(file, len, (old - len) as usize))?;
-        let kept = keep(self.rt, self.path, id, len, &tail)?;
-        about_path(self.rt, self.path, self.locked.entry.sync_all())?;
-        self.about_file(id, file.set_len(len))?;
-        self.about_file(id, file.sync_all())?;
+        let tail = self.name_file_in_error(id, self.read_bytes(file, len, (old - len) as usize))?;
+        let kept = keep_cut_bytes(self.rt, self.path, id, len, &tail)?;
+        name_path_in_error(self.rt, self.path, self.locked.entry.sync_all())?;
+        self.name_file_in_error(id, file.set_len(len))?;
+        self.name_file_in_error(id, file.sync_all())?;
         let len = tail.len();
         self.kept.push(KeptTail { len, kept })?;
         Ok(())
@@ -374,8 +382,11 @@ impl<'a, R: FolderHost> Folder<'a, R> {
     /// `Memory`.
     pub(crate) fn read(&self, place: FileBlockHandle) -> FolderResult<Vec<u8>> {
         match self.files(place.id.queue).get(&place.id.seq) {
-            Some(file) => self.about_file(place.id, self.bytes_at(file, place.offset, place.len)),
-            None => Err(self.refusal("no file has this place")),
+            Some(file) => self.name_file_in_error(
+                place.id,
+                self.read_bytes(file, place.offset, place.len),
+            ),
+            None => Err(self.refusal_because("no file has this place")),
         }
     }
 
@@ -384,7 +395,7 @@ impl<'a, R: FolderHost> Folder<'a, R> {
     /// # Errors
     ///
     /// Those of the system, also if the file ends before; that of a lack of memory.
-    fn bytes_at(&self, file: &File, offset: u64, len: usize) -> io::Result<Vec<u8>> {
+    fn read_bytes(&self, file: &File, offset: u64, len: usize) -> io::Result<Vec<u8>> {
         let mut bytes = vec![in self.rt.alloc(); 0; len]?;
         file.read_exact_at(&mut bytes, offset)?;
         Ok(bytes)
@@ -395,10 +406,10 @@ impl<'a, R: FolderHost> Folder<'a, R> {
     /// # Errors
     ///
     /// `System`; `Memory`.
-    pub(crate) fn len_of(&self, id: FileId, file: &File) -> FolderResult<u64> {
+    pub(crate) fn file_len(&self, id: FileId, file: &File) -> FolderResult<u64> {
         match file.metadata() {
             Ok(metadata) => Ok(metadata.len()),
-            Err(e) => self.about_file(id, Err(e)),
+            Err(e) => self.name_file_in_error(id, Err(e)),
         }
     }
 
@@ -407,10 +418,10 @@ impl<'a, R: FolderHost> Folder<'a, R> {
     /// # Errors
     ///
     /// `Refused` if the queue has no file; `Memory` if there is none for the path in it.
-    fn last(&self, queue: LogQueue) -> FolderResult<(FileId, &File)> {
+    fn last_file(&self, queue: LogQueue) -> FolderResult<(FileId, &File)> {
         match self.files(queue).last_key_value() {
             Some((seq, file)) => Ok((FileId::new(queue, *seq), file)),
-            None => Err(self.refusal("the queue has no file")),
+            None => Err(self.refusal_because("the queue has no file")),
         }
     }
 
@@ -420,7 +431,7 @@ impl<'a, R: FolderHost> Folder<'a, R> {
     ///
     /// `Memory` alone.
     pub(crate) fn path_of(&self, id: FileId) -> FolderResult<String> {
-        let name = name_of(self.rt.alloc(), id)?;
+        let name = log_file_name(self.rt.alloc(), id)?;
         Ok(format!(in self.rt.alloc(); "{}/{name}", self.path)?)
     }
 
@@ -429,7 +440,7 @@ impl<'a, R: FolderHost> Folder<'a, R> {
     /// # Errors
     ///
     /// `System` if `answer` is an error; `Memory` if there is none for the path.
-    fn about_file<T>(&self, id: FileId, answer: io::Result<T>) -> FolderResult<T> {
+    fn name_file_in_error<T>(&self, id: FileId, answer: io::Result<T>) -> FolderResult<T> {
         match answer {
             Ok(value) => Ok(value),
             Err(e) => Err(FolderError::System(self.path_of(id)?, e)),
@@ -438,7 +449,7 @@ impl<'a, R: FolderHost> Folder<'a, R> {
 
     /// Returns `Refused` with the folder's path and the reason `why`, or `Memory` if there is none for the
     /// path.
-    fn refusal(&self, why: &'static str) -> FolderError {
+    fn refusal_because(&self, why: &'static str) -> FolderError {
         match String::from_str(self.rt.alloc(), self.path) {
             Ok(path) => FolderError::Refused(path, why),
             Err(_) => FolderError::Memory,
@@ -451,8 +462,8 @@ impl<'a, R: FolderHost> Folder<'a, R> {
 /// # Errors
 ///
 /// `Refused` if something else is at `path`; `System`; `Memory`.
-fn refuse_irregular<R: FolderHost>(rt: &R, path: &str) -> FolderResult<()> {
-    let metadata = about_path(rt, path, fs::metadata(rt, path))?;
+fn refuse_irregular_file<R: FolderHost>(rt: &R, path: &str) -> FolderResult<()> {
+    let metadata = name_path_in_error(rt, path, fs::metadata(rt, path))?;
     if metadata.is_file() {
         return Ok(());
     }
@@ -465,8 +476,8 @@ fn refuse_irregular<R: FolderHost>(rt: &R, path: &str) -> FolderResult<()> {
 /// # Errors
 ///
 /// `System`; `Memory`.
-fn is_there<R: FolderHost>(rt: &R, path: &str) -> FolderResult<bool> {
-    about_path(rt, path, fs::exists(rt, path))
+fn path_exists<R: FolderHost>(rt: &R, path: &str) -> FolderResult<bool> {
+    name_path_in_error(rt, path, fs::exists(rt, path))
 }
 
 /// Returns the value in `answer`, or adds `path` to the system's error in it.
@@ -474,7 +485,11 @@ fn is_there<R: FolderHost>(rt: &R, path: &str) -> FolderResult<bool> {
 /// # Errors
 ///
 /// `System` if `answer` is an error; `Memory` if there is none for the path.
-fn about_path<R: FolderHost, T>(rt: &R, path: &str, answer: io::Result<T>) -> FolderResult<T> {
+fn name_path_in_error<R: FolderHost, T>(
+    rt: &R,
+    path: &str,
+    answer: io::Result<T>,
+) -> FolderResult<T> {
     match answer {
         Ok(value) => Ok(value),
         Err(e) => Err(FolderError::system(rt.alloc(), path, e)),

@@ -57,7 +57,7 @@ impl<'a, R: FolderHost> FolderFiles<'a, R> {
             ≡ ask Rewrite (Found (map file_shown found.rewrite.items))
             ∷ ask Append (Found (map file_shown found.append.items)) ∷ []) }
     {
-        let folder = open_synced(rt, path)?;
+        let folder = open_and_sync(rt, path)?;
         let append = folder.bytes_of_files(LogQueue::Append)?;
         let rewrite = folder.bytes_of_files(LogQueue::Rewrite)?;
         let mut asked = Asked::new();
@@ -84,7 +84,7 @@ impl<'a, R: FolderHost> FolderFiles<'a, R> {
     pub fn open_unread(rt: &'a R, path: &'a str) -> FolderResult<FolderFiles<'a, R>>
         ensures { IfOk result (λ files. files.asked.asks ≡ []) }
     {
-        let folder = open_synced(rt, path)?;
+        let folder = open_and_sync(rt, path)?;
         folder.check_headers(LogQueue::Append)?;
         folder.check_headers(LogQueue::Rewrite)?;
         Ok(FolderFiles {
@@ -131,7 +131,7 @@ impl<'a, R: FolderHost> FolderFiles<'a, R> {
     /// # Errors
     ///
     /// `Failed` if an earlier call failed. Nothing changes then.
-    fn begin(&mut self) -> Result<()>
+    fn begin_change(&mut self) -> Result<()>
         ensures { self.new.asked ≡ self.old.asked }
     {
         if self.has_failed {
@@ -153,7 +153,7 @@ impl<R: FolderHost> EngineFiles for FolderFiles<'_, R> {
     /// Those of writing: `AsBefore` if all that was written is cut off, and that is synced; the files take further calls then.
     /// `InPart` if that fails too, so that every later call fails; and with `Failed` after an earlier error.
     fn append(&mut self, queue: LogQueue, bytes: &[u8]) -> std::result::Result<(), AppendError> {
-        if let Err(error) = self.begin() {
+        if let Err(error) = self.begin_change() {
             return Err(AppendError::InPart(error));
         }
         match self.folder.append(queue, bytes) {
@@ -180,7 +180,7 @@ impl<R: FolderHost> EngineFiles for FolderFiles<'_, R> {
     /// Those of the sync and of making the file, and `Failed` after an earlier error. The new file may be there then, or not,
     /// and every later call fails.
     fn rotate(&mut self, queue: LogQueue, seq: FileSeq) -> Result<()> {
-        self.begin()?;
+        self.begin_change()?;
         self.folder.sync(queue)?;
         self.asked.begin(queue, seq);
         self.folder.create(FileId::new(queue, seq))?;
@@ -195,7 +195,7 @@ impl<R: FolderHost> EngineFiles for FolderFiles<'_, R> {
     ///
     /// Those of the sync, which is noted as failed, and `Failed` after an earlier error. Every later call fails then.
     fn sync(&mut self, queue: LogQueue) -> Result<()> {
-        self.begin()?;
+        self.begin_change()?;
         let synced = self.folder.sync(queue);
         if synced.is_err() {
             self.asked.unsynced(queue);
@@ -213,7 +213,7 @@ impl<R: FolderHost> EngineFiles for FolderFiles<'_, R> {
     /// Those of deleting it, and `Failed` after an earlier error. The file may be gone then, or not, and every later call
     /// fails.
     fn delete_oldest(&mut self, queue: LogQueue) -> Result<()> {
-        self.begin()?;
+        self.begin_change()?;
         self.asked.delete(queue);
         self.folder.delete_oldest(queue)?;
         self.has_failed = false;
@@ -228,7 +228,7 @@ impl<R: FolderHost> EngineFiles for FolderFiles<'_, R> {
     /// Those of keeping and cutting it, and `Failed` after an earlier error. The file may be cut then, or not, and every
     /// later call fails.
     fn truncate(&mut self, queue: LogQueue, len: u64) -> Result<()> {
-        self.begin()?;
+        self.begin_change()?;
         self.asked.cut(queue, len);
         self.folder.truncate(queue, len)?;
         self.has_failed = false;
@@ -264,7 +264,7 @@ impl<R: FolderHost> NotesFound for FolderFiles<'_, R> {
 /// # Errors
 ///
 /// Those of [`Folder::open`], and of the syncs.
-fn open_synced<'a, R: FolderHost>(rt: &'a R, path: &'a str) -> FolderResult<Folder<'a, R>> {
+fn open_and_sync<'a, R: FolderHost>(rt: &'a R, path: &'a str) -> FolderResult<Folder<'a, R>> {
     let folder = Folder::open(rt, path)?;
     folder.sync_all(LogQueue::Append)?;
     folder.sync_all(LogQueue::Rewrite)?;

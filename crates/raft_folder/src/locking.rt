@@ -26,10 +26,13 @@ impl LockedFolder {
     /// # Errors
     ///
     /// `Locked` if anyone else has locked the folder or `LOCK`; `System`; `Memory`.
-    pub(crate) fn exclusive<R: FolderHost>(rt: &R, path: &str) -> FolderResult<LockedFolder> {
+    pub(crate) fn lock_exclusively<R: FolderHost>(
+        rt: &R,
+        path: &str,
+    ) -> FolderResult<LockedFolder> {
         let alloc = rt.alloc();
         let entry = open_folder(rt, path)?;
-        taken(alloc, path, entry.try_lock())?;
+        check_lock_taken(alloc, path, entry.try_lock())?;
         let lock_path = format!(in alloc; "{path}/{LOCK}")?;
         let mut how = OpenOptions::new();
         how.create(true).read(true).write(true);
@@ -37,7 +40,7 @@ impl LockedFolder {
             Ok(lock) => lock,
             Err(e) => return Err(FolderError::system(alloc, lock_path.as_str(), e)),
         };
-        taken(alloc, lock_path.as_str(), lock.try_lock())?;
+        check_lock_taken(alloc, lock_path.as_str(), lock.try_lock())?;
         Ok(LockedFolder {
             entry,
             lock: Some(lock),
@@ -50,10 +53,10 @@ impl LockedFolder {
     /// # Errors
     ///
     /// `Locked` if an engine that writes has locked the folder or `LOCK`; `System`; `Memory`.
-    pub(crate) fn shared<R: FolderHost>(rt: &R, path: &str) -> FolderResult<LockedFolder> {
+    pub(crate) fn lock_shared<R: FolderHost>(rt: &R, path: &str) -> FolderResult<LockedFolder> {
         let alloc = rt.alloc();
         let entry = open_folder(rt, path)?;
-        taken(alloc, path, entry.try_lock_shared())?;
+        check_lock_taken(alloc, path, entry.try_lock_shared())?;
         let lock_path = format!(in alloc; "{path}/{LOCK}")?;
         let is_there = fs::exists(rt, lock_path.as_str());
         match is_there {
@@ -65,7 +68,7 @@ impl LockedFolder {
             Ok(lock) => lock,
             Err(e) => return Err(FolderError::system(alloc, lock_path.as_str(), e)),
         };
-        taken(alloc, lock_path.as_str(), lock.try_lock_shared())?;
+        check_lock_taken(alloc, lock_path.as_str(), lock.try_lock_shared())?;
         Ok(LockedFolder {
             entry,
             lock: Some(lock),
@@ -90,7 +93,7 @@ fn open_folder<R: FolderHost>(rt: &R, path: &str) -> FolderResult<File> {
 /// # Errors
 ///
 /// `Locked` if someone else has it; `System`; `Memory` if there is none for the path.
-fn taken(
+fn check_lock_taken(
     alloc: Global,
     path: &str,
     locked: std::result::Result<(), TryLockError>,

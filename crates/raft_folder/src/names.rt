@@ -4,7 +4,7 @@ use raft_base::{AllocResult, FileId, LogQueue};
 use std::alloc::Global;
 
 /// What a name in a folder stands for.
-pub(crate) enum Meaning {
+pub(crate) enum NameMeaning {
     /// The name is that of this log file.
     Log(FileId),
     /// The name ends like that of a log file but isn't one.
@@ -14,7 +14,7 @@ pub(crate) enum Meaning {
 }
 
 /// Returns the ending of the names of the files of `queue`: `.raftlog` or `.rewrite`.
-fn ending_of(queue: LogQueue) -> &'static str {
+fn file_name_ending(queue: LogQueue) -> &'static str {
     match queue {
         LogQueue::Append => ".raftlog",
         LogQueue::Rewrite => ".rewrite",
@@ -27,8 +27,8 @@ fn ending_of(queue: LogQueue) -> &'static str {
 /// # Errors
 ///
 /// `AllocError` if there is no memory for it.
-pub(crate) fn name_of(alloc: Global, id: FileId) -> AllocResult<String> {
-    let ending = ending_of(id.queue);
+pub(crate) fn log_file_name(alloc: Global, id: FileId) -> AllocResult<String> {
+    let ending = file_name_ending(id.queue);
     format!(in alloc; "{:016}{ending}", id.seq)
 }
 
@@ -39,8 +39,13 @@ pub(crate) fn name_of(alloc: Global, id: FileId) -> AllocResult<String> {
 /// # Errors
 ///
 /// `AllocError` if there is no memory for it.
-pub(crate) fn name_of_cut(alloc: Global, id: FileId, offset: u64, nth: u64) -> AllocResult<String> {
-    let ending = ending_of(id.queue);
+pub(crate) fn cut_file_name(
+    alloc: Global,
+    id: FileId,
+    offset: u64,
+    nth: u64,
+) -> AllocResult<String> {
+    let ending = file_name_ending(id.queue);
     if nth == 1 {
         return format!(in alloc; "{:016}{ending}.{offset}.cut", id.seq);
     }
@@ -52,34 +57,34 @@ pub(crate) fn name_of_cut(alloc: Global, id: FileId, offset: u64, nth: u64) -> A
 /// # Errors
 ///
 /// `AllocError` if there is no memory for the name that a log file should have.
-pub(crate) fn meaning_of(alloc: Global, name: &str) -> AllocResult<Meaning> {
+pub(crate) fn classify_name(alloc: Global, name: &str) -> AllocResult<NameMeaning> {
     for queue in [LogQueue::Append, LogQueue::Rewrite] {
-        if let Some(number) = name.strip_suffix(ending_of(queue)) {
-            return log_meaning_of(alloc, queue, number, name);
+        if let Some(number) = name.strip_suffix(file_name_ending(queue)) {
+            return classify_numbered_name(alloc, queue, number, name);
         }
     }
-    Ok(Meaning::Other)
+    Ok(NameMeaning::Other)
 }
 
 /// Returns what `name` stands for, which is `number` with the ending of the files of `queue`: a log file only
-/// if it is exactly as [`name_of`] makes it.
+/// if it is exactly as [`log_file_name`] makes it.
 ///
 /// # Errors
 ///
 /// `AllocError` if there is no memory for that name.
-fn log_meaning_of(
+fn classify_numbered_name(
     alloc: Global,
     queue: LogQueue,
     number: &str,
     name: &str,
-) -> AllocResult<Meaning> {
+) -> AllocResult<NameMeaning> {
     let Ok(seq) = number.parse::<u64>() else {
-        return Ok(Meaning::Misnamed);
+        return Ok(NameMeaning::Misnamed);
     };
     let id = FileId::new(queue, seq);
-    if name_of(alloc, id)?.as_str() == name {
-        Ok(Meaning::Log(id))
+    if log_file_name(alloc, id)?.as_str() == name {
+        Ok(NameMeaning::Log(id))
     } else {
-        Ok(Meaning::Misnamed)
+        Ok(NameMeaning::Misnamed)
     }
 }

@@ -40,8 +40,8 @@ pub fn open_folder<'a, R: FolderHost + SharedFiles + Threads>(
         opened.damaged.items) }
 {
     let files = FolderFiles::open_unread(rt, path)?;
-    let append = paths_in(rt, &files, LogQueue::Append)?;
-    let rewrite = paths_in(rt, &files, LogQueue::Rewrite)?;
+    let append = list_paths(rt, &files, LogQueue::Append)?;
+    let rewrite = list_paths(rt, &files, LogQueue::Rewrite)?;
     let source = PathSource {
         disk: rt,
         append: append.paths,
@@ -62,7 +62,7 @@ pub fn open_folder<'a, R: FolderHost + SharedFiles + Threads>(
 /// # Errors
 ///
 /// Those of the folder; `Memory`.
-fn paths_in<R: FolderHost>(
+fn list_paths<R: FolderHost>(
     rt: &R,
     files: &FolderFiles<'_, R>,
     queue: LogQueue,

@@ -73,7 +73,7 @@ pub fn open_in_pieces<R: Threads + Sync, F: NotesFound, S: ReadFiles>(
         unopened.error) }
 {
     match read_in_pieces(rt, alloc, source, mode, version, append, rewrite, workers) {
-        Ok(read) => open_read(mode, version, files, source, append, rewrite, read),
+        Ok(read) => open_after_reading(mode, version, files, source, append, rewrite, read),
         Err(error) => Err(Unopened { files, error }),
     }
 }
@@ -83,7 +83,7 @@ pub fn open_in_pieces<R: Threads + Sync, F: NotesFound, S: ReadFiles>(
 /// # Errors
 ///
 /// Those of `EngineFiles`. The files are handed back, as by [`open_in_pieces`].
-fn open_read<F: NotesFound, S: ReadFiles>(
+fn open_after_reading<F: NotesFound, S: ReadFiles>(
     mode: RecoveryMode,
     version: Version,
     files: F,

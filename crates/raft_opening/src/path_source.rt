@@ -37,7 +37,10 @@ impl<D: SharedFiles> ReadFiles for PathSource<'_, D> {
     ///
     /// `NotFound` if no file of its queue has that number; those of the file. Some of the bytes may have been appended then.
     fn read(&self, file: FileId, offset: u64, len: usize, bytes: &mut Vec<u8>) -> io::Result<()> {
-        match path_of(paths_of(file.queue, &self.append, &self.rewrite), file.seq) {
+        match path_of_file(
+            paths_of_queue(file.queue, &self.append, &self.rewrite),
+            file.seq,
+        ) {
             Some(path) => self.disk.read_file(path, offset, len, bytes),
             None => Err(io::Error::from(ErrorKind::NotFound)),
         }
@@ -45,7 +48,7 @@ impl<D: SharedFiles> ReadFiles for PathSource<'_, D> {
 }
 
 /// Returns the files of one queue.
-fn paths_of<'p>(
+fn paths_of_queue<'p>(
     queue: LogQueue,
     append: &'p NumberedPaths,
     rewrite: &'p NumberedPaths,
@@ -60,7 +63,7 @@ fn paths_of<'p>(
 }
 
 /// Returns the path of the file numbered `seq`; `None` if there is none. The numbers of `paths` rise.
-fn path_of(paths: &[(FileSeq, String)], seq: FileSeq) -> Option<&str>
+fn path_of_file(paths: &[(FileSeq, String)], seq: FileSeq) -> Option<&str>
     ensures { IfSome result (λ path. IsNamed (map path_shown paths.now) seq path.now) }
 {
     match paths.binary_search_by_key(&seq, |named| named.0) {

@@ -9,7 +9,7 @@ ghost use Rattle.raft_opening.specs.ReadOnce.{AreUnreadAs, IsQueueRead, IsReadin
 
 use crate::queue_read::{QueueRead, read_queue};
 use crate::sized_files::check_few_bytes;
-use crate::sized_reading::{LEAST_SHARE, bytes_of, check_counts, read_sized};
+use crate::sized_reading::{LEAST_SHARE, check_counts, read_sized, sum_file_bytes};
 use raft_base::{Error, LogQueue, Result, Version};
 use raft_contexts::{MemTableRecoverContext, MemTableRecoverContextFactory};
 use raft_engine::RecoveryMode;
@@ -56,13 +56,15 @@ pub fn read_in_pieces<R: Threads + Sync, S: ReadFiles>(
     match read_once(rt, alloc, source, mode, version, append, rewrite, workers) {
         Ok(read) => Ok(read),
         Err(Error::Memory) => Err(Error::Memory),
-        Err(_) => Err(refusal(rt, alloc, source, mode, version, append, rewrite, workers)),
+        Err(_) => Err(read_again_for_error(
+            rt, alloc, source, mode, version, append, rewrite, workers,
+        )),
     }
 }
 
 /// Returns the error for files that a reading has refused: they are read once more, and the error is that of what comes first; or
 /// `Corruption`, if they aren't refused this time.
-fn refusal<R: Threads + Sync, S: ReadFiles>(
+fn read_again_for_error<R: Threads + Sync, S: ReadFiles>(
     rt: &R,
     alloc: Global,
     source: &S,
@@ -153,13 +155,13 @@ fn read_queues<R: Threads + Sync, S: ReadFiles>(
     ensures appended { IfOk result (λ both. IsQueueRead (S.gives source.now) mode Append version append.now HasRead
         HasReadExactly both.1) }
 {
-    let rewrite_bytes = bytes_of(rewrite);
+    let rewrite_bytes = sum_file_bytes(rewrite);
     if workers == 1 || rewrite_bytes < LEAST_SHARE {
         let rewritten = read_rewrite(rt, alloc, source, mode, version, rewrite, workers)?;
         let appended = read_append(rt, alloc, source, mode, version, append, workers)?;
         return Ok((rewritten, appended));
     }
-    let rewriters = part_of_workers(workers, rewrite_bytes, bytes_of(append));
+    let rewriters = part_of_workers(workers, rewrite_bytes, sum_file_bytes(append));
     let appenders = workers - rewriters;
     let read_first = || -> Result<QueueRead<Both<MemTableRecoverContext, GroupRows>>>
         requires { IsSync R.row × IsSync S.row × (0 < rewriters) × (rewriters ≤ 256) }

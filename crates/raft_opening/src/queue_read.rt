@@ -84,7 +84,7 @@ pub fn read_queue<M: ReplayMachine, F: Factory<M>, S: ReadFiles, R: Threads + Sy
 ///
 /// # Errors
 ///
-/// Those of the factory, and of [`replay_parts`].
+/// Those of the factory, and of [`replay_closed_and_last`].
 fn replay_queue<M: ReplayMachine, F: Factory<M>, S: ReadFiles, R: Threads + Sync>(
     rt: &R,
     alloc: Global,
@@ -110,7 +110,7 @@ fn replay_queue<M: ReplayMachine, F: Factory<M>, S: ReadFiles, R: Threads + Sync
         });
     };
     let last = *last;
-    let read = replay_parts(
+    let read = replay_closed_and_last(
         rt, alloc, factory, source, mode, queue, version, closed, last, workers,
     )?;
     let (machine, LastRead { tail, damaged }) = read;
@@ -133,8 +133,8 @@ fn replay_queue<M: ReplayMachine, F: Factory<M>, S: ReadFiles, R: Threads + Sync
 ///
 /// # Errors
 ///
-/// Those of [`replay_apart`] and of the machine.
-fn replay_parts<M: ReplayMachine, F: Factory<M>, S: ReadFiles, R: Threads + Sync>(
+/// Those of [`replay_at_once`] and of the machine.
+fn replay_closed_and_last<M: ReplayMachine, F: Factory<M>, S: ReadFiles, R: Threads + Sync>(
     rt: &R,
     alloc: Global,
     factory: &F,
@@ -155,7 +155,7 @@ fn replay_parts<M: ReplayMachine, F: Factory<M>, S: ReadFiles, R: Threads + Sync
     if count == 0 {
         return read_last(alloc, factory, source, mode, queue, version, last);
     }
-    let both = replay_apart(
+    let both = replay_at_once(
         rt, alloc, factory, source, mode, queue, version, closed, last, workers,
     )?;
     let (mut machine, (newest, read)) = both;
@@ -170,7 +170,7 @@ fn replay_parts<M: ReplayMachine, F: Factory<M>, S: ReadFiles, R: Threads + Sync
 /// # Errors
 ///
 /// Those of the factory, of `replay_files` and of [`read_last`].
-fn replay_apart<M: ReplayMachine, F: Factory<M>, S: ReadFiles, R: Threads + Sync>(
+fn replay_at_once<M: ReplayMachine, F: Factory<M>, S: ReadFiles, R: Threads + Sync>(
     rt: &R,
     alloc: Global,
     factory: &F,

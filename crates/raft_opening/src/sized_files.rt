@@ -36,7 +36,7 @@ impl SizedQueue {
     ///
     /// # Errors
     ///
-    /// `Corruption` if the number of a file isn't one above that of the file before it; those of [`missing_of`]; `Memory`.
+    /// `Corruption` if the number of a file isn't one above that of the file before it; those of [`find_missing`]; `Memory`.
     pub fn of<S: ReadFiles>(
         alloc: Global,
         source: &S,
@@ -52,7 +52,7 @@ impl SizedQueue {
             ⊎ IsReadRefusal (S.gives source.now) (S.may_fail source.now) e) }
     {
         check_sizes(alloc, queue, sizes)?;
-        let missing = missing_of(alloc, source, mode, queue, version, sizes)?;
+        let missing = find_missing(alloc, source, mode, queue, version, sizes)?;
         let left = sizes_left(alloc, sizes, &missing)?;
         let known = known_of(alloc, left.as_slice())?;
         let ready = ReadyQueue { missing, known };
@@ -130,8 +130,8 @@ pub fn sizes_left(alloc: Global, sizes: &[FileSize], missing: &Missing) -> Resul
 ///
 /// # Errors
 ///
-/// Those of [`tail_of`].
-fn missing_of<S: ReadFiles>(
+/// Those of [`find_tail`].
+fn find_missing<S: ReadFiles>(
     alloc: Global,
     source: &S,
     mode: RecoveryMode,
@@ -149,7 +149,7 @@ fn missing_of<S: ReadFiles>(
         return Ok(Missing::FirstFile);
     };
     let file = LogFileContext::new(FileId::new(queue, last.seq), version);
-    match tail_of(alloc, source, mode, &file, last.len)? {
+    match find_tail(alloc, source, mode, &file, last.len)? {
         None => Ok(Missing::Nothing),
         Some(tail) => Ok(Missing::Cut(tail)),
     }
@@ -163,7 +163,7 @@ fn missing_of<S: ReadFiles>(
 /// `Corruption` if `mode` refuses the tail, the file is of the other version, or a batch of a rewrite file has damaged entries;
 /// `InvalidArgument` if the file is one of raft-engine; `Io`, whose text begins with the queue, the file and the offset, if a
 /// read fails or gives another number of bytes; `Memory`.
-fn tail_of<S: ReadFiles>(
+fn find_tail<S: ReadFiles>(
     alloc: Global,
     source: &S,
     mode: RecoveryMode,

@@ -67,7 +67,9 @@ pub fn read_sized<R: Threads + Sync, S: ReadFiles>(
         ⊎ IsOpeningRefusal (AreUnrecoveredAs version workers) mode version append_files rewrite_files e) }
 {
     files_hold_few_records();
-    let (append, rewrite) = both_sized(rt, alloc, source, mode, version, append, rewrite, workers)?;
+    let (append, rewrite) = check_both_queues(
+        rt, alloc, source, mode, version, append, rewrite, workers,
+    )?;
     let (append_left, rewrite_left) = (append.left.as_slice(), rewrite.left.as_slice());
     check_few_bytes(append_left)?;
     check_few_bytes(rewrite_left)?;
@@ -98,7 +100,7 @@ pub fn read_sized<R: Threads + Sync, S: ReadFiles>(
 /// # Errors
 ///
 /// Those of [`SizedQueue::of`]; that of the append queue first.
-fn both_sized<R: Threads + Sync, S: ReadFiles>(
+fn check_both_queues<R: Threads + Sync, S: ReadFiles>(
     rt: &R,
     alloc: Global,
     source: &S,
@@ -196,13 +198,13 @@ fn replay_both<R: Threads + Sync, S: ReadFiles>(
         → IsQueueStop (S.gives source.now) (S.may_fail source.now) Rewrite version rewrite.now (IsStoodFor HaveBothRead) e
         ⊎ IsQueueStop (S.gives source.now) (S.may_fail source.now) Append version append.now (IsStoodFor HasRead) e) }
 {
-    let rewrite_bytes = bytes_of(rewrite);
+    let rewrite_bytes = sum_file_bytes(rewrite);
     if workers == 1 || rewrite_bytes < LEAST_SHARE {
         let rewritten = replay_rewrite(rt, alloc, source, rewrite, version, workers)?;
         let appended = replay_append(rt, alloc, source, append, version, workers)?;
         return Ok((rewritten, appended));
     }
-    let rewriters = part_of_workers(workers, rewrite_bytes, bytes_of(append));
+    let rewriters = part_of_workers(workers, rewrite_bytes, sum_file_bytes(append));
     let appenders = workers - rewriters;
     let read_first = || -> Result<Both<MemTableRecoverContext, GroupRows>>
         requires { IsSync R.row × IsSync S.row × (0 < rewriters) × (rewriters ≤ 256) }
@@ -290,7 +292,7 @@ fn replay_append<R: Threads + Sync, S: ReadFiles>(
 }
 
 /// Returns the length of all files together in bytes, at most `usize::MAX`.
-pub fn bytes_of(files: &[FileSize]) -> usize {
+pub fn sum_file_bytes(files: &[FileSize]) -> usize {
     let mut bytes = 0usize;
     for file in files {
         bytes = bytes.saturating_add(file.len as usize);

@@ -88,7 +88,7 @@ impl HandedFiles {
         ensures taken { IfSome result (λ o. self.new.taken ≡ self.old.taken + 1) }
         ensures same { IfNone result (self.new.taken ≡ self.old.taken) }
     {
-        self.waiting.take()
+        self.waiting.take_oldest()
     }
 
     /// Keeps a copy of `bytes`, which are in `file` from `offset` on, for reads. It replaces what was lent for the same file

@@ -74,7 +74,7 @@ impl WaitingOrders {
     }
 
     /// Removes the oldest order that waits, and returns it with its number. Returns `None` if none waits.
-    pub fn take(&mut self) -> Option<NumberedOrder>
+    pub fn take_oldest(&mut self) -> Option<NumberedOrder>
         requires { length self.old.orders.items ≤ self.old.count }
         ensures number { IfSome result (λ o. o.number ≡ self.old.count - length self.old.orders.items) }
         ensures order { IfSome result (λ o. self.old.orders.items ≡ o.order ∷ self.new.orders.items) }

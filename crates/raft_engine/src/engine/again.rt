@@ -10,8 +10,8 @@ ghost use Rattle.raft_engine.specs.Purged.{AreDeleted, AreExpired, AreFilesPurge
 ghost use Rattle.raft_engine.specs.PurgedRewrites.{AreRewritesPurged, AreRewritesUnpurged};
 
 use super::Engine;
-use crate::purge::{count_below, delete_oldest, least_needed};
-use crate::queue_files::files_known;
+use crate::purge::{count_below, delete_oldest, least_needed_file};
+use crate::queue_files::pick_queue_files;
 use crate::rewriting::regions_of;
 use crate::stored::asks_are_stored;
 use raft_base::{Error, LogQueue, Result};
@@ -51,7 +51,7 @@ impl<F: EngineFiles> Engine<F> {
             return Err(Error::Failed);
         }
         let regions = regions_of(&self.accessor)?;
-        self.tell()?;
+        self.tell_rewrite_queue()?;
         self.rotate_rewrite()?;
         self.move_regions_again(regions.as_slice())
     }
@@ -90,7 +90,7 @@ impl<F: EngineFiles> Engine<F> {
         ensures accepted { OnOk result (self.old.intact ≡ true) }
         ensures err { IfErr result (AreRewritesUnpurged F.may_fail self.old self.new) }
     {
-        self.purge(LogQueue::Rewrite)
+        self.purge_queue(LogQueue::Rewrite)
     }
 
     /// Deletes the files of `queue` that no table needs, the oldest first, but never the last one. Returns how many were
@@ -100,7 +100,7 @@ impl<F: EngineFiles> Engine<F> {
     /// # Errors
     ///
     /// Those of [`Engine::purge_rewrite_files`].
-    pub(crate) fn purge(&mut self, queue: LogQueue) -> Result<usize>
+    pub(crate) fn purge_queue(&mut self, queue: LogQueue) -> Result<usize>
         ensures ok { IfOk result (λ count. AreFilesPurged queue count self.old self.new) }
         ensures accepted { OnOk result (self.old.intact ≡ true) }
         ensures err { IfErr result (AreFilesUnpurged F.may_fail queue self.old self.new) }
@@ -108,12 +108,12 @@ impl<F: EngineFiles> Engine<F> {
         if !self.intact {
             return Err(Error::Failed);
         }
-        let count = self.count_expired(queue)?;
+        let count = self.count_expired_files(queue)?;
         if count == 0 {
             return Ok(0);
         }
-        self.tell()?;
-        self.delete_files(queue, count)?;
+        self.tell_rewrite_queue()?;
+        self.delete_expired_files(queue, count)?;
         Ok(count)
     }
 
@@ -122,13 +122,13 @@ impl<F: EngineFiles> Engine<F> {
     /// # Errors
     ///
     /// `Memory` alone.
-    fn count_expired(&self, queue: LogQueue) -> Result<usize>
+    fn count_expired_files(&self, queue: LogQueue) -> Result<usize>
         requires { self.now.intact ≡ true }
         ensures ok { IfOk result (AreExpired queue self.now) }
         ensures memory { IfErr result (λ e. e ≡ Error.Memory) }
     {
-        let files = files_known(queue, &self.append, &self.rewrite);
-        let least = least_needed(&self.accessor, queue, files.seq)?;
+        let files = pick_queue_files(queue, &self.append, &self.rewrite);
+        let least = least_needed_file(&self.accessor, queue, files.seq)?;
         Ok(count_below(&files.closed, least))
     }
 
@@ -137,7 +137,7 @@ impl<F: EngineFiles> Engine<F> {
     /// # Errors
     ///
     /// Those of `EngineFiles`: the engine isn't intact any more, and some of the files may be deleted.
-    fn delete_files(&mut self, queue: LogQueue, count: usize) -> Result<()>
+    fn delete_expired_files(&mut self, queue: LogQueue, count: usize) -> Result<()>
         requires ready { IsReady self.old }
         requires expired { AreExpired queue self.old count }
         ensures ok { OnOk result (AreDeleted queue count self.old self.new) }

@@ -10,11 +10,11 @@ ghost use Rattle.raft_engine.specs.WrittenBatch.{IsNextRefused};
 
 use super::Engine;
 use super::rewrite::rewrite_items;
-use crate::group_batches::moving_group;
+use crate::group_batches::moving_group_batches;
 use crate::group_moves::moved_groups_are_stored;
-use crate::group_puts::{encode_all, put_all};
+use crate::group_puts::{encode_batches, put_batches};
 use crate::moved::moves_are_stored;
-use crate::parts::part_len;
+use crate::parts::count_in_next_part;
 use crate::read_back::batches_are_read_back;
 use crate::rewriting::entries_to_move;
 use raft_accessor::MemTableAccessor;
@@ -40,20 +40,20 @@ impl<F: EngineFiles> Engine<F> {
     }
 
     /// Moves what the table of `region` has in rewrite files to the last one of them: in one batch if its entries are one part
-    /// (see [`part_len`]), else in an atomic group. A region without a table is left as it is.
+    /// (see [`count_in_next_part`]), else in an atomic group. A region without a table is left as it is.
     ///
     /// # Errors
     ///
-    /// `Memory`: the engine is unchanged then. Those of [`Engine::rewrite_region`] and [`Engine::move_group`].
+    /// `Memory`: the engine is unchanged then. Those of [`Engine::rewrite_region`] and [`Engine::move_region_in_group`].
     fn move_region_again(&mut self, region: u64) -> Result<()>
         requires { IsReady self.old }
         ensures ok { OnOk result (IsRegionMovedAgain region self.old self.new) }
         ensures err { IfErr result (IsRegionUnmovedAgain F.may_fail region self.old self.new) }
     {
-        if self.is_one_part(region)? {
+        if self.moves_in_one_part(region)? {
             return self.rewrite_region(region, None);
         }
-        self.move_group(region)
+        self.move_region_in_group(region)
     }
 
     /// Tests whether the entries that the table of `region` has in rewrite files are one part: all go into one batch. It is so
@@ -62,7 +62,7 @@ impl<F: EngineFiles> Engine<F> {
     /// # Errors
     ///
     /// `Memory` alone.
-    fn is_one_part(&self, region: u64) -> Result<bool>
+    fn moves_in_one_part(&self, region: u64) -> Result<bool>
         ensures ok { IfOk result (λ one. IsTrue one ↔ IsOnePartOf region self.now) }
         ensures memory { IfErr result (λ e. e ≡ Error.Memory) }
     {
@@ -70,7 +70,7 @@ impl<F: EngineFiles> Engine<F> {
             return Ok(true);
         };
         let entries = entries_to_move(self.append.allocator(), table, None)?;
-        Ok(part_len(entries.as_slice()) == entries.len())
+        Ok(count_in_next_part(entries.as_slice()) == entries.len())
     }
 
     /// Moves what the table of `region` has in rewrite files to the last one of them in an atomic group, whose number is that
@@ -79,13 +79,13 @@ impl<F: EngineFiles> Engine<F> {
     ///
     /// # Errors
     ///
-    /// - `Full` if a batch would begin past 2^63 in the file, or has 2^56 bytes or more, and those of [`moving_group`]. The
+    /// - `Full` if a batch would begin past 2^63 in the file, or has 2^56 bytes or more, and those of [`moving_group_batches`]. The
     ///   engine is unchanged then, but for reads.
     /// - Those of `EngineFiles::append`. The engine isn't intact any more, the first ones of the batches were put, and the
     ///   tables are unchanged.
     /// - Those of [`rewrite_items`], once all batches were put. The engine isn't intact either, and the tables have the first
     ///   ones of their items.
-    fn move_group(&mut self, region: u64) -> Result<()>
+    fn move_region_in_group(&mut self, region: u64) -> Result<()>
         requires { IsReady self.old }
         ensures ok { OnOk result (((finite.get self.old.accessor.tables region ≡ None) × (self.new ≡ self.old))
             ⊎ IsGroupMoved region self.old self.new) }
@@ -98,12 +98,12 @@ impl<F: EngineFiles> Engine<F> {
             return Ok(());
         };
         let seq = self.rewrite.seq;
-        let batches = moving_group(self.append.allocator(), &mut self.files, table, seq)?;
-        let (made, end) = encode_all(batches, self.rewrite.len)?;
+        let batches = moving_group_batches(self.append.allocator(), &mut self.files, table, seq)?;
+        let (made, end) = encode_batches(batches, self.rewrite.len)?;
         let file = LogFileContext::new(FileId::new(LogQueue::Rewrite, seq), self.version);
         self.intact = false;
-        let placed = put_all(&mut self.files, &file, self.rewrite.len, made)?;
-        rewrite_all(&mut self.accessor, placed, seq)?;
+        let placed = put_batches(&mut self.files, &file, self.rewrite.len, made)?;
+        rewrite_batch_items(&mut self.accessor, placed, seq)?;
         self.rewrite.len = end;
         self.intact = true;
         Ok(())
@@ -116,7 +116,11 @@ impl<F: EngineFiles> Engine<F> {
 /// # Errors
 ///
 /// Those of `apply_rewrite_writes`. The first ones of the items are written then.
-fn rewrite_all(accessor: &mut MemTableAccessor, batches: Vec<LogBatch>, seq: FileSeq) -> Result<()>
+fn rewrite_batch_items(
+    accessor: &mut MemTableAccessor,
+    batches: Vec<LogBatch>,
+    seq: FileSeq,
+) -> Result<()>
     ensures ok { OnOk result (AreWritten (Rewriting None seq) (items_of_batches batches.items)
         accessor.old accessor.new) }
     ensures fault { IfErr result (IsNextRefused (Rewriting None seq)

@@ -11,7 +11,7 @@ ghost use Rattle.raft_engine.specs.Unopened.{AreBothAccepted, AreUngroupedAs, Is
 ghost use Rattle.raft_engine.specs.declared.recovery_mode.RecoveryMode.TheVariants.{TolerateTornTail};
 
 use super::Engine;
-use crate::reading::read_over;
+use crate::reading::read_with_contexts;
 use crate::recovery_mode::RecoveryMode;
 use crate::unopened::{Opened, Unopened};
 use raft_base::{FileSeq, Version};
@@ -97,7 +97,7 @@ impl<F: EngineFiles> Engine<F> {
         ensures err { IfErr result (λ unopened. IsUnopened (AreUngroupedAs version) F.may_fail mode version
             (map file_shown append.items) (map file_shown rewrite.items) (F.asked unopened.files) unopened.error) }
     {
-        match read_over(alloc, mode, version, append, rewrite, appended, rewritten) {
+        match read_with_contexts(alloc, mode, version, append, rewrite, appended, rewritten) {
             Ok(read) => Engine::of_reading(version, files, read.reading, read.damaged),
             Err(error) => Err(Unopened { files, error }),
         }

@@ -12,7 +12,7 @@ ghost use Rattle.raft_engine.specs.KeptEngine.{table_in};
 ghost use Rattle.raft_engine.specs.Moved.{IsOnlyRead};
 
 use super::Engine;
-use crate::block_reads::{read_alone, read_by_blocks};
+use crate::block_reads::{read_entries, read_one_entry};
 use crate::moved::moves_are_stored;
 use raft_base::{EntryIndex, Result};
 use raft_engine_prefixes::contents::told_contents_are_those_that_were_added;
@@ -46,7 +46,7 @@ impl<F: EngineFiles> Engine<F> {
         let Some(entry) = self.entry_index(region, index) else {
             return Ok(None);
         };
-        let bytes = read_alone(self.append.allocator(), &mut self.files, region, &entry)?;
+        let bytes = read_one_entry(self.append.allocator(), &mut self.files, region, &entry)?;
         Ok(Some(bytes))
     }
 
@@ -89,7 +89,7 @@ impl<F: EngineFiles> Engine<F> {
         if indexes.is_empty() {
             return Ok(0);
         }
-        let mut found = read_by_blocks(alloc, &mut self.files, region, indexes.as_slice())?;
+        let mut found = read_entries(alloc, &mut self.files, region, indexes.as_slice())?;
         entries.append(&mut found)?;
         Ok(indexes.len())
     }

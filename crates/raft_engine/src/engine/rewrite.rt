@@ -11,9 +11,9 @@ ghost use Rattle.raft_engine.specs.WrittenBatch.{IsNextRefused, LacksRoom};
 use super::Engine;
 use crate::limits::LAST_OFFSET;
 use crate::moved::moves_are_stored;
-use crate::put::{put_items, try_put};
+use crate::put::{put_unless_empty, try_put};
 use crate::read_back::batches_are_read_back;
-use crate::rewriting::{batch_len, entries_to_move, moving_batch, regions_of};
+use crate::rewriting::{count_in_next_batch, entries_to_move, next_moving_batch, regions_of};
 use crate::stored::asks_are_stored;
 use raft_accessor::MemTableAccessor;
 use raft_base::{EntryIndex, Error, FileId, FileSeq, LogFileContext, LogQueue, Result};
@@ -50,7 +50,7 @@ impl<F: EngineFiles> Engine<F> {
             return Err(Error::Failed);
         }
         let regions = regions_of(&self.accessor)?;
-        self.tell()?;
+        self.tell_rewrite_queue()?;
         self.rewrite_regions(regions.as_slice(), Some(gate))
     }
 
@@ -80,7 +80,7 @@ impl<F: EngineFiles> Engine<F> {
     /// more than 2^63; `Memory`. The engine is unchanged then. Those of `EngineFiles::append`, where it takes back what it wrote:
     /// the append queue is synced then, and nothing else is changed. Any other of `EngineFiles`: the engine isn't intact any
     /// more.
-    pub(crate) fn tell(&mut self) -> Result<()>
+    pub(crate) fn tell_rewrite_queue(&mut self) -> Result<()>
         ensures ok { OnOk result (IsTold self.old self.new) }
         ensures accepted { OnOk result (self.old.intact ≡ true) }
         ensures err { IfErr result (IsUntold F.may_fail self.old self.new) }
@@ -101,7 +101,7 @@ impl<F: EngineFiles> Engine<F> {
         );
         self.intact = false;
         self.files.sync(LogQueue::Append)?;
-        put_items(
+        put_unless_empty(
             &mut self.files,
             &file,
             self.rewrite.len,
@@ -117,12 +117,12 @@ impl<F: EngineFiles> Engine<F> {
 
     /// Moves what the table of `region` has in append files numbered at or below `gate`, or without a gate in rewrite files,
     /// to the last rewrite file. With a gate it goes in batches of a part of the entries each (see
-    /// [`part_len`](crate::parts::part_len)), the last one with the keys; without a gate in one batch. A region without a
+    /// [`count_in_next_part`](crate::parts::count_in_next_part)), the last one with the keys; without a gate in one batch. A region without a
     /// table is left as it is.
     ///
     /// # Errors
     ///
-    /// `Memory`: the engine is unchanged then. Those of [`Engine::move_batch`]: the batches before the refused one moved then.
+    /// `Memory`: the engine is unchanged then. Those of [`Engine::move_next_batch`]: the batches before the refused one moved then.
     pub(crate) fn rewrite_region(&mut self, region: u64, gate: Option<FileSeq>) -> Result<()>
         requires { IsReady self.old }
         ensures ok { OnOk result (IsRegionRewritten gate region self.old self.new) }
@@ -134,8 +134,8 @@ impl<F: EngineFiles> Engine<F> {
         let entries = entries_to_move(self.append.allocator(), table, gate)?;
         let mut rest = entries.as_slice();
         loop {
-            let (part, left) = rest.split_at(batch_len(rest, gate));
-            self.move_batch(region, gate, part, left)?;
+            let (part, left) = rest.split_at(count_in_next_batch(rest, gate));
+            self.move_next_batch(region, gate, part, left)?;
             if left.is_empty() {
                 return Ok(());
             }
@@ -149,11 +149,11 @@ impl<F: EngineFiles> Engine<F> {
     ///
     /// # Errors
     ///
-    /// `Full` if the last rewrite file has more than 2^63 bytes, or the batch 2^56 or more, and those of [`moving_batch`]: the
+    /// `Full` if the last rewrite file has more than 2^63 bytes, or the batch 2^56 or more, and those of [`next_moving_batch`]: the
     /// engine is unchanged then, but for reads. Those of `EngineFiles::append`: the same holds where it takes back what it wrote;
     /// else, and with those of [`rewrite_items`] once the batch was put, the engine isn't intact any more, and the tables are
     /// unchanged or, once it was put, have the first ones of its items.
-    fn move_batch(
+    fn move_next_batch(
         &mut self,
         region: u64,
         gate: Option<FileSeq>,
@@ -177,7 +177,7 @@ impl<F: EngineFiles> Engine<F> {
         };
         table.holds_one_run();
         let alloc = self.append.allocator();
-        let mut batch = moving_batch(alloc, &mut self.files, table, gate, part, left)?;
+        let mut batch = next_moving_batch(alloc, &mut self.files, table, gate, part, left)?;
         if batch.is_empty() {
             return Ok(());
         }

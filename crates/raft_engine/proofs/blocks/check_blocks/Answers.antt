@@ -5,7 +5,7 @@ pub returns-in-Append-clause-ok : goal.returns-in-Append-clause-ok
 returns-in-Append-clause-ok c = append_sound c.args.file.now c.id.result c.id.ensures c.in-Append.is
 
 pub returns-in-Rewrite-clause-ok : goal.returns-in-Rewrite-clause-ok
-returns-in-Rewrite-clause-ok c = rewrite_sound c.args.file.now c.check_all.result c.check_all.ensures.ok
+returns-in-Rewrite-clause-ok c = rewrite_sound c.args.file.now c.check_all_blocks.result c.check_all_blocks.ensures.ok
 
 pub returns-in-Rewrite-clause-refused : goal.returns-in-Rewrite-clause-refused
-returns-in-Rewrite-clause-refused c = rewrite_unsound c.args.file.now c.id.result c.id.ensures c.check_all.result c.in-Rewrite.is c.check_all.ensures.refused
+returns-in-Rewrite-clause-refused c = rewrite_unsound c.args.file.now c.id.result c.id.ensures c.check_all_blocks.result c.in-Rewrite.is c.check_all_blocks.ensures.refused

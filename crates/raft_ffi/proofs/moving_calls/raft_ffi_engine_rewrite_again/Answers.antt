@@ -4,5 +4,5 @@ use Rattle.raft_ffi.proofs.moving_calls.raft_ffi_engine_rewrite_again.Goals as g
 
 pub returns-clause-err : goal.returns-clause-err
 returns-clause-err c =
-    refused_both (AreUnmovedAgain HandedFails) c.rewrite_again-answer.result c.answered.result.code c.take-held.ensures.value c.put.ensures c.deref_mut.ensures.value refl
-    c.rewrite_again-answer.ensures.err c.answered.ensures.ok c.answered.ensures.err
+    refused_both (AreUnmovedAgain HandedFails) c.rewrite_again-answer.result c.status_of.result.code c.take-held.ensures.value c.put.ensures c.deref_mut.ensures.value refl
+    c.rewrite_again-answer.ensures.err c.status_of.ensures.ok c.status_of.ensures.err

@@ -73,7 +73,7 @@ pub returns-clause-ok : goal.returns-clause-ok
 returns-clause-ok c =
     let f = c.of_found-found.ensures in
     let read = c.in_ok-reading.ensures.ok f.0 f.1 f.2 in
-    rw (c.in_ok-put_new.ensures.ok, c.of.ensures)
+    rw (c.in_ok-put_new.ensures.ok, c.of_engine.ensures)
     (record {
       append_files = f.0;
       rewrite_files = f.1;

@@ -3,7 +3,7 @@ use Rattle.raft_ffi.proofs.DrainLemmas.{apply_so, stopped_so}
 use Rattle.raft_ffi.proofs.write_calls.apply_append.Goals as goal
 
 pub returns-clause-ok : goal.returns-clause-ok
-returns-clause-ok c = apply_so c.apply_append_writes.result Appending c.drain.result c.args.items c.args.accessor.now c.apply_append_writes.new.self c.drain.ensures.items c.drain.ensures.len c.apply_append_writes.ensures.ok
+returns-clause-ok c = apply_so c.apply_append_writes.result Appending c.into_items.result c.args.items c.args.accessor.now c.apply_append_writes.new.self c.into_items.ensures.items c.into_items.ensures.len c.apply_append_writes.ensures.ok
 
 pub returns-clause-refused : goal.returns-clause-refused
-returns-clause-refused c = stopped_so c.apply_append_writes.result Appending c.drain.result c.args.items c.args.accessor.now c.apply_append_writes.new.self c.drain.ensures.items c.apply_append_writes.ensures.refused
+returns-clause-refused c = stopped_so c.apply_append_writes.result Appending c.into_items.result c.args.items c.args.accessor.now c.apply_append_writes.new.self c.into_items.ensures.items c.apply_append_writes.ensures.refused

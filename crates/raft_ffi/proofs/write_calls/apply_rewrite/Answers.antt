@@ -4,8 +4,8 @@ use Rattle.raft_ffi.proofs.write_calls.apply_rewrite.Goals as goal
 
 pub returns-clause-ok : goal.returns-clause-ok
 returns-clause-ok c =
-    apply_so c.apply_rewrite_writes.result (Rewriting c.args.gate c.args.seq) c.drain.result c.args.items c.args.accessor.now c.apply_rewrite_writes.new.self c.drain.ensures.items c.drain.ensures.len c.apply_rewrite_writes.ensures.ok
+    apply_so c.apply_rewrite_writes.result (Rewriting c.args.gate c.args.seq) c.into_items.result c.args.items c.args.accessor.now c.apply_rewrite_writes.new.self c.into_items.ensures.items c.into_items.ensures.len c.apply_rewrite_writes.ensures.ok
 
 pub returns-clause-refused : goal.returns-clause-refused
 returns-clause-refused c =
-    stopped_so c.apply_rewrite_writes.result (Rewriting c.args.gate c.args.seq) c.drain.result c.args.items c.args.accessor.now c.apply_rewrite_writes.new.self c.drain.ensures.items c.apply_rewrite_writes.ensures.refused
+    stopped_so c.apply_rewrite_writes.result (Rewriting c.args.gate c.args.seq) c.into_items.result c.args.items c.args.accessor.now c.apply_rewrite_writes.new.self c.into_items.ensures.items c.apply_rewrite_writes.ensures.refused

@@ -28,28 +28,28 @@ pub invariant_of-self : goal.invariant_of-self
 invariant_of-self g c =
     let e = c.self.inside in
     let old : List Ask = g.F.EngineFiles.asked e.files in
-    let new : List Ask = g.F.EngineFiles.asked c.read_by_blocks.new.files in
+    let new : List Ask = g.F.EngineFiles.asked c.read_entries.new.files in
     kept_read c.moves_are_stored.ensures.read e.version old e.append e.rewrite e.untold e.accessor e.intact c.self.invariant new (unread_only _ _ old new _ c.in_err-found.ensures.err)
 
 pub invariant_of-self-in_err-append : goal.invariant_of-self-in_err-append
 invariant_of-self-in_err-append g c =
     let e = c.self.inside in
     let old : List Ask = g.F.EngineFiles.asked e.files in
-    let new : List Ask = g.F.EngineFiles.asked c.read_by_blocks.new.files in
+    let new : List Ask = g.F.EngineFiles.asked c.read_entries.new.files in
     kept_read c.moves_are_stored.ensures.read e.version old e.append e.rewrite e.untold e.accessor e.intact c.self.invariant new (read_only _ _ old new c.in_ok-found.ensures.ok)
 
 pub invariant_of-self-2 : goal.invariant_of-self-2
 invariant_of-self-2 g c =
     let e = c.self.inside in
     let old : List Ask = g.F.EngineFiles.asked e.files in
-    let new : List Ask = g.F.EngineFiles.asked c.read_by_blocks.new.files in
+    let new : List Ask = g.F.EngineFiles.asked c.read_entries.new.files in
     kept_read c.moves_are_stored.ensures.read e.version old e.append e.rewrite e.untold e.accessor e.intact c.self.invariant new (read_only _ _ old new c.in_ok-found.ensures.ok)
 
 pub returns-clause-ok : goal.returns-clause-ok
 returns-clause-ok g c =
     let e = c.self.inside in
     let old : List Ask = g.F.EngineFiles.asked e.files in
-    let new : List Ask = g.F.EngineFiles.asked c.read_by_blocks.new.files in
+    let new : List Ask = g.F.EngineFiles.asked c.read_entries.new.files in
     let es : List EntryIndex = c.fetch_entries_to.new.vec.items in
     let strings = map (λ bytes. bytes.items) c.in_ok-found.found.items in
     let before = map (λ bytes. bytes.items) c.args.entries.now.items in

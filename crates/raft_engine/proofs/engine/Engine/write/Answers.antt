@@ -35,8 +35,8 @@ invariant_of-self g c =
     e.version old e.append e.rewrite e.untold e.accessor e.intact c.self.invariant intact c.args.batch.now ready c.new-file.result file c.make_bytes.new.batch c.in_ok-len.ensures.ok
     (g.F.EngineFiles.may_fail) c.args.sync (g.F.EngineFiles.asked c.try_put.new.files) c.in_err-try_put.field-0.0 c.in_err-try_put.ensures.err c.in_err-try_put.ensures.fault c.asks_are_stored.ensures.unsynced c.try_put.new.intact c.in_err-try_put.ensures.as_before
 
-pub invariant_of-self-in_err-sync_if : goal.invariant_of-self-in_err-sync_if
-invariant_of-self-in_err-sync_if g c =
+pub invariant_of-self-in_err-sync_append_if : goal.invariant_of-self-in_err-sync_append_if
+invariant_of-self-in_err-sync_append_if g c =
     let e = c.self.inside in
     let old : List Ask = g.F.EngineFiles.asked e.files in
     let intact : e.intact ≡ true = search rules in
@@ -46,10 +46,10 @@ invariant_of-self-in_err-sync_if g c =
     let file = c.new-file.ensures ∙ ap (λ (id : FileId). record { id = id; version = e.version }) c.new.ensures in
     kept_unsynced c.asks_are_stored.ensures.written c.asks_are_stored.ensures.synced
     e.version old e.append e.rewrite e.untold e.accessor e.intact c.self.invariant intact c.args.batch.now ready c.new-file.result file c.make_bytes.new.batch c.in_ok-len.ensures.ok
-    (g.F.EngineFiles.may_fail) c.args.sync (g.F.EngineFiles.asked c.sync_if.new.files) c.in_err-sync_if.field-0.0 (g.F.EngineFiles.asked c.try_put.new.files) c.in_ok-try_put.ensures.ok c.in_err-sync_if.ensures.fault c.asks_are_stored.ensures.unsynced e.append e.rewrite e.untold e.accessor
+    (g.F.EngineFiles.may_fail) c.args.sync (g.F.EngineFiles.asked c.sync_append_if.new.files) c.in_err-sync_append_if.field-0.0 (g.F.EngineFiles.asked c.try_put.new.files) c.in_ok-try_put.ensures.ok c.in_err-sync_append_if.ensures.fault c.asks_are_stored.ensures.unsynced e.append e.rewrite e.untold e.accessor
 
-pub invariant_of-self-in_err-apply : goal.invariant_of-self-in_err-apply
-invariant_of-self-in_err-apply g c =
+pub invariant_of-self-in_err-apply_batch : goal.invariant_of-self-in_err-apply_batch
+invariant_of-self-in_err-apply_batch g c =
     let e = c.self.inside in
     let old : List Ask = g.F.EngineFiles.asked e.files in
     let intact : e.intact ≡ true = search rules in
@@ -59,7 +59,7 @@ invariant_of-self-in_err-apply g c =
     let file = c.new-file.ensures ∙ ap (λ (id : FileId). record { id = id; version = e.version }) c.new.ensures in
     kept_put c.asks_are_stored.ensures.written c.asks_are_stored.ensures.synced
     e.version old e.append e.rewrite e.untold e.accessor e.intact c.self.invariant intact c.args.batch.now ready c.new-file.result file c.make_bytes.new.batch c.in_ok-len.ensures.ok
-    c.args.sync (g.F.EngineFiles.asked c.try_put.new.files) (g.F.EngineFiles.asked c.sync_if.new.files) c.in_ok-try_put.ensures.ok c.in_ok-sync_if.ensures.ok c.apply.new.accessor
+    c.args.sync (g.F.EngineFiles.asked c.try_put.new.files) (g.F.EngineFiles.asked c.sync_append_if.new.files) c.in_ok-try_put.ensures.ok c.in_ok-sync_append_if.ensures.ok c.apply_batch.new.accessor
     e.append e.rewrite e.untold
 
 pub invariant_of-self-in_err-merge : goal.invariant_of-self-in_err-merge
@@ -73,7 +73,7 @@ invariant_of-self-in_err-merge g c =
     let file = c.new-file.ensures ∙ ap (λ (id : FileId). record { id = id; version = e.version }) c.new.ensures in
     kept_put c.asks_are_stored.ensures.written c.asks_are_stored.ensures.synced
     e.version old e.append e.rewrite e.untold e.accessor e.intact c.self.invariant intact c.args.batch.now ready c.new-file.result file c.make_bytes.new.batch c.in_ok-len.ensures.ok
-    c.args.sync (g.F.EngineFiles.asked c.try_put.new.files) (g.F.EngineFiles.asked c.sync_if.new.files) c.in_ok-try_put.ensures.ok c.in_ok-sync_if.ensures.ok c.apply.new.accessor
+    c.args.sync (g.F.EngineFiles.asked c.try_put.new.files) (g.F.EngineFiles.asked c.sync_append_if.new.files) c.in_ok-try_put.ensures.ok c.in_ok-sync_append_if.ensures.ok c.apply_batch.new.accessor
     e.append e.rewrite c.merge.new.self
 
 pub invariant_of-self-2 : goal.invariant_of-self-2
@@ -87,8 +87,8 @@ invariant_of-self-2 g c =
     let file = c.new-file.ensures ∙ ap (λ (id : FileId). record { id = id; version = e.version }) c.new.ensures in
     kept_more c.asks_are_stored.ensures.written c.asks_are_stored.ensures.synced
     e.version old e.append e.rewrite e.untold e.accessor e.intact c.self.invariant intact c.args.batch.now ready c.new-file.result file c.make_bytes.new.batch c.in_ok-len.ensures.ok
-    c.args.sync (g.F.EngineFiles.asked c.try_put.new.files) (g.F.EngineFiles.asked c.sync_if.new.files) c.in_ok-try_put.ensures.ok c.in_ok-sync_if.ensures.ok c.apply.new.accessor
-    c.try_put.new.batch.items c.in_ok-try_put.ensures.placed c.in_ok-apply.ensures.ok
+    c.args.sync (g.F.EngineFiles.asked c.try_put.new.files) (g.F.EngineFiles.asked c.sync_append_if.new.files) c.in_ok-try_put.ensures.ok c.in_ok-sync_append_if.ensures.ok c.apply_batch.new.accessor
+    c.try_put.new.batch.items c.in_ok-try_put.ensures.placed c.in_ok-apply_batch.ensures.ok
     c.in_ok-taken.taken c.merge.new.self (rw (c.items-2.ensures) at c.in_ok-taken.ensures.ok) c.in_ok-merge.ensures.ok (c.told_items_take_away_the_same.ensures.away (taking_items e.accessor.tables c.args.batch.now.items))
     c.batches_are_read_back.ensures.written c.in_ok-len.len _ c.in_ok-len.ensures.len refl refl refl
 
@@ -104,15 +104,15 @@ returns-clause-ok g c =
     inr (subst (λ (o : KeptEngine). IsOneMore c.args.sync c.args.batch.now o
     (record {
       version = e.version;
-      asks = g.F.EngineFiles.asked c.sync_if.new.files;
+      asks = g.F.EngineFiles.asked c.sync_append_if.new.files;
       untold = c.merge.new.self;
-      accessor = c.apply.new.accessor;
+      accessor = c.apply_batch.new.accessor;
       intact = true;
     })) c.self.view_is
     (one_more c.asks_are_stored.ensures.written c.asks_are_stored.ensures.synced
     e.version old e.append e.rewrite e.untold e.accessor e.intact c.self.invariant intact c.args.batch.now ready c.new-file.result file c.make_bytes.new.batch c.in_ok-len.ensures.ok
-    c.args.sync (g.F.EngineFiles.asked c.try_put.new.files) (g.F.EngineFiles.asked c.sync_if.new.files) c.in_ok-try_put.ensures.ok c.in_ok-sync_if.ensures.ok c.apply.new.accessor
-    c.try_put.new.batch.items c.in_ok-try_put.ensures.placed c.in_ok-apply.ensures.ok
+    c.args.sync (g.F.EngineFiles.asked c.try_put.new.files) (g.F.EngineFiles.asked c.sync_append_if.new.files) c.in_ok-try_put.ensures.ok c.in_ok-sync_append_if.ensures.ok c.apply_batch.new.accessor
+    c.try_put.new.batch.items c.in_ok-try_put.ensures.placed c.in_ok-apply_batch.ensures.ok
     c.in_ok-taken.taken c.merge.new.self (rw (c.items-2.ensures) at c.in_ok-taken.ensures.ok) c.in_ok-merge.ensures.ok (c.told_items_take_away_the_same.ensures.away (taking_items e.accessor.tables c.args.batch.now.items))
     c.asks_put_batches.ensures.written))
 
@@ -138,8 +138,8 @@ returns-in_err-try_put-clause-err g c =
     (g.F.EngineFiles.may_fail) c.args.sync (g.F.EngineFiles.asked c.try_put.new.files) c.in_err-try_put.field-0.0
     c.in_err-try_put.ensures.err c.in_err-try_put.ensures.fault c.try_put.new.batch c.try_put.new.intact c.in_err-try_put.ensures.as_before c.in_err-try_put.ensures.signed))
 
-pub returns-in_err-sync_if-clause-err : goal.returns-in_err-sync_if-clause-err
-returns-in_err-sync_if-clause-err g c =
+pub returns-in_err-sync_append_if-clause-err : goal.returns-in_err-sync_append_if-clause-err
+returns-in_err-sync_append_if-clause-err g c =
     let e = c.self.inside in
     let old : List Ask = g.F.EngineFiles.asked e.files in
     let intact : e.intact ≡ true = search rules in
@@ -147,17 +147,17 @@ returns-in_err-sync_if-clause-err g c =
     let w = writable_of c.is_read_again.ensures.tiled c.is_read_again.ensures.in_range c.is_read_again.ensures.in_bytes some c.in_ok-len.ensures.accepted in
     let ready : IsReady e.accessor.tables c.args.batch.now = record { writable = w; accepted = rw (c.items.ensures) at c.in_ok-check_append_writes.ensures.ok } in
     let file = c.new-file.ensures ∙ ap (λ (id : FileId). record { id = id; version = e.version }) c.new.ensures in
-    let p = err_from_is_err_and c.from_residual-in_err-sync_if.result c.from_residual-in_err-sync_if.ensures.1 in
+    let p = err_from_is_err_and c.from_residual-in_err-sync_append_if.result c.from_residual-in_err-sync_append_if.ensures.1 in
     rw (p.1, p.2)
     (inr (inl (subst (λ (o : KeptEngine). IsHalfWritten (g.F.EngineFiles.may_fail) c.args.sync c.args.batch.now o
-    (record { version = e.version; asks = g.F.EngineFiles.asked c.sync_if.new.files; untold = e.untold; accessor = e.accessor; intact = false }) c.in_err-sync_if.field-0.0) c.self.view_is
+    (record { version = e.version; asks = g.F.EngineFiles.asked c.sync_append_if.new.files; untold = e.untold; accessor = e.accessor; intact = false }) c.in_err-sync_append_if.field-0.0) c.self.view_is
     (unsynced_written c.asks_are_stored.ensures.written c.asks_are_stored.ensures.synced
     e.version old e.append e.rewrite e.untold e.accessor e.intact c.self.invariant intact c.args.batch.now ready c.new-file.result file c.make_bytes.new.batch c.in_ok-len.ensures.ok
-    (g.F.EngineFiles.may_fail) c.args.sync (g.F.EngineFiles.asked c.sync_if.new.files) c.in_err-sync_if.field-0.0
-    (g.F.EngineFiles.asked c.try_put.new.files) c.in_ok-try_put.ensures.ok c.in_err-sync_if.ensures.fault))))
+    (g.F.EngineFiles.may_fail) c.args.sync (g.F.EngineFiles.asked c.sync_append_if.new.files) c.in_err-sync_append_if.field-0.0
+    (g.F.EngineFiles.asked c.try_put.new.files) c.in_ok-try_put.ensures.ok c.in_err-sync_append_if.ensures.fault))))
 
-pub returns-in_err-apply-clause-err : goal.returns-in_err-apply-clause-err
-returns-in_err-apply-clause-err g c =
+pub returns-in_err-apply_batch-clause-err : goal.returns-in_err-apply_batch-clause-err
+returns-in_err-apply_batch-clause-err g c =
     let e = c.self.inside in
     let old : List Ask = g.F.EngineFiles.asked e.files in
     let intact : e.intact ≡ true = search rules in
@@ -165,20 +165,20 @@ returns-in_err-apply-clause-err g c =
     let w = writable_of c.is_read_again.ensures.tiled c.is_read_again.ensures.in_range c.is_read_again.ensures.in_bytes some c.in_ok-len.ensures.accepted in
     let ready : IsReady e.accessor.tables c.args.batch.now = record { writable = w; accepted = rw (c.items.ensures) at c.in_ok-check_append_writes.ensures.ok } in
     let file = c.new-file.ensures ∙ ap (λ (id : FileId). record { id = id; version = e.version }) c.new.ensures in
-    let p = err_from_is_err_and c.from_residual-in_err-apply.result c.from_residual-in_err-apply.ensures.1 in
+    let p = err_from_is_err_and c.from_residual-in_err-apply_batch.result c.from_residual-in_err-apply_batch.ensures.1 in
     rw (p.1, p.2)
     (inr (inl (subst (λ (o : KeptEngine). IsHalfWritten (g.F.EngineFiles.may_fail) c.args.sync c.args.batch.now o
-    (record { version = e.version; asks = g.F.EngineFiles.asked c.sync_if.new.files; untold = e.untold; accessor = c.apply.new.accessor; intact = false }) c.in_err-apply.field-0.0) c.self.view_is
+    (record { version = e.version; asks = g.F.EngineFiles.asked c.sync_append_if.new.files; untold = e.untold; accessor = c.apply_batch.new.accessor; intact = false }) c.in_err-apply_batch.field-0.0) c.self.view_is
     (cut_written c.asks_are_stored.ensures.written c.asks_are_stored.ensures.synced
     e.version old e.append e.rewrite e.untold e.accessor e.intact c.self.invariant intact c.args.batch.now ready c.new-file.result file c.make_bytes.new.batch c.in_ok-len.ensures.ok
-    (g.F.EngineFiles.may_fail) c.args.sync (g.F.EngineFiles.asked c.sync_if.new.files) c.in_err-apply.field-0.0
-    (g.F.EngineFiles.asked c.try_put.new.files) c.in_ok-try_put.ensures.ok e.untold c.apply.new.accessor c.try_put.new.batch.items c.in_ok-sync_if.ensures.ok refl c.in_ok-try_put.ensures.placed
+    (g.F.EngineFiles.may_fail) c.args.sync (g.F.EngineFiles.asked c.sync_append_if.new.files) c.in_err-apply_batch.field-0.0
+    (g.F.EngineFiles.asked c.try_put.new.files) c.in_ok-try_put.ensures.ok e.untold c.apply_batch.new.accessor c.try_put.new.batch.items c.in_ok-sync_append_if.ensures.ok refl c.in_ok-try_put.ensures.placed
     (inl (
-      c.in_err-apply.ensures.room
+      c.in_err-apply_batch.ensures.room
           (placed_accepted c.asks_are_stored.ensures.written c.asks_are_stored.ensures.synced
           e.version old e.append e.rewrite e.untold e.accessor e.intact c.self.invariant intact c.args.batch.now ready c.new-file.result file c.make_bytes.new.batch c.in_ok-len.ensures.ok
           c.try_put.new.batch.items c.in_ok-try_put.ensures.placed),
-      c.in_err-apply.ensures.fault,
+      c.in_err-apply_batch.ensures.fault,
     ))))))
 
 pub returns-in_err-merge-clause-err : goal.returns-in_err-merge-clause-err
@@ -193,14 +193,14 @@ returns-in_err-merge-clause-err g c =
     let p = err_from_is_err_and c.from_residual-in_err-merge.result c.from_residual-in_err-merge.ensures.1 in
     rw (p.1, p.2)
     (inr (inl (subst (λ (o : KeptEngine). IsHalfWritten (g.F.EngineFiles.may_fail) c.args.sync c.args.batch.now o
-    (record { version = e.version; asks = g.F.EngineFiles.asked c.sync_if.new.files; untold = c.merge.new.self; accessor = c.apply.new.accessor; intact = false }) c.in_err-merge.field-0.0) c.self.view_is
+    (record { version = e.version; asks = g.F.EngineFiles.asked c.sync_append_if.new.files; untold = c.merge.new.self; accessor = c.apply_batch.new.accessor; intact = false }) c.in_err-merge.field-0.0) c.self.view_is
     (cut_written c.asks_are_stored.ensures.written c.asks_are_stored.ensures.synced
     e.version old e.append e.rewrite e.untold e.accessor e.intact c.self.invariant intact c.args.batch.now ready c.new-file.result file c.make_bytes.new.batch c.in_ok-len.ensures.ok
-    (g.F.EngineFiles.may_fail) c.args.sync (g.F.EngineFiles.asked c.sync_if.new.files) c.in_err-merge.field-0.0
-    (g.F.EngineFiles.asked c.try_put.new.files) c.in_ok-try_put.ensures.ok c.merge.new.self c.apply.new.accessor c.try_put.new.batch.items c.in_ok-sync_if.ensures.ok c.in_err-merge.ensures.err c.in_ok-try_put.ensures.placed
+    (g.F.EngineFiles.may_fail) c.args.sync (g.F.EngineFiles.asked c.sync_append_if.new.files) c.in_err-merge.field-0.0
+    (g.F.EngineFiles.asked c.try_put.new.files) c.in_ok-try_put.ensures.ok c.merge.new.self c.apply_batch.new.accessor c.try_put.new.batch.items c.in_ok-sync_append_if.ensures.ok c.in_err-merge.ensures.err c.in_ok-try_put.ensures.placed
     (inr (
       merge_memory e.untold c.in_ok-taken.taken _ _ c.in_err-merge.field-0.0 (c.self.invariant.whole intact).are_untold c.in_ok-taken.ensures.ok c.in_err-merge.ensures.fault,
-      c.in_ok-apply.ensures.ok,
+      c.in_ok-apply_batch.ensures.ok,
       (merge_unnoted c.in_ok-taken.taken _ (rw (c.items-2.ensures) at c.in_ok-taken.ensures.ok) c.in_err-merge.ensures.refused, c.in_err-merge.ensures.err),
     ))))))
 

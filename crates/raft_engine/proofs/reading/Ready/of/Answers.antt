@@ -1,11 +1,11 @@
 use Rattle.raft_engine.proofs.Common.{err_from_is_err_and, inl, inr, Append, Rewrite}
 use Rattle.raft_engine.proofs.reading.Ready.of.Goals as goal
 
-pub ready-requires : goal.ready-requires
-ready-requires c = let r = c.requires in (Append, r.0, r.1, r.3, r.5)
+pub into_ready-requires : goal.into_ready-requires
+into_ready-requires c = let r = c.requires in (Append, r.0, r.1, r.3, r.5)
 
-pub ready-requires-2 : goal.ready-requires-2
-ready-requires-2 c = let r = c.requires in (Rewrite, r.0, r.2, r.4, r.6)
+pub into_ready-requires-2 : goal.into_ready-requires-2
+into_ready-requires-2 c = let r = c.requires in (Rewrite, r.0, r.2, r.4, r.6)
 
 pub returns-in_err-append_ready-clause-fault : goal.returns-in_err-append_ready-clause-fault
 returns-in_err-append_ready-clause-fault c = λ version found known fa fr ta tr.

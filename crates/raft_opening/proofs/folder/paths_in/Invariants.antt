@@ -1,5 +1,0 @@
-use Rattle.raft_opening.proofs.Common.{map, AreSizesOf, path_shown}
-use Rattle.raft_opening.proofs.folder.paths_in.Given as goal
-
-abbrev pub invariant-loop-file : goal.invariant-loop-file
-invariant-loop-file g l = AreSizesOf (map path_shown l.paths.items) l.sizes.items

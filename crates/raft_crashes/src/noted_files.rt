@@ -48,7 +48,7 @@ impl NotedFiles {
     /// # Errors
     ///
     /// `Memory` alone. The act isn't noted then.
-    fn note(&mut self, queue: LogQueue, act: Act) -> Result<()>
+    fn note_act(&mut self, queue: LogQueue, act: Act) -> Result<()>
         ensures { self.new.files ≡ self.old.files }
     {
         Ok(self.asks.push(Ask { queue, act })?)
@@ -65,7 +65,7 @@ impl EngineFiles for NotedFiles {
     /// `Memory`; those of the files in memory, which are unchanged then. The ask may be noted.
     fn append(&mut self, queue: LogQueue, bytes: &[u8]) -> Result<()> {
         let alloc: Global = *self.asks.allocator();
-        self.note(queue, Act::Put(Vec::from_slice(alloc, bytes)?))?;
+        self.note_act(queue, Act::Put(Vec::from_slice(alloc, bytes)?))?;
         self.files.append(queue, bytes)
     }
 
@@ -76,7 +76,7 @@ impl EngineFiles for NotedFiles {
     ///
     /// `Memory`; those of the files in memory, which are unchanged then. The ask may be noted.
     fn rotate(&mut self, queue: LogQueue, seq: FileSeq) -> Result<()> {
-        self.note(queue, Act::Begin(seq))?;
+        self.note_act(queue, Act::Begin(seq))?;
         self.files.rotate(queue, seq)
     }
 
@@ -87,7 +87,7 @@ impl EngineFiles for NotedFiles {
     ///
     /// `Memory`; those of the files in memory. The ask may be noted then.
     fn sync(&mut self, queue: LogQueue) -> Result<()> {
-        self.note(queue, Act::Sync)?;
+        self.note_act(queue, Act::Sync)?;
         self.files.sync(queue)
     }
 
@@ -97,7 +97,7 @@ impl EngineFiles for NotedFiles {
     ///
     /// `Memory`; those of the files in memory, which are unchanged then. The ask may be noted.
     fn delete_oldest(&mut self, queue: LogQueue) -> Result<()> {
-        self.note(queue, Act::Delete)?;
+        self.note_act(queue, Act::Delete)?;
         self.files.delete_oldest(queue)
     }
 
@@ -107,7 +107,7 @@ impl EngineFiles for NotedFiles {
     ///
     /// `Memory`; those of the files in memory, which are unchanged then. The ask may be noted.
     fn truncate(&mut self, queue: LogQueue, len: u64) -> Result<()> {
-        self.note(queue, Act::Cut(len))?;
+        self.note_act(queue, Act::Cut(len))?;
         self.files.truncate(queue, len)
     }
 

@@ -1,17 +1,17 @@
 //! Tests that calls of an accessor answer, count and leave what their rows say, and that a region has the slot that
 //! raft-engine gives it.
 
-use crate::calls::{Call, call_core, tables_of};
-use crate::items::{Item, NEW, answered};
-use crate::rows::{Outline, Row, lists};
-use crate::seen::{counts, taken_of};
+use crate::calls::{Call, call_core, tables_after_calls};
+use crate::items::{Item, NEW, result_or_fault};
+use crate::rows::{Outline, Row, lists_of_rows};
+use crate::seen::{live_written_and_deleted, take_cleaned_of_accessor};
 use raft_memtable::{LogQueue, MemTable, MemTableAccessor, Result, slot_of};
 use raft_trials::again;
 use std::alloc::Global;
 
 /// Returns the first index of a table, the one past its last index, and how many records it has in each queue; 0 for
 /// an index where it has no entries.
-fn outline(table: &MemTable) -> Outline {
+fn indexes_and_counts(table: &MemTable) -> Outline {
     (
         table.first_index().unwrap_or(0),
         table.last_index().map_or(0, |last| last.saturating_add(1)),
@@ -21,19 +21,19 @@ fn outline(table: &MemTable) -> Outline {
 }
 
 /// Makes the call of a row, and tests whether it returns and leaves what the row says.
-fn is_kept(alloc: Global, core: &mut MemTableAccessor, row: &Row) -> Result<bool> {
+fn is_call_as_row_says(alloc: Global, core: &mut MemTableAccessor, row: &Row) -> Result<bool> {
     let (call, expected, numbers, (region, table)) = *row;
-    let answer = answered(call_core(alloc, core, call))?.map(|answer| answer.0);
-    let is_counted = counts(core.stats()) == numbers;
-    Ok(answer == expected && is_counted && core.get(region).map(outline) == table)
+    let answer = result_or_fault(call_core(alloc, core, call))?.map(|answer| answer.0);
+    let is_counted = live_written_and_deleted(core.stats()) == numbers;
+    Ok(answer == expected && is_counted && core.get(region).map(indexes_and_counts) == table)
 }
 
 /// Tests the calls of each list of rows, one after another on a new accessor.
-fn are_kept(alloc: Global) -> Result<bool> {
-    for rows in lists() {
+fn are_all_calls_as_rows_say(alloc: Global) -> Result<bool> {
+    for rows in lists_of_rows() {
         let mut core = MemTableAccessor::new(alloc)?;
         for row in *rows {
-            if !is_kept(alloc, &mut core, row)? {
+            if !is_call_as_row_says(alloc, &mut core, row)? {
                 return Ok(false);
             }
         }
@@ -41,9 +41,10 @@ fn are_kept(alloc: Global) -> Result<bool> {
     Ok(true)
 }
 
+/// Tests that each call of the rows gives its answer, and leaves the tables and live counts of the row.
 #[test]
 fn each_call_changes_tables_and_is_counted(rt: HostRuntime) {
-    assert!(rt; matches!(again!(are_kept(rt.alloc())), Ok(true)));
+    assert!(rt; matches!(again!(are_all_calls_as_rows_say(rt.alloc())), Ok(true)));
 }
 
 /// A call, a region, and the table that `get_or_insert` returns for it then: its outline and its value of `k`; and how
@@ -97,40 +98,47 @@ static HANDED: [Handed; 12] = [
 ];
 
 /// Returns the rows of tables that are handed out.
-fn handed_out() -> &'static [Handed] {
+fn rows_of_handed_tables() -> &'static [Handed] {
     &HANDED
 }
 
 /// Tests whether a table is that of the row's region, with the outline and the value that the row has.
-fn is_own(table: &MemTable, row: &Handed) -> bool {
+fn is_table_of_row(table: &MemTable, row: &Handed) -> bool {
     let (_, region, expected, value, _) = *row;
-    table.region_id() == region && outline(table) == expected && table.get(b"k") == value
+    table.region_id() == region && indexes_and_counts(table) == expected && table.get(b"k") == value
 }
 
 /// Makes the call of a row, and tests whether `get_or_insert` then returns the row's table, twice, and so does `get`.
-fn is_handed(alloc: Global, core: &mut MemTableAccessor, row: &Handed) -> Result<bool> {
+fn is_own_table_handed_out(
+    alloc: Global,
+    core: &mut MemTableAccessor,
+    row: &Handed,
+) -> Result<bool> {
     let (call, region, _, _, count) = *row;
     call_core(alloc, core, call)?;
-    let is_first = is_own(core.get_or_insert(region)?, row);
-    let is_second = is_own(core.get_or_insert(region)?, row);
-    let is_found = core.get(region).is_some_and(|table| is_own(table, row));
+    let is_first = is_table_of_row(core.get_or_insert(region)?, row);
+    let is_second = is_table_of_row(core.get_or_insert(region)?, row);
+    let is_found = core
+        .get(region)
+        .is_some_and(|table| is_table_of_row(table, row));
     Ok(is_first && is_second && is_found && core.tables()?.len() == count)
 }
 
 /// Tests each row, one after another on one accessor.
-fn are_handed(alloc: Global) -> Result<bool> {
+fn are_own_tables_handed_out(alloc: Global) -> Result<bool> {
     let mut core = MemTableAccessor::new(alloc)?;
-    for row in handed_out() {
-        if !is_handed(alloc, &mut core, row)? {
+    for row in rows_of_handed_tables() {
+        if !is_own_table_handed_out(alloc, &mut core, row)? {
             return Ok(false);
         }
     }
     Ok(true)
 }
 
+/// Tests that a region is given its own table, also when it is asked for twice.
 #[test]
-fn a_region_is_handed_its_own_table(rt: HostRuntime) {
-    assert!(rt; matches!(again!(are_handed(rt.alloc())), Ok(true)));
+fn get_or_insert_returns_the_table_of_its_region(rt: HostRuntime) {
+    assert!(rt; matches!(again!(are_own_tables_handed_out(rt.alloc())), Ok(true)));
 }
 
 /// Calls that clean the regions 3, 5 and 3 again.
@@ -140,17 +148,18 @@ const CLEANED: &[Call] = &[Call::Replay(
 )];
 
 /// Tests whether the cleaned regions are taken in order, with a `Clean` for each, and only once.
-fn are_handed_out(alloc: Global) -> Result<bool> {
-    let mut core = tables_of(alloc, CLEANED)?;
+fn are_cleaned_regions_taken_once(alloc: Global) -> Result<bool> {
+    let mut core = tables_after_calls(alloc, CLEANED)?;
     let listed = core.cleaned_regions() == [3, 5, 3].as_slice();
-    let first = taken_of(alloc, &mut core)?;
-    let second = taken_of(alloc, &mut core)?;
+    let first = take_cleaned_of_accessor(alloc, &mut core)?;
+    let second = take_cleaned_of_accessor(alloc, &mut core)?;
     Ok(listed && first.as_slice() == [3, 5, 3].as_slice() && second.is_empty())
 }
 
+/// Tests that the cleaned regions are taken in order, with a `Clean` for each, and only once.
 #[test]
-fn cleaned_regions_are_handed_out(rt: HostRuntime) {
-    assert!(rt; matches!(again!(are_handed_out(rt.alloc())), Ok(true)));
+fn cleaned_regions_are_handed_out_in_order_and_once(rt: HostRuntime) {
+    assert!(rt; matches!(again!(are_cleaned_regions_taken_once(rt.alloc())), Ok(true)));
 }
 
 /// Tests that the numbers of slots are those that raft-engine gives.

@@ -2,8 +2,8 @@
 
 ghost use Rattle.raft_memtable.specs.TableEntries.{IsRunIn};
 
-use crate::items::{Item, NEW, items, run};
-use crate::seen::{Shape, shape, taken_of};
+use crate::items::{Item, NEW, new_run, to_log_items};
+use crate::seen::{Shape, shape_of_table, take_cleaned_of_accessor};
 use raft_memtable::{
     EntryIndex, Error, FileId, FileSeq, LogQueue, MemTable, MemTableAccessor, Result, TableChange,
     is_run,
@@ -51,23 +51,23 @@ pub(crate) enum Call {
 pub(crate) type Answer = (u64, Option<Shape>);
 
 /// Returns the answer of a call that returns nothing.
-pub(crate) fn done(called: Result<()>) -> Result<Answer> {
+pub(crate) fn answer_of_unit(called: Result<()>) -> Result<Answer> {
     called?;
     Ok((0, None))
 }
 
 /// Returns the answer of a call that returns a number.
-pub(crate) fn numbered(called: Result<u64>) -> Result<Answer> {
+pub(crate) fn answer_of_number(called: Result<u64>) -> Result<Answer> {
     Ok((called?, None))
 }
 
 /// Returns the answer of a call that returns a table, or none.
-pub(crate) fn handed(called: Result<Option<MemTable>>) -> Result<Answer> {
-    Ok((0, called?.as_ref().map(shape)))
+pub(crate) fn answer_of_table(called: Result<Option<MemTable>>) -> Result<Answer> {
+    Ok((0, called?.as_ref().map(shape_of_table)))
 }
 
 /// Returns a change that puts a key with the value `v`.
-fn put(alloc: Global, key: &[u8]) -> Result<TableChange> {
+fn put_change(alloc: Global, key: &[u8]) -> Result<TableChange> {
     Ok(TableChange::Put {
         key: Vec::from_slice(alloc, key)?,
         value: Vec::from_slice(alloc, b"v".as_slice())?,
@@ -76,26 +76,26 @@ fn put(alloc: Global, key: &[u8]) -> Result<TableChange> {
 }
 
 /// Returns a change of a table as the value that the calls take.
-pub(crate) fn table_change(alloc: Global, change: Change) -> Result<TableChange> {
+pub(crate) fn to_table_change(alloc: Global, change: Change) -> Result<TableChange> {
     match change {
         Change::Append(start, end, file) => {
-            Ok(TableChange::Append(run(alloc, start, end, file)?))
+            Ok(TableChange::Append(new_run(alloc, start, end, file)?))
         }
         Change::Rewrite(start, end, file, gate) => Ok(TableChange::Rewrite {
-            entries: run(alloc, start, end, file)?,
+            entries: new_run(alloc, start, end, file)?,
             gate,
         }),
         Change::Compact(index) => Ok(TableChange::Compact { index }),
         Change::Truncate(index) => Ok(TableChange::Truncate { index }),
-        Change::Put => put(alloc, b"n".as_slice()),
+        Change::Put => put_change(alloc, b"n".as_slice()),
     }
 }
 
 /// Returns a table of a region with other entries and another key than the calls make.
-pub(crate) fn other_table(alloc: Global, id: u64) -> Result<MemTable> {
+pub(crate) fn new_other_table(alloc: Global, id: u64) -> Result<MemTable> {
     let mut core = MemTableAccessor::new(alloc)?;
-    core.change(id, TableChange::Append(run(alloc, 50, 53, NEW)?))?;
-    core.change(id, put(alloc, b"z".as_slice())?)?;
+    core.change(id, TableChange::Append(new_run(alloc, 50, 53, NEW)?))?;
+    core.change(id, put_change(alloc, b"z".as_slice())?)?;
     match core.remove(id, false)? {
         Some(table) => Ok(table),
         None => Err(Error::Failed),
@@ -104,18 +104,18 @@ pub(crate) fn other_table(alloc: Global, id: u64) -> Result<MemTable> {
 
 /// Returns a change that drops all entries but the last one, if the table has a key `k` and entries, else those below
 /// 12.
-pub(crate) fn compaction(table: &MemTable) -> TableChange {
+pub(crate) fn compaction_change(table: &MemTable) -> TableChange {
     match (table.last_index(), table.get(b"k")) {
         (Some(index), Some(_)) => TableChange::Compact { index },
         _ => TableChange::Compact { index: 12 },
     }
 }
 
-/// Makes the change that [`compaction`] returns for the table of a region, or for an empty one where there is none.
-fn change_core(alloc: Global, core: &mut MemTableAccessor, id: u64) -> Result<u64> {
+/// Makes the change that [`compaction_change`] returns for the table of a region, or for an empty one where there is none.
+fn compact_in_accessor(alloc: Global, core: &mut MemTableAccessor, id: u64) -> Result<u64> {
     let change = match core.get(id) {
-        Some(table) => compaction(table),
-        None => compaction(&MemTable::new(alloc, id)),
+        Some(table) => compaction_change(table),
+        None => compaction_change(&MemTable::new(alloc, id)),
     };
     core.change(id, change)
 }
@@ -124,39 +124,44 @@ fn change_core(alloc: Global, core: &mut MemTableAccessor, id: u64) -> Result<u6
 pub(crate) fn call_core(alloc: Global, core: &mut MemTableAccessor, call: Call) -> Result<Answer> {
     match call {
         Call::Nothing => Ok((0, None)),
-        Call::WithTableMut(id) => numbered(change_core(alloc, core, id)),
-        Call::Change(id, change) => numbered(core.change(id, table_change(alloc, change)?)),
+        Call::WithTableMut(id) => answer_of_number(compact_in_accessor(alloc, core, id)),
+        Call::Change(id, change) => answer_of_number(core.change(
+            id,
+            to_table_change(alloc, change)?,
+        )),
         Call::GetOrInsert(id) => {
             core.get_or_insert(id)?;
             Ok((0, None))
         }
         Call::Insert(id) => {
-            let other = other_table(alloc, id)?;
-            handed(core.insert(other.region_id(), other))
+            let other = new_other_table(alloc, id)?;
+            answer_of_table(core.insert(other.region_id(), other))
         }
-        Call::Remove(id, is_listed) => handed(core.remove(id, is_listed)),
-        Call::AppendWrites(given) => done(core.apply_append_writes(items(alloc, given)?)),
+        Call::Remove(id, is_listed) => answer_of_table(core.remove(id, is_listed)),
+        Call::AppendWrites(given) => answer_of_unit(core.apply_append_writes(to_log_items(
+            alloc, given,
+        )?)),
         Call::RewriteWrites(given, gate, seq) => {
-            done(core.apply_rewrite_writes(items(alloc, given)?, gate, seq))
+            answer_of_unit(core.apply_rewrite_writes(to_log_items(alloc, given)?, gate, seq))
         }
-        Call::AtomicGroup(id) => done(core.apply_rewrite_atomic_group(id, 49, 50)),
-        Call::TakeCleaned => Ok((taken_of(alloc, core)?.len() as u64, None)),
-        _ => numbered(call_alone(alloc, core, call)),
+        Call::AtomicGroup(id) => answer_of_unit(core.apply_rewrite_atomic_group(id, 49, 50)),
+        Call::TakeCleaned => Ok((take_cleaned_of_accessor(alloc, core)?.len() as u64, None)),
+        _ => answer_of_number(make_accessor_only_call(alloc, core, call)),
     }
 }
 
 /// Makes a call of an accessor that shared tables don't have; `Failed` for any other.
-fn call_alone(alloc: Global, core: &mut MemTableAccessor, call: Call) -> Result<u64> {
+fn make_accessor_only_call(alloc: Global, core: &mut MemTableAccessor, call: Call) -> Result<u64> {
     match call {
-        Call::Replay(queue, given) => replay(alloc, core, queue, given)?,
+        Call::Replay(queue, given) => replay_items(alloc, core, queue, given)?,
         Call::TryReplay(id, start, end, file) => {
-            return try_run(core, id, run(alloc, start, end, file)?, file.queue);
+            return put_run_or_fail(core, id, new_run(alloc, start, end, file)?, file.queue);
         }
         Call::MergeNewer(queue, given) => {
-            core.merge_newer_neighbor(replayed(alloc, queue, given)?)?;
+            core.merge_newer_neighbor(tables_after_replay(alloc, queue, given)?)?;
         }
         Call::MergeAppend(queue, given) => {
-            core.merge_append_table(replayed(alloc, queue, given)?)?;
+            core.merge_append_table(tables_after_replay(alloc, queue, given)?)?;
         }
         _ => return Err(Error::Failed),
     }
@@ -164,7 +169,7 @@ fn call_alone(alloc: Global, core: &mut MemTableAccessor, call: Call) -> Result<
 }
 
 /// Returns a new accessor on which these calls were made.
-pub(crate) fn tables_of(alloc: Global, calls: &[Call]) -> Result<MemTableAccessor> {
+pub(crate) fn tables_after_calls(alloc: Global, calls: &[Call]) -> Result<MemTableAccessor> {
     let mut core = MemTableAccessor::new(alloc)?;
     for call in calls {
         call_core(alloc, &mut core, *call)?;
@@ -173,13 +178,13 @@ pub(crate) fn tables_of(alloc: Global, calls: &[Call]) -> Result<MemTableAccesso
 }
 
 /// Replays items of a queue in an accessor.
-fn replay(
+fn replay_items(
     alloc: Global,
     core: &mut MemTableAccessor,
     queue: LogQueue,
     given: &[Item],
 ) -> Result<()> {
-    let items = items(alloc, given)?;
+    let items = to_log_items(alloc, given)?;
     match queue {
         LogQueue::Append => core.replay_append_writes(items),
         LogQueue::Rewrite => core.replay_rewrite_writes(items),
@@ -187,15 +192,15 @@ fn replay(
 }
 
 /// Returns an accessor that has replayed items of a queue.
-fn replayed(alloc: Global, queue: LogQueue, given: &[Item]) -> Result<MemTableAccessor> {
+fn tables_after_replay(alloc: Global, queue: LogQueue, given: &[Item]) -> Result<MemTableAccessor> {
     let mut core = MemTableAccessor::new(alloc)?;
-    replay(alloc, &mut core, queue, given)?;
+    replay_items(alloc, &mut core, queue, given)?;
     Ok(core)
 }
 
 /// Tries to replay a run, and once more where it isn't put, which may be for lack of memory. Returns where the region's
 /// entries ended before; `None` where the run isn't put.
-fn try_twice(
+fn try_run_twice(
     core: &mut MemTableAccessor,
     queue: LogQueue,
     region: u64,
@@ -211,7 +216,7 @@ fn try_twice(
 
 /// Replays a run, and returns where the region's entries ended before. `Failed` where it isn't a run of the queue, or
 /// isn't put.
-fn try_run(
+fn put_run_or_fail(
     core: &mut MemTableAccessor,
     region: u64,
     run: Vec<EntryIndex>,
@@ -220,7 +225,7 @@ fn try_run(
     if !is_run(&run, queue) {
         return Err(Error::Failed);
     }
-    match try_twice(core, queue, region, &run) {
+    match try_run_twice(core, queue, region, &run) {
         Some(end) => Ok(end),
         None => Err(Error::Failed),
     }

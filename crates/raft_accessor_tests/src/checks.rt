@@ -1,7 +1,7 @@
 //! Tests the checks of new items, which have no places yet.
 
-use crate::calls::{Call, tables_of};
-use crate::items::{Item, NEW, items, unplaced};
+use crate::calls::{Call, tables_after_calls};
+use crate::items::{Item, NEW, entries_without_places, to_log_items};
 use raft_memtable::{Error, MemTableAccessor, Result, slot_of};
 use raft_records::LogItem;
 use raft_recover::Slot;
@@ -77,12 +77,12 @@ static ROWS: [(&[Item], &str); 12] = [
 ];
 
 /// Returns the rows of items, each with the text with which they are refused.
-fn rows() -> &'static [(&'static [Item], &'static str)] {
+fn rows_of_tested_items() -> &'static [(&'static [Item], &'static str)] {
     &ROWS
 }
 
 /// Tests whether a check has refused items with this text, or accepted them, if it is empty.
-fn is_told(tested: Result<()>, text: &str) -> Result<bool> {
+fn is_refused_with_text(tested: Result<()>, text: &str) -> Result<bool> {
     match tested {
         Ok(()) => Ok(text.is_empty()),
         Err(Error::Corruption(why)) => Ok(why.as_str() == text),
@@ -92,36 +92,37 @@ fn is_told(tested: Result<()>, text: &str) -> Result<bool> {
 
 /// Tests whether the items of a row are refused with its text, or accepted, by the accessor and by the slot of region
 /// 1.
-fn is_checked(
+fn are_row_items_checked(
     alloc: Global,
     tables: &MemTableAccessor,
     slot: &Slot,
     row: &[Item],
     text: &str,
 ) -> Result<bool> {
-    let items = items(alloc, row)?;
+    let items = to_log_items(alloc, row)?;
     Ok(
-        is_told(tables.check_append_writes(&items), text)?
-            && is_told(slot.check_append_writes(&items), text)?,
+        is_refused_with_text(tables.check_append_writes(&items), text)?
+            && is_refused_with_text(slot.check_append_writes(&items), text)?,
     )
 }
 
 /// Tests each row.
-fn are_checked(alloc: Global) -> Result<bool> {
+fn are_all_rows_checked(alloc: Global) -> Result<bool> {
     let mut slot = Slot::new(alloc, slot_of(1));
-    slot.take_tables(&mut tables_of(alloc, FIRST)?);
-    let tables = tables_of(alloc, FIRST)?;
-    for (row, text) in rows() {
-        if !is_checked(alloc, &tables, &slot, row, text)? {
+    slot.take_tables(&mut tables_after_calls(alloc, FIRST)?);
+    let tables = tables_after_calls(alloc, FIRST)?;
+    for (row, text) in rows_of_tested_items() {
+        if !are_row_items_checked(alloc, &tables, &slot, row, text)? {
             return Ok(false);
         }
     }
     Ok(true)
 }
 
+/// Tests that an accessor and a slot refuse the same new items, with the same texts, before they are written.
 #[test]
 fn new_items_are_tested_before_they_are_written(rt: HostRuntime) {
-    assert!(rt; matches!(again!(are_checked(rt.alloc())), Ok(true)));
+    assert!(rt; matches!(again!(are_all_rows_checked(rt.alloc())), Ok(true)));
 }
 
 /// Returns 300 items of one entry each, and one more. The 300 are in the regions from 1 on, each with index 10, if
@@ -130,24 +131,32 @@ fn many_items(alloc: Global, is_apart: bool, last: u64) -> Result<Vec<LogItem>> 
     let mut items = Vec::new(alloc);
     for number in 1..=300 {
         let (region, index) = if is_apart { (number, 10) } else { (1, number) };
-        items.push(LogItem::new_entry_indexes(region, unplaced(alloc, &[index])?))?;
+        items.push(LogItem::new_entry_indexes(region, entries_without_places(alloc, &[index])?))?;
     }
-    items.push(LogItem::new_entry_indexes(1, unplaced(alloc, &[last])?))?;
+    items.push(LogItem::new_entry_indexes(1, entries_without_places(alloc, &[last])?))?;
     Ok(items)
 }
 
 /// Tests whether the items of [`many_items`] are refused with this text where there are no tables, or accepted, if it
 /// is empty.
-fn are_many_told(alloc: Global, is_apart: bool, last: u64, text: &str) -> Result<bool> {
+fn are_many_items_refused_with(
+    alloc: Global,
+    is_apart: bool,
+    last: u64,
+    text: &str,
+) -> Result<bool> {
     let items = many_items(alloc, is_apart, last)?;
     let tables = MemTableAccessor::new(alloc)?;
     let slot = Slot::new(alloc, slot_of(1));
     let tested = tables.check_append_writes(&items);
-    Ok(is_told(tested, text)? && is_told(slot.check_append_writes(&items), text)?)
+    Ok(
+        is_refused_with_text(tested, text)?
+            && is_refused_with_text(slot.check_append_writes(&items), text)?,
+    )
 }
 
 /// Tests lists of many items, which are accepted up to an index and refused behind it.
-fn are_all_many_told(alloc: Global) -> Result<bool> {
+fn are_all_many_items_checked(alloc: Global) -> Result<bool> {
     for &(is_apart, last, text) in &[
         (true, 11, ""),
         (
@@ -162,14 +171,15 @@ fn are_all_many_told(alloc: Global) -> Result<bool> {
             "region 1: a run from index 302 on leaves a hole behind the entries, which end before index 301",
         ),
     ] {
-        if !are_many_told(alloc, is_apart, last, text)? {
+        if !are_many_items_refused_with(alloc, is_apart, last, text)? {
             return Ok(false);
         }
     }
     Ok(true)
 }
 
+/// Tests lists of hundreds of new items, which are accepted or refused by their last one.
 #[test]
-fn many_new_items_are_tested(rt: HostRuntime) {
-    assert!(rt; matches!(again!(are_all_many_told(rt.alloc())), Ok(true)));
+fn many_new_items_are_tested_before_they_are_written(rt: HostRuntime) {
+    assert!(rt; matches!(again!(are_all_many_items_checked(rt.alloc())), Ok(true)));
 }

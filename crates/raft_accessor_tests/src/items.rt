@@ -38,7 +38,12 @@ pub(crate) enum Item {
 }
 
 /// Returns entries from `start` on and below `end`, each of them another byte of one block of `file`.
-pub(crate) fn run(alloc: Global, start: u64, end: u64, file: FileId) -> Result<Vec<EntryIndex>> {
+pub(crate) fn new_run(
+    alloc: Global,
+    start: u64,
+    end: u64,
+    file: FileId,
+) -> Result<Vec<EntryIndex>> {
     let mut run = Vec::new(alloc);
     for index in start..end {
         run.push(EntryIndex {
@@ -57,7 +62,7 @@ pub(crate) fn run(alloc: Global, start: u64, end: u64, file: FileId) -> Result<V
 }
 
 /// Returns entries with these indexes, without places.
-pub(crate) fn unplaced(alloc: Global, indexes: &[u64]) -> Result<Vec<EntryIndex>> {
+pub(crate) fn entries_without_places(alloc: Global, indexes: &[u64]) -> Result<Vec<EntryIndex>> {
     let mut run = Vec::new(alloc);
     for &index in indexes {
         run.push(EntryIndex {
@@ -70,7 +75,7 @@ pub(crate) fn unplaced(alloc: Global, indexes: &[u64]) -> Result<Vec<EntryIndex>
 }
 
 /// Returns an item that puts a key, with a value or without, in a file.
-fn put(
+fn put_item(
     alloc: Global,
     region: u64,
     key: &[u8],
@@ -90,17 +95,17 @@ fn put(
 }
 
 /// Returns the log item that an item of a list describes.
-fn log_item(alloc: Global, item: Item) -> Result<LogItem> {
+fn to_log_item(alloc: Global, item: Item) -> Result<LogItem> {
     Ok(match item {
         Item::Entries(region, start, end, file) => {
-            LogItem::new_entry_indexes(region, run(alloc, start, end, file)?)
+            LogItem::new_entry_indexes(region, new_run(alloc, start, end, file)?)
         }
         Item::Run(region, indexes) => {
-            LogItem::new_entry_indexes(region, unplaced(alloc, indexes)?)
+            LogItem::new_entry_indexes(region, entries_without_places(alloc, indexes)?)
         }
-        Item::Put(region, key, has_value, file) => put(alloc, region, key, has_value, file)?,
+        Item::Put(region, key, has_value, file) => put_item(alloc, region, key, has_value, file)?,
         Item::PutOwnKey(region, file) => {
-            put(alloc, region, &region.to_be_bytes(), true, Some(file))?
+            put_item(alloc, region, &region.to_be_bytes(), true, Some(file))?
         }
         Item::Delete(region, key) => {
             LogItem::new_kv(region, OpType::Del, Vec::from_slice(alloc, key)?, None)
@@ -112,10 +117,10 @@ fn log_item(alloc: Global, item: Item) -> Result<LogItem> {
 }
 
 /// Returns the log items that a list describes.
-pub(crate) fn items(alloc: Global, given: &[Item]) -> Result<Vec<LogItem>> {
+pub(crate) fn to_log_items(alloc: Global, given: &[Item]) -> Result<Vec<LogItem>> {
     let mut items = Vec::new(alloc);
     for &one in given {
-        items.push(log_item(alloc, one)?)?;
+        items.push(to_log_item(alloc, one)?)?;
     }
     Ok(items)
 }
@@ -128,7 +133,7 @@ pub(crate) enum Fault {
 }
 
 /// Returns what a call returned: its result, or its fault. `Memory` and other errors are passed on.
-pub(crate) fn answered<X: Drop>(given: Result<X>) -> Result<std::result::Result<X, Fault>> {
+pub(crate) fn result_or_fault<X: Drop>(given: Result<X>) -> Result<std::result::Result<X, Fault>> {
     match given {
         Ok(answer) => Ok(Ok(answer)),
         Err(Error::Corruption(_)) => Ok(Err(Fault::Corruption)),

@@ -404,6 +404,6 @@ static LISTS: [&[Row]; 14] = [
 ];
 
 /// Returns the lists of rows, each of which begins with a new accessor.
-pub(crate) fn lists() -> &'static [&'static [Row]] {
+pub(crate) fn lists_of_rows() -> &'static [&'static [Row]] {
     &LISTS
 }

@@ -25,7 +25,7 @@ pub(crate) type Shape = (
 );
 
 /// Returns the place of a table's last entry; `None` where there is none.
-fn place(table: &MemTable) -> Option<Place> {
+fn place_of_last_entry(table: &MemTable) -> Option<Place> {
     let entry = table.get_entry(table.last_index()?)?;
     let handle = entry.entries?;
     Some((
@@ -38,7 +38,7 @@ fn place(table: &MemTable) -> Option<Place> {
 }
 
 /// Returns a hash of the bytes of all keys and values of a table.
-fn pairs(table: &MemTable) -> u64 {
+fn hash_of_pairs(table: &MemTable) -> u64 {
     let mut seen = 0u64;
     let _ = table.scan(None, None, false, |key, value| {
         for byte in key.iter().chain(value) {
@@ -50,7 +50,7 @@ fn pairs(table: &MemTable) -> u64 {
 }
 
 /// Returns what the tests compare of a table.
-pub(crate) fn shape(table: &MemTable) -> Shape {
+pub(crate) fn shape_of_table(table: &MemTable) -> Shape {
     (
         table.region_id(),
         (table.first_index(), table.last_index()),
@@ -63,12 +63,12 @@ pub(crate) fn shape(table: &MemTable) -> Shape {
             table.min_file_seq(LogQueue::Rewrite),
         ),
         table.atomic_group(),
-        (place(table), pairs(table)),
+        (place_of_last_entry(table), hash_of_pairs(table)),
     )
 }
 
 /// Returns how many records are live in the append queue, were written to the rewrite queue, and were deleted from it.
-pub(crate) fn counts(stats: &GlobalStats) -> (usize, usize, usize) {
+pub(crate) fn live_written_and_deleted(stats: &GlobalStats) -> (usize, usize, usize) {
     (
         stats.live_entries(LogQueue::Append),
         stats.rewrite_entries(),
@@ -82,7 +82,7 @@ pub(crate) fn counts(stats: &GlobalStats) -> (usize, usize, usize) {
 pub(crate) struct Seen {
     found: Option<Shape>,
     tables: Vec<Shape>,
-    /// The sum of what [`read`] returns for all tables that a walk meets.
+    /// The sum of what [`sum_of_table`] returns for all tables that a walk meets.
     read: u64,
     /// The regions whose tables have an entry and a key.
     full: Vec<u64>,
@@ -99,8 +99,8 @@ impl Seen {
 }
 
 /// Returns one number of a table's region, entries and keys.
-fn read(table: &MemTable) -> u64 {
-    let mut seen = pairs(table);
+fn sum_of_table(table: &MemTable) -> u64 {
+    let mut seen = hash_of_pairs(table);
     for index in &[table.first_index(), table.last_index()] {
         seen = seen.wrapping_mul(257).wrapping_add(index.unwrap_or(0));
     }
@@ -108,12 +108,12 @@ fn read(table: &MemTable) -> u64 {
 }
 
 /// Tests whether a table has an entry and a key.
-fn is_full(table: &MemTable) -> bool {
-    table.first_index().is_some() && pairs(table) != 0
+fn has_entry_and_key(table: &MemTable) -> bool {
+    table.first_index().is_some() && hash_of_pairs(table) != 0
 }
 
 /// Returns the regions that the items of a batch clean, in order; `Failed` where an item isn't a `Clean`.
-fn regions_of(alloc: Global, mut logs: LogBatch) -> Result<Vec<u64>> {
+fn regions_cleaned_by(alloc: Global, mut logs: LogBatch) -> Result<Vec<u64>> {
     let mut regions = Vec::new(alloc);
     for item in logs.drain() {
         if !matches!(item.content, LogItemContent::Command(Command::Clean)) {
@@ -126,33 +126,40 @@ fn regions_of(alloc: Global, mut logs: LogBatch) -> Result<Vec<u64>> {
 
 /// Takes the cleaned regions of shared tables, and returns them in order. Where the call runs out of memory, what it
 /// took is in the batch, and a second call takes the rest.
-pub(crate) fn taken<R: Wait>(rt: &R, alloc: Global, shared: &SharedAccessor) -> Result<Vec<u64>> {
+pub(crate) fn take_cleaned_of_shared<R: Wait>(
+    rt: &R,
+    alloc: Global,
+    shared: &SharedAccessor,
+) -> Result<Vec<u64>> {
     let mut logs = LogBatch::default(alloc);
     if shared.take_cleaned_region_logs(rt, &mut logs).is_err() {
         shared.take_cleaned_region_logs(rt, &mut logs)?;
     }
-    regions_of(alloc, logs)
+    regions_cleaned_by(alloc, logs)
 }
 
 /// Takes the cleaned regions of an accessor, and returns them in order.
-pub(crate) fn taken_of(alloc: Global, core: &mut MemTableAccessor) -> Result<Vec<u64>> {
-    regions_of(alloc, core.take_cleaned_region_logs()?)
+pub(crate) fn take_cleaned_of_accessor(
+    alloc: Global,
+    core: &mut MemTableAccessor,
+) -> Result<Vec<u64>> {
+    regions_cleaned_by(alloc, core.take_cleaned_region_logs()?)
 }
 
 /// Returns what the tables of an accessor have, by region.
-fn shapes_of(alloc: Global, core: &MemTableAccessor) -> Result<Vec<Shape>> {
+fn shapes_of_accessor(alloc: Global, core: &MemTableAccessor) -> Result<Vec<Shape>> {
     let mut tables = Vec::new(alloc);
     for table in core.tables()? {
-        tables.push(shape(table))?;
+        tables.push(shape_of_table(table))?;
     }
     tables.sort()?;
     Ok(tables)
 }
 
 /// Returns the regions of an accessor whose tables have an entry and a key.
-fn full_of(alloc: Global, core: &MemTableAccessor) -> Result<Vec<u64>> {
+fn full_regions_of_accessor(alloc: Global, core: &MemTableAccessor) -> Result<Vec<u64>> {
     let mut full = Vec::new(alloc);
-    let kept = core.collect(|table: &MemTable| is_full(table))?;
+    let kept = core.collect(|table: &MemTable| has_entry_and_key(table))?;
     for table in kept {
         full.push(table.region_id())?;
     }
@@ -162,16 +169,16 @@ fn full_of(alloc: Global, core: &MemTableAccessor) -> Result<Vec<u64>> {
 
 /// Returns what an accessor has, and takes its cleaned regions.
 pub(crate) fn see_core(alloc: Global, core: &mut MemTableAccessor) -> Result<Seen> {
-    let mut cleaned = taken_of(alloc, core)?;
+    let mut cleaned = take_cleaned_of_accessor(alloc, core)?;
     cleaned.sort()?;
     let stats = core.stats();
     Ok(Seen {
-        found: core.get(REGION).map(shape),
-        tables: shapes_of(alloc, core)?,
+        found: core.get(REGION).map(shape_of_table),
+        tables: shapes_of_accessor(alloc, core)?,
         read: core.fold(0u64, |sum: u64, table: &MemTable| {
-            sum.wrapping_add(read(table))
+            sum.wrapping_add(sum_of_table(table))
         }),
-        full: full_of(alloc, core)?,
+        full: full_regions_of_accessor(alloc, core)?,
         live: (
             stats.live_entries(LogQueue::Append) as u128,
             stats.live_entries(LogQueue::Rewrite) as u128,
@@ -182,15 +189,19 @@ pub(crate) fn see_core(alloc: Global, core: &mut MemTableAccessor) -> Result<See
 }
 
 /// Returns the shape of a shared table; `None` where the region has none.
-fn shape_in<R: Wait>(rt: &R, shared: &SharedAccessor, region: u64) -> Option<Shape> {
-    shared.with_table(rt, region, shape)
+fn shape_of_shared_table<R: Wait>(rt: &R, shared: &SharedAccessor, region: u64) -> Option<Shape> {
+    shared.with_table(rt, region, shape_of_table)
 }
 
 /// Returns what shared tables have, by region.
-fn shapes_in<R: Wait>(rt: &R, alloc: Global, shared: &SharedAccessor) -> Result<Vec<Shape>> {
+fn shapes_of_shared_tables<R: Wait>(
+    rt: &R,
+    alloc: Global,
+    shared: &SharedAccessor,
+) -> Result<Vec<Shape>> {
     let mut tables = Vec::new(alloc);
     for region in shared.collect(rt, |_: &MemTable| true)? {
-        if let Some(shape) = shape_in(rt, shared, region) {
+        if let Some(shape) = shape_of_shared_table(rt, shared, region) {
             tables.push(shape)?;
         }
     }
@@ -199,8 +210,8 @@ fn shapes_in<R: Wait>(rt: &R, alloc: Global, shared: &SharedAccessor) -> Result<
 }
 
 /// Returns the regions whose shared tables have an entry and a key.
-fn full_in<R: Wait>(rt: &R, shared: &SharedAccessor) -> Result<Vec<u64>> {
-    let mut full = shared.collect(rt, is_full)?;
+fn full_regions_of_shared<R: Wait>(rt: &R, shared: &SharedAccessor) -> Result<Vec<u64>> {
+    let mut full = shared.collect(rt, has_entry_and_key)?;
     full.sort()?;
     Ok(full)
 }
@@ -208,12 +219,12 @@ fn full_in<R: Wait>(rt: &R, shared: &SharedAccessor) -> Result<Vec<u64>> {
 /// Returns what shared tables have, and takes their cleaned regions.
 pub(crate) fn see_shared<R: Wait>(rt: &R, alloc: Global, shared: &SharedAccessor) -> Result<Seen> {
     let mut seen = Seen {
-        found: shape_in(rt, shared, REGION),
-        tables: shapes_in(rt, alloc, shared)?,
+        found: shape_of_shared_table(rt, shared, REGION),
+        tables: shapes_of_shared_tables(rt, alloc, shared)?,
         read: shared.fold(rt, 0u64, |sum, table: &MemTable| {
-            sum.wrapping_add(read(table))
+            sum.wrapping_add(sum_of_table(table))
         }),
-        full: full_in(rt, shared)?,
+        full: full_regions_of_shared(rt, shared)?,
         live: (
             shared.live_entries(rt, LogQueue::Append),
             shared.live_entries(rt, LogQueue::Rewrite),
@@ -222,7 +233,7 @@ pub(crate) fn see_shared<R: Wait>(rt: &R, alloc: Global, shared: &SharedAccessor
         cleaned: Vec::new(alloc),
     };
     // The last of the calls: each of the others sees the slots with their cleaned regions.
-    seen.cleaned = taken(rt, alloc, shared)?;
+    seen.cleaned = take_cleaned_of_shared(rt, alloc, shared)?;
     seen.cleaned.sort()?;
     Ok(seen)
 }

@@ -5,7 +5,7 @@ mod calls;
 mod every_slot;
 mod slots;
 
-use crate::items::{NEW, run};
+use crate::items::{NEW, new_run};
 use raft_memtable::{LogQueue, MemTable, Result, TableChange, slot_of};
 use raft_recover::SharedAccessor;
 use raft_trials::{again, is_reached};
@@ -17,23 +17,23 @@ use std::thread::Threads;
 use std::time::Clock;
 
 /// Appends the entries 1 to 100 to a region, each by a call.
-fn append_hundred<R: Wait>(
+fn append_hundred_entries<R: Wait>(
     rt: &R,
     alloc: Global,
     shared: &SharedAccessor,
     region: u64,
 ) -> Result<()> {
     for index in 1..101 {
-        let one = run(alloc, index, index + 1, NEW)?;
+        let one = new_run(alloc, index, index + 1, NEW)?;
         shared.change(rt, region, TableChange::Append(one))?;
     }
     Ok(())
 }
 
 /// Tests whether all entries are there that four threads append, each to a region of its own.
-fn append_in_threads<R: Threads + Wait + Sync>(rt: &R, alloc: Global) -> Result<bool> {
+fn are_appends_of_threads_kept<R: Threads + Wait + Sync>(rt: &R, alloc: Global) -> Result<bool> {
     let shared = SharedAccessor::new(alloc);
-    let append = |region: usize| append_hundred(rt, alloc, &shared, region as u64);
+    let append = |region: usize| append_hundred_entries(rt, alloc, &shared, region as u64);
     for appended in thread::map_indices(rt, alloc, 4, &append)? {
         appended?;
     }
@@ -50,19 +50,25 @@ fn append_in_threads<R: Threads + Wait + Sync>(rt: &R, alloc: Global) -> Result<
     Ok(shared.live_entries(rt, LogQueue::Append) == 400)
 }
 
+/// Tests that all entries are there that four threads append at once, each to a region of its own.
 #[test]
-fn threads_append_at_once(rt: HostRuntime) {
-    assert!(rt; matches!(again!(append_in_threads(&rt, rt.alloc())), Ok(true)));
+fn appends_of_four_threads_are_all_kept(rt: HostRuntime) {
+    assert!(rt;
+        matches!(
+            again!(are_appends_of_threads_kept(&rt, rt.alloc())),
+            Ok(true)
+        )
+    );
 }
 
 /// Raises the flag `own`, and returns whether the flag `other` is raised in time.
-fn sees<R: Clock>(rt: &R, own: &AtomicU64, other: &AtomicU64) -> bool {
+fn is_other_raised<R: Clock>(rt: &R, own: &AtomicU64, other: &AtomicU64) -> bool {
     own.store(1, Ordering::SeqCst);
     is_reached(rt, other, 1)
 }
 
 /// Tests whether a closure that may change the table of region 1 sees that one on that of region 2 has begun.
-fn change_sees<R: Wait + Clock>(
+fn is_other_seen_in_change<R: Wait + Clock>(
     rt: &R,
     shared: &SharedAccessor,
     region: u64,
@@ -71,53 +77,56 @@ fn change_sees<R: Wait + Clock>(
 ) -> Result<bool> {
     let mut seen = false;
     shared.with_table_mut(rt, region, |_: &MemTable| {
-        seen = sees(rt, own, other);
+        seen = is_other_raised(rt, own, other);
         TableChange::Keep
     })?;
     Ok(seen)
 }
 
 /// Tests whether two closures that may change tables of different slots run at the same time.
-fn writers_meet<R: Threads + Wait + Clock + Sync>(rt: &R, alloc: Global) -> Result<bool> {
+fn do_writers_meet<R: Threads + Wait + Clock + Sync>(rt: &R, alloc: Global) -> Result<bool> {
     let shared = SharedAccessor::new(alloc);
     let (one, two) = (AtomicU64::new(0), AtomicU64::new(0));
     let (first, second) = thread::join(
         rt,
-        || change_sees(rt, &shared, 1, &one, &two),
-        || change_sees(rt, &shared, 2, &two, &one),
+        || is_other_seen_in_change(rt, &shared, 1, &one, &two),
+        || is_other_seen_in_change(rt, &shared, 2, &two, &one),
     );
     Ok(first? && second?)
 }
 
 /// Tests whether a closure that reads a table and one that may change a table of another slot run at the same time.
-fn reader_meets_writer<R: Threads + Wait + Clock + Sync>(rt: &R, alloc: Global) -> Result<bool> {
+fn do_reader_and_writer_meet<R: Threads + Wait + Clock + Sync>(
+    rt: &R,
+    alloc: Global,
+) -> Result<bool> {
     let shared = SharedAccessor::new(alloc);
     shared.get_or_insert(rt, 1)?;
     let (one, two) = (AtomicU64::new(0), AtomicU64::new(0));
     let (read, written) = thread::join(
         rt,
-        || shared.with_table(rt, 1, |_: &MemTable| sees(rt, &one, &two)),
-        || change_sees(rt, &shared, 2, &two, &one),
+        || shared.with_table(rt, 1, |_: &MemTable| is_other_raised(rt, &one, &two)),
+        || is_other_seen_in_change(rt, &shared, 2, &two, &one),
     );
     Ok(read == Some(true) && written?)
 }
 
 /// Tests whether two closures that read the same table run at the same time.
-fn readers_meet<R: Threads + Wait + Clock + Sync>(rt: &R, alloc: Global) -> Result<bool> {
+fn do_readers_meet<R: Threads + Wait + Clock + Sync>(rt: &R, alloc: Global) -> Result<bool> {
     let shared = SharedAccessor::new(alloc);
     shared.get_or_insert(rt, 1)?;
     let (one, two) = (AtomicU64::new(0), AtomicU64::new(0));
     let read = thread::join(
         rt,
-        || shared.with_table(rt, 1, |_: &MemTable| sees(rt, &one, &two)),
-        || shared.with_table(rt, 1, |_: &MemTable| sees(rt, &two, &one)),
+        || shared.with_table(rt, 1, |_: &MemTable| is_other_raised(rt, &one, &two)),
+        || shared.with_table(rt, 1, |_: &MemTable| is_other_raised(rt, &two, &one)),
     );
     Ok(read == (Some(true), Some(true)))
 }
 
 /// Waits until a closure that reads a table has raised `begun`, walks over all tables, and raises `walked`. Returns
 /// whether the closure had begun in time, and the walks met what there is.
-fn walk<R: Wait + Clock>(
+fn walk_beside_reader<R: Wait + Clock>(
     rt: &R,
     shared: &SharedAccessor,
     begun: &AtomicU64,
@@ -132,35 +141,56 @@ fn walk<R: Wait + Clock>(
 }
 
 /// Tests whether all tables can be walked over while a closure reads one of them.
-fn reader_meets_walks<R: Threads + Wait + Clock + Sync>(rt: &R, alloc: Global) -> Result<bool> {
+fn do_reader_and_walk_meet<R: Threads + Wait + Clock + Sync>(
+    rt: &R,
+    alloc: Global,
+) -> Result<bool> {
     let shared = SharedAccessor::new(alloc);
     shared.get_or_insert(rt, 1)?;
     let (one, two) = (AtomicU64::new(0), AtomicU64::new(0));
     let (read, walked) = thread::join(
         rt,
-        || shared.with_table(rt, 1, |_: &MemTable| sees(rt, &one, &two)),
-        || walk(rt, &shared, &one, &two),
+        || shared.with_table(rt, 1, |_: &MemTable| is_other_raised(rt, &one, &two)),
+        || walk_beside_reader(rt, &shared, &one, &two),
     );
     Ok(walked? && read == Some(true))
 }
 
 /// Tests whether closures on tables of different slots run at the same time, where one may change a table, or both.
-fn meet<R: Threads + Wait + Clock + Sync>(rt: &R, alloc: Global) -> Result<bool> {
-    Ok(writers_meet(rt, alloc)? && reader_meets_writer(rt, alloc)?)
+fn do_closures_on_two_slots_meet<R: Threads + Wait + Clock + Sync>(
+    rt: &R,
+    alloc: Global,
+) -> Result<bool> {
+    Ok(do_writers_meet(rt, alloc)? && do_reader_and_writer_meet(rt, alloc)?)
 }
 
+/// Tests that closures on tables of different slots run at the same time, where one may change a table, or both.
 #[test]
 fn slots_lock_apart(rt: HostRuntime) {
     assert!(rt; slot_of(1) != slot_of(2));
-    assert!(rt; matches!(again!(meet(&rt, rt.alloc())), Ok(true)));
+    assert!(rt;
+        matches!(
+            again!(do_closures_on_two_slots_meet(&rt, rt.alloc())),
+            Ok(true)
+        )
+    );
 }
 
 /// Tests whether closures and walks that read one table don't wait for one another.
-fn read_at_once<R: Threads + Wait + Clock + Sync>(rt: &R, alloc: Global) -> Result<bool> {
-    Ok(readers_meet(rt, alloc)? && reader_meets_walks(rt, alloc)?)
+fn do_readers_of_one_table_meet<R: Threads + Wait + Clock + Sync>(
+    rt: &R,
+    alloc: Global,
+) -> Result<bool> {
+    Ok(do_readers_meet(rt, alloc)? && do_reader_and_walk_meet(rt, alloc)?)
 }
 
+/// Tests that closures and walks that read one table don't wait for one another.
 #[test]
-fn readers_lock_together(rt: HostRuntime) {
-    assert!(rt; matches!(again!(read_at_once(&rt, rt.alloc())), Ok(true)));
+fn readers_of_one_table_run_at_once(rt: HostRuntime) {
+    assert!(rt;
+        matches!(
+            again!(do_readers_of_one_table_meet(&rt, rt.alloc())),
+            Ok(true)
+        )
+    );
 }

@@ -30,7 +30,7 @@ static CHECKSUMS: [(usize, u32); 23] = [
 ];
 
 /// Returns the rows of checksums.
-fn checksums() -> &'static [(usize, u32)] {
+fn checksum_rows() -> &'static [(usize, u32)] {
     &CHECKSUMS
 }
 
@@ -40,20 +40,21 @@ fn checksum_of(bytes: &[u8]) -> u32 {
 }
 
 /// Fills bytes with the numbers 0 to 250, again and again.
-fn count_up(bytes: &mut [u8]) {
+fn fill_with_count(bytes: &mut [u8]) {
     for (k, byte) in bytes.iter_mut().enumerate() {
         *byte = (k % 251) as u8;
     }
 }
 
+/// Tests that checksums are those that other programs compute: of known texts, and of bytes of many lengths.
 #[test]
-fn agrees_with_other_programs(rt: HostRuntime) {
+fn checksums_agree_with_other_programs(rt: HostRuntime) {
     assert_eq!(rt; checksum_of(b"123456789"), 0xcbf43926);
     assert_eq!(rt; checksum_of(b"\xff\xff\xff\xff"), 0xffffffff);
     assert_eq!(rt; checksum_of(b"abc"), 0x352441c2);
     let mut bytes = [0u8; 5000];
-    count_up(&mut bytes);
-    for &(len, checksum) in checksums() {
+    fill_with_count(&mut bytes);
+    for &(len, checksum) in checksum_rows() {
         assert_eq!(rt;
             checksum_of(&bytes[..len.min(5000)]),
             checksum,

@@ -41,7 +41,7 @@ fn are_consecutive(alloc: Global, indexes: &[u64]) -> Result<bool> {
 }
 
 /// Tests for each row whether entries with its indexes are consecutive, as it says.
-fn lists_are_told_apart(rt: &impl Abort, alloc: Global) -> Result<()> {
+fn check_each_index_row(rt: &impl Abort, alloc: Global) -> Result<()> {
     for &(indexes, consecutive) in index_rows() {
         assert!(rt;
             are_consecutive(alloc, indexes)? == consecutive,
@@ -51,14 +51,15 @@ fn lists_are_told_apart(rt: &impl Abort, alloc: Global) -> Result<()> {
     Ok(())
 }
 
+/// Tests that entries count as consecutive just if each index follows the one before it.
 #[test]
-fn consecutive_lists(rt: HostRuntime) {
-    assert!(rt; again!(lists_are_told_apart(&rt, rt.alloc())).is_ok());
+fn consecutive_lists_are_told_apart(rt: HostRuntime) {
+    assert!(rt; again!(check_each_index_row(&rt, rt.alloc())).is_ok());
 }
 
 /// Tests whether a byte is read as it should be: 0 as the compression type that is written as 0, any other byte not at
 /// all, with an error that names the byte.
-fn is_compression_row(alloc: Global, byte: u8) -> Result<bool> {
+fn is_compression_byte_read_right(alloc: Global, byte: u8) -> Result<bool> {
     match CompressionType::from_u8(alloc, byte) {
         Ok(compression_type) => Ok(byte == 0 && compression_type.to_u8() == 0),
         Err(Error::Corruption(text)) => {
@@ -70,14 +71,15 @@ fn is_compression_row(alloc: Global, byte: u8) -> Result<bool> {
 }
 
 /// Tests each byte as a compression type.
-fn zero_alone_is_a_compression_type(rt: &impl Abort, alloc: Global) -> Result<()> {
+fn check_each_compression_byte(rt: &impl Abort, alloc: Global) -> Result<()> {
     for byte in 0..=u8::MAX {
-        assert!(rt; is_compression_row(alloc, byte)?, "{byte}");
+        assert!(rt; is_compression_byte_read_right(alloc, byte)?, "{byte}");
     }
     Ok(())
 }
 
+/// Tests that of all bytes only 0 is read as a compression type, and that an error names any other.
 #[test]
-fn compression_types(rt: HostRuntime) {
-    assert!(rt; again!(zero_alone_is_a_compression_type(&rt, rt.alloc())).is_ok());
+fn zero_alone_is_a_compression_type(rt: HostRuntime) {
+    assert!(rt; again!(check_each_compression_byte(&rt, rt.alloc())).is_ok());
 }

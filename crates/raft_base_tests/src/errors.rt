@@ -7,7 +7,7 @@ use std::io::ErrorKind;
 
 /// Tests whether an error prints as a text; a text that ends with a colon and a space needs to be only the beginning.
 /// It prints once more where it finds no memory, which happens once in a test at most.
-fn is_text_of(alloc: Global, text: &str, error: &Error) -> bool {
+fn is_printed_as(alloc: Global, text: &str, error: &Error) -> bool {
     let mut printed = error.to_string(alloc);
     if printed.is_err() {
         printed = error.to_string(alloc);
@@ -51,16 +51,17 @@ fn error_with_text(number: usize) -> (Error, &'static str) {
     }
 }
 
+/// Tests that each of eleven errors prints the text that it has to print.
 #[test]
-fn texts(rt: HostRuntime) {
+fn errors_print_their_texts(rt: HostRuntime) {
     for number in 0..11 {
         let (error, text) = error_with_text(number);
-        assert!(rt; is_text_of(rt.alloc(), text, &error));
+        assert!(rt; is_printed_as(rt.alloc(), text, &error));
     }
 }
 
 /// Returns an error by its number, below four, with a text.
-fn error_of(number: usize, text: String) -> Error {
+fn error_with_reason(number: usize, text: String) -> Error {
     match number {
         0 => Error::InvalidArgument(text),
         1 => Error::Corruption(text),
@@ -69,8 +70,9 @@ fn error_of(number: usize, text: String) -> Error {
     }
 }
 
+/// Tests that errors with a reason print it after their own text.
 #[test]
-fn texts_with_a_reason(rt: HostRuntime) {
+fn errors_print_their_reasons(rt: HostRuntime) {
     for &(number, text) in &[
         (0, "Invalid Argument: why"),
         (1, "Corruption: why"),
@@ -82,7 +84,9 @@ fn texts_with_a_reason(rt: HostRuntime) {
             why = String::from_str(rt.alloc(), "why");
         }
         match why {
-            Ok(why) => assert!(rt; is_text_of(rt.alloc(), text, &error_of(number, why))),
+            Ok(why) => assert!(rt;
+                is_printed_as(rt.alloc(), text, &error_with_reason(number, why))
+            ),
             Err(_) => assert!(rt; false),
         }
     }

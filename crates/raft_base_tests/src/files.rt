@@ -14,7 +14,7 @@ struct Deaf {
 
 impl Deaf {
     /// Returns `Failed`, if the calls are to fail.
-    fn answer(&self) -> Result<()> {
+    fn fail_if_wanted(&self) -> Result<()> {
         if self.fails {
             Err(Error::Failed)
         } else {
@@ -26,35 +26,71 @@ impl Deaf {
 impl EngineFiles for Deaf {
     ghost asked = { λ f. f.asked.asks };
 
+<<<<<<< HEAD
     fn append(&mut self, queue: LogQueue, bytes: &[u8]) -> std::result::Result<(), AppendError> {
         self.asked.put(queue, bytes);
         match self.answer() {
             Ok(()) => Ok(()),
             Err(error) => Err(AppendError::InPart(error)),
         }
+=======
+    /// Notes the call, and fails if the calls are to fail. The bytes are kept nowhere.
+    ///
+    /// # Errors
+    ///
+    /// `Failed`, if the calls are to fail.
+    fn append(&mut self, queue: LogQueue, bytes: &[u8]) -> Result<()> {
+        self.asked.put(queue, bytes);
+        self.fail_if_wanted()
+>>>>>>> 364ff092c1cba09897d9009f8cd45addd218a3af
     }
 
+    /// Notes the call, and fails if the calls are to fail.
+    ///
+    /// # Errors
+    ///
+    /// `Failed`, if the calls are to fail.
     fn rotate(&mut self, queue: LogQueue, seq: FileSeq) -> Result<()> {
         self.asked.begin(queue, seq);
-        self.answer()
+        self.fail_if_wanted()
     }
 
+    /// Notes the call, unless the calls are to fail.
+    ///
+    /// # Errors
+    ///
+    /// `Failed`, if the calls are to fail.
     fn sync(&mut self, queue: LogQueue) -> Result<()> {
-        self.answer()?;
+        self.fail_if_wanted()?;
         self.asked.sync(queue);
         Ok(())
     }
 
+    /// Notes the call, and fails if the calls are to fail.
+    ///
+    /// # Errors
+    ///
+    /// `Failed`, if the calls are to fail.
     fn delete_oldest(&mut self, queue: LogQueue) -> Result<()> {
         self.asked.delete(queue);
-        self.answer()
+        self.fail_if_wanted()
     }
 
+    /// Notes the call, and fails if the calls are to fail.
+    ///
+    /// # Errors
+    ///
+    /// `Failed`, if the calls are to fail.
     fn truncate(&mut self, queue: LogQueue, len: u64) -> Result<()> {
         self.asked.cut(queue, len);
-        self.answer()
+        self.fail_if_wanted()
     }
 
+    /// Reads nothing: these files have no bytes.
+    ///
+    /// # Errors
+    ///
+    /// `Failed`, always.
     fn read(&mut self, _place: FileBlockHandle) -> Result<Vec<u8>> {
         Err(Error::Failed)
     }
@@ -87,7 +123,7 @@ const ASKS: [(LogQueue, Ask); 12] = [
 ];
 
 /// Makes a call of the files of a queue.
-fn ask_for<F: EngineFiles>(files: &mut F, queue: LogQueue, asked: Ask) -> Result<()> {
+fn make_asked_call<F: EngineFiles>(files: &mut F, queue: LogQueue, asked: Ask) -> Result<()> {
     match asked {
         Ask::Rotate(seq) => files.rotate(queue, seq),
         Ask::Append(text) => Ok(files.append(queue, text.as_bytes())?),
@@ -98,28 +134,34 @@ fn ask_for<F: EngineFiles>(files: &mut F, queue: LogQueue, asked: Ask) -> Result
 }
 
 /// Makes all calls, each once.
-fn ask_all<F: EngineFiles>(files: &mut F) -> Result<()> {
+fn make_each_call_once<F: EngineFiles>(files: &mut F) -> Result<()> {
     for &(queue, asked) in &ASKS {
-        ask_for(files, queue, asked)?;
+        make_asked_call(files, queue, asked)?;
     }
     Ok(())
 }
 
 /// Tests whether files have these numbers and these bytes, given as text.
-fn are(files: &Vec<(FileSeq, Vec<u8>)>, expected: &[(FileSeq, &str)]) -> bool {
+fn have_numbers_and_bytes(files: &Vec<(FileSeq, Vec<u8>)>, expected: &[(FileSeq, &str)]) -> bool {
     files.len() == expected.len()
         && files.iter().zip(expected).all(|(file, other)| file.0 == other.0
             && file.1.as_slice() == other.1.as_bytes())
 }
 
 /// Reads `len` bytes of a file from an offset on.
-fn read(files: &mut MemoryFiles, id: FileId, offset: u64, len: usize) -> Result<Vec<u8>> {
+fn read_at(files: &mut MemoryFiles, id: FileId, offset: u64, len: usize) -> Result<Vec<u8>> {
     files.read(FileBlockHandle { id, offset, len })
 }
 
 /// Tests whether a read of `len` bytes at a place returns a text, or, where none is given, is refused.
-fn has(files: &mut MemoryFiles, id: FileId, offset: u64, text: Option<&str>, len: usize) -> bool {
-    match (read(files, id, offset, len), text) {
+fn is_read_as(
+    files: &mut MemoryFiles,
+    id: FileId,
+    offset: u64,
+    text: Option<&str>,
+    len: usize,
+) -> bool {
+    match (read_at(files, id, offset, len), text) {
         (Ok(bytes), Some(text)) => bytes.as_slice() == text.as_bytes(),
         (Err(Error::InvalidArgument(_)), None) => true,
         _ => false,
@@ -127,39 +169,41 @@ fn has(files: &mut MemoryFiles, id: FileId, offset: u64, text: Option<&str>, len
 }
 
 /// Returns files of which all calls were made, each once.
-fn made(alloc: Global) -> Result<MemoryFiles> {
+fn files_after_all_calls(alloc: Global) -> Result<MemoryFiles> {
     let mut files = MemoryFiles::new(alloc);
-    ask_all(&mut files)?;
+    make_each_call_once(&mut files)?;
     Ok(files)
 }
 
+/// Tests that files in memory have the numbers and the bytes that all calls, each made once, have to leave.
 #[test]
-fn memory_keeps_what_is_asked(rt: HostRuntime) -> Result<()> {
-    let files = made(rt.alloc())?;
-    assert!(rt; are(files.files(LogQueue::Append), &[(2, "abcde"), (4, "fgh")]));
-    assert!(rt; are(files.files(LogQueue::Rewrite), &[(9, "xyz")]));
+fn memory_files_keep_what_is_asked(rt: HostRuntime) -> Result<()> {
+    let files = files_after_all_calls(rt.alloc())?;
+    assert!(rt; have_numbers_and_bytes(files.files(LogQueue::Append), &[(2, "abcde"), (4, "fgh")]));
+    assert!(rt; have_numbers_and_bytes(files.files(LogQueue::Rewrite), &[(9, "xyz")]));
     Ok(())
 }
 
 /// Tests whether files that are made of copies of others have their bytes, and take further calls.
-fn are_found(alloc: Global) -> Result<bool> {
-    let left = made(alloc)?;
+fn are_copies_found_again(alloc: Global) -> Result<bool> {
+    let left = files_after_all_calls(alloc)?;
     let append = again!(left.copies(LogQueue::Append))?;
     let rewrite = again!(left.copies(LogQueue::Rewrite))?;
     let mut files = MemoryFiles::found(append, rewrite);
-    let found = are(files.files(LogQueue::Append), &[(2, "abcde"), (4, "fgh")]);
+    let found = have_numbers_and_bytes(files.files(LogQueue::Append), &[(2, "abcde"), (4, "fgh")]);
     files.append(LogQueue::Rewrite, b"!")?;
     files.delete_oldest(LogQueue::Append)?;
     Ok(
         found
-            && are(files.files(LogQueue::Append), &[(4, "fgh")])
-            && are(files.files(LogQueue::Rewrite), &[(9, "xyz!")]),
+            && have_numbers_and_bytes(files.files(LogQueue::Append), &[(4, "fgh")])
+            && have_numbers_and_bytes(files.files(LogQueue::Rewrite), &[(9, "xyz!")]),
     )
 }
 
+/// Tests that files made of copies of others have their bytes, and take further calls.
 #[test]
-fn memory_is_found_again(rt: HostRuntime) -> Result<()> {
-    assert!(rt; are_found(rt.alloc())?);
+fn memory_files_are_found_again(rt: HostRuntime) -> Result<()> {
+    assert!(rt; are_copies_found_again(rt.alloc())?);
     Ok(())
 }
 
@@ -175,48 +219,57 @@ const ROWS: [(LogQueue, FileSeq, u64, usize, Option<&str>); 9] = [
     (LogQueue::Rewrite, 2, 0, 1, None),
 ];
 
+/// Tests that a read returns the bytes at its place, and is refused where the file has no such place.
 #[test]
-fn memory_is_read_by_place(rt: HostRuntime) -> Result<()> {
-    let mut files = made(rt.alloc())?;
+fn memory_files_are_read_by_place(rt: HostRuntime) -> Result<()> {
+    let mut files = files_after_all_calls(rt.alloc())?;
     for &(queue, seq, offset, len, text) in &ROWS {
-        assert!(rt; has(&mut files, FileId::new(queue, seq), offset, text, len));
+        assert!(rt; is_read_as(&mut files, FileId::new(queue, seq), offset, text, len));
     }
     Ok(())
 }
 
 /// Tests whether calls that make no sense are refused: bytes without a file to put them into, a new file whose number
 /// isn't above the last one, the deletion of the last file.
-fn refuses(alloc: Global) -> Result<bool> {
+fn are_senseless_calls_refused(alloc: Global) -> Result<bool> {
     let mut files = MemoryFiles::new(alloc);
     let bytes = is_refused(&mut files, Ask::Append("a"));
     let cut = is_refused(&mut files, Ask::Truncate(0));
-    ask_for(&mut files, LogQueue::Append, Ask::Rotate(3))?;
+    make_asked_call(&mut files, LogQueue::Append, Ask::Rotate(3))?;
     let number = is_refused(&mut files, Ask::Rotate(3));
     let last = is_refused(&mut files, Ask::DeleteOldest);
-    Ok(bytes && cut && number && last && are(files.files(LogQueue::Append), &[(3, "")]))
+    Ok(
+        bytes
+            && cut
+            && number
+            && last
+            && have_numbers_and_bytes(files.files(LogQueue::Append), &[(3, "")]),
+    )
 }
 
 /// Tests whether a call of the append files is refused as `InvalidArgument`.
 fn is_refused(files: &mut MemoryFiles, asked: Ask) -> bool {
     matches!(
-        ask_for(files, LogQueue::Append, asked),
+        make_asked_call(files, LogQueue::Append, asked),
         Err(Error::InvalidArgument(_))
     )
 }
 
+/// Tests that calls that make no sense are refused, as a write without a file.
 #[test]
-fn memory_refuses_what_no_file_can_do(rt: HostRuntime) -> Result<()> {
-    assert!(rt; refuses(rt.alloc())?);
+fn memory_files_refuse_what_no_file_can_do(rt: HostRuntime) -> Result<()> {
+    assert!(rt; are_senseless_calls_refused(rt.alloc())?);
     Ok(())
 }
 
+/// Tests that each call is noted and passed on, whether the files carry it out or fail.
 #[test]
 fn asks_are_noted(rt: HostRuntime) {
     let mut files = Deaf {
         asked: Asked::new(),
         fails: false,
     };
-    assert!(rt; ask_all(&mut files).is_ok());
+    assert!(rt; make_each_call_once(&mut files).is_ok());
     files.fails = true;
-    assert!(rt; ask_all(&mut files).is_err());
+    assert!(rt; make_each_call_once(&mut files).is_err());
 }

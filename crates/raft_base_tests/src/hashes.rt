@@ -50,13 +50,13 @@ const MULTIPLES: [(usize, usize, usize, usize); 6] = [
 ];
 
 /// Returns the rows of hashes.
-fn hashes() -> &'static [HashRow] {
+fn hash_rows() -> &'static [HashRow] {
     &HASHES
 }
 
 /// Returns the multiple of an alignment at or above an offset, and the one at or below it; `None` where one of them
 /// doesn't exist or doesn't fit.
-fn multiples_round(offset: usize, alignment: usize) -> Option<(usize, usize)> {
+fn multiples_around(offset: usize, alignment: usize) -> Option<(usize, usize)> {
     Some((
         multiple_above(offset, alignment)?,
         multiple_below(offset, alignment)?,
@@ -80,14 +80,16 @@ fn multiple_below(offset: usize, alignment: usize) -> Option<usize> {
     Some(round_down(offset, alignment))
 }
 
+/// Tests hashes of numbers, the numbers of hashes, and multiples of an alignment round an offset, each against a
+/// table.
 #[test]
 fn hashes_and_multiples_are_those_of_the_tables(rt: HostRuntime) {
-    for &(number, hash, unhashed) in hashes() {
+    for &(number, hash, unhashed) in hash_rows() {
         assert_eq!(rt; hash_u64(number), hash, "{number}");
         assert_eq!(rt; unhash_u64(number), unhashed, "{number}");
         assert_eq!(rt; unhash_u64(hash_u64(number)), number);
     }
     for &(offset, alignment, above, below) in &MULTIPLES {
-        assert_eq!(rt; multiples_round(offset, alignment), Some((above, below)));
+        assert_eq!(rt; multiples_around(offset, alignment), Some((above, below)));
     }
 }

@@ -10,14 +10,14 @@ use raft_base::codec::{
     decode_var_i64, decode_var_u64, read_u8,
 };
 use rows::{
-    LongRow, ShortRow, SignedRow, faults, fronts, long_rows, short_rows, short_signed_rows,
-    signed_rows, spellings,
+    LongRow, ShortRow, SignedRow, fault_rows, long_rows, prefix_rows, short_rows,
+    short_signed_rows, signed_rows, spelling_rows,
 };
 use std::io;
 use std::io::{ErrorKind, Write};
 
 /// Returns the numbers in three times eight bytes, each with its highest byte first.
-fn longs_of(bytes: &[u8; 24]) -> (u64, u64, u64) {
+fn decode_three_u64(bytes: &[u8; 24]) -> (u64, u64, u64) {
     (
         BigEndian::read_u64(&bytes[0..8]),
         BigEndian::read_u64(&bytes[8..16]),
@@ -26,14 +26,14 @@ fn longs_of(bytes: &[u8; 24]) -> (u64, u64, u64) {
 }
 
 /// Writes a number with its highest byte first, in descending order, and with its lowest byte first.
-fn write_u64(number: u64, mut out: &mut [u8]) -> codec::Result<()> {
+fn write_u64_in_three_ways(number: u64, mut out: &mut [u8]) -> codec::Result<()> {
     out.encode_u64(number)?;
     out.encode_u64_desc(number)?;
     out.encode_u64_le(number)
 }
 
 /// Reads the three numbers that `write_u64` writes.
-fn read_u64(mut buf: &[u8]) -> codec::Result<(u64, u64, u64)> {
+fn read_u64_in_three_ways(mut buf: &[u8]) -> codec::Result<(u64, u64, u64)> {
     Ok((
         decode_u64(&mut buf)?,
         decode_u64_desc(&mut buf)?,
@@ -42,25 +42,25 @@ fn read_u64(mut buf: &[u8]) -> codec::Result<(u64, u64, u64)> {
 }
 
 /// Tests whether the numbers of a row are written as its bytes, and read back from them.
-fn is_u64_row(row: LongRow) -> codec::Result<bool> {
+fn u64_row_holds(row: LongRow) -> codec::Result<bool> {
     let (number, ascending, descending, lowest_first) = row;
     let mut bytes = [0; 24];
-    write_u64(number, &mut bytes)?;
+    write_u64_in_three_ways(number, &mut bytes)?;
     Ok(
-        longs_of(&bytes) == (ascending, descending, lowest_first)
-            && read_u64(&bytes)? == (number, number, number),
+        decode_three_u64(&bytes) == (ascending, descending, lowest_first)
+            && read_u64_in_three_ways(&bytes)? == (number, number, number),
     )
 }
 
 /// Writes a signed number with its highest byte first, in descending order, and with its lowest byte first.
-fn write_i64(number: i64, mut out: &mut [u8]) -> codec::Result<()> {
+fn write_i64_in_three_ways(number: i64, mut out: &mut [u8]) -> codec::Result<()> {
     out.encode_i64(number)?;
     out.encode_i64_desc(number)?;
     out.encode_i64_le(number)
 }
 
 /// Reads the three numbers that `write_i64` writes.
-fn read_i64(mut buf: &[u8]) -> codec::Result<(i64, i64, i64)> {
+fn read_i64_in_three_ways(mut buf: &[u8]) -> codec::Result<(i64, i64, i64)> {
     Ok((
         decode_i64(&mut buf)?,
         decode_i64_desc(&mut buf)?,
@@ -69,18 +69,18 @@ fn read_i64(mut buf: &[u8]) -> codec::Result<(i64, i64, i64)> {
 }
 
 /// Tests whether the numbers of a row are written as its bytes, and read back from them.
-fn is_i64_row(row: SignedRow) -> codec::Result<bool> {
+fn i64_row_holds(row: SignedRow) -> codec::Result<bool> {
     let (number, ascending, descending, lowest_first) = row;
     let mut bytes = [0; 24];
-    write_i64(number, &mut bytes)?;
+    write_i64_in_three_ways(number, &mut bytes)?;
     Ok(
-        longs_of(&bytes) == (ascending, descending, lowest_first)
-            && read_i64(&bytes)? == (number, number, number),
+        decode_three_u64(&bytes) == (ascending, descending, lowest_first)
+            && read_i64_in_three_ways(&bytes)? == (number, number, number),
     )
 }
 
 /// Tests whether the numbers of a row are written as its bytes, and read back from them.
-fn is_short_row(row: ShortRow) -> codec::Result<bool> {
+fn u32_and_u16_row_holds(row: ShortRow) -> codec::Result<bool> {
     let (
         long,
         short,
@@ -90,21 +90,21 @@ fn is_short_row(row: ShortRow) -> codec::Result<bool> {
         short_lowest_first,
     ) = row;
     let mut bytes = [0; 12];
-    write_shorts(long, short, &mut bytes)?;
+    write_u32_and_u16(long, short, &mut bytes)?;
     Ok(
-        shorts_of(&bytes)
+        decode_u32_and_u16(&bytes)
             == (
                 long_highest_first,
                 long_lowest_first,
                 short_highest_first,
                 short_lowest_first,
             )
-            && read_shorts(&bytes)? == (long, long, short, short),
+            && read_u32_and_u16(&bytes)? == (long, long, short, short),
     )
 }
 
 /// Writes two numbers, each with its highest byte first, and with its lowest byte first.
-fn write_shorts(long: u32, short: u16, mut out: &mut [u8]) -> codec::Result<()> {
+fn write_u32_and_u16(long: u32, short: u16, mut out: &mut [u8]) -> codec::Result<()> {
     out.encode_u32(long)?;
     out.encode_u32_le(long)?;
     out.encode_u16(short)?;
@@ -112,7 +112,7 @@ fn write_shorts(long: u32, short: u16, mut out: &mut [u8]) -> codec::Result<()> 
 }
 
 /// Returns the numbers in twice four and twice two bytes, each with its highest byte first.
-fn shorts_of(bytes: &[u8; 12]) -> (u32, u32, u16, u16) {
+fn decode_u32_and_u16(bytes: &[u8; 12]) -> (u32, u32, u16, u16) {
     (
         BigEndian::read_u32(&bytes[0..4]),
         BigEndian::read_u32(&bytes[4..8]),
@@ -122,7 +122,7 @@ fn shorts_of(bytes: &[u8; 12]) -> (u32, u32, u16, u16) {
 }
 
 /// Reads the four numbers that `write_shorts` writes.
-fn read_shorts(mut buf: &[u8]) -> codec::Result<(u32, u32, u16, u16)> {
+fn read_u32_and_u16(mut buf: &[u8]) -> codec::Result<(u32, u32, u16, u16)> {
     Ok((
         decode_u32(&mut buf)?,
         decode_u32_le(&mut buf)?,
@@ -132,7 +132,7 @@ fn read_shorts(mut buf: &[u8]) -> codec::Result<(u32, u32, u16, u16)> {
 }
 
 /// Tests whether the numbers of a row are written as its bytes, and read back from them.
-fn is_i32_row(row: (i32, u32)) -> codec::Result<bool> {
+fn i32_row_holds(row: (i32, u32)) -> codec::Result<bool> {
     let (number, lowest_first) = row;
     let mut bytes = [0; 4];
     let mut out: &mut [u8] = &mut bytes;
@@ -141,19 +141,20 @@ fn is_i32_row(row: (i32, u32)) -> codec::Result<bool> {
     Ok(BigEndian::read_u32(&buf[0..4]) == lowest_first && decode_i32_le(&mut buf)? == number)
 }
 
+/// Tests that numbers of two, four and eight bytes are written as the bytes of the rows, and read back from them.
 #[test]
-fn numbers_of_a_fixed_width(rt: HostRuntime) {
+fn numbers_of_a_fixed_width_are_written_and_read(rt: HostRuntime) {
     for &row in long_rows() {
-        assert!(rt; matches!(is_u64_row(row), Ok(true)), "{}", row.0);
+        assert!(rt; matches!(u64_row_holds(row), Ok(true)), "{}", row.0);
     }
     for &row in signed_rows() {
-        assert!(rt; matches!(is_i64_row(row), Ok(true)), "{}", row.0);
+        assert!(rt; matches!(i64_row_holds(row), Ok(true)), "{}", row.0);
     }
     for &row in short_rows() {
-        assert!(rt; matches!(is_short_row(row), Ok(true)), "{}", row.0);
+        assert!(rt; matches!(u32_and_u16_row_holds(row), Ok(true)), "{}", row.0);
     }
     for &row in short_signed_rows() {
-        assert!(rt; matches!(is_i32_row(row), Ok(true)), "{}", row.0);
+        assert!(rt; matches!(i32_row_holds(row), Ok(true)), "{}", row.0);
     }
 }
 
@@ -219,7 +220,7 @@ fn bytes_are_in_the_order_of_the_numbers(rt: HostRuntime) {
 }
 
 /// Tests whether both numbers are written as `spelling`, and nothing more.
-fn are_written(number: u64, signed: i64, spelling: &[u8]) -> codec::Result<bool> {
+fn are_spelled_as(number: u64, signed: i64, spelling: &[u8]) -> codec::Result<bool> {
     let mut bytes = [0; 20];
     let mut out: &mut [u8] = &mut bytes;
     out.encode_var_u64(number)?;
@@ -230,7 +231,7 @@ fn are_written(number: u64, signed: i64, spelling: &[u8]) -> codec::Result<bool>
 }
 
 /// Tests whether the decoders read `number` and `signed` from these bytes, and both leave `left` bytes.
-fn are_read(bytes: &[u8], number: u64, signed: i64, left: usize) -> codec::Result<bool> {
+fn are_decoded_as(bytes: &[u8], number: u64, signed: i64, left: usize) -> codec::Result<bool> {
     let mut buf = bytes;
     let mut signed_buf = bytes;
     Ok(
@@ -242,32 +243,40 @@ fn are_read(bytes: &[u8], number: u64, signed: i64, left: usize) -> codec::Resul
 }
 
 /// Tests whether a result is an io error of a kind.
-fn is_refusal<T: Drop>(read: codec::Result<T>, kind: ErrorKind) -> bool {
+fn is_io_error_of_kind<T: Drop>(read: codec::Result<T>, kind: ErrorKind) -> bool {
     matches!(read, Err(Error::Io(e)) if e.kind() == kind)
 }
 
+/// Tests that numbers of varying length are written as the bytes of the rows, read back from them, and refused where
+/// a row says so.
 #[test]
-fn numbers_in_base_128(rt: HostRuntime) {
-    for &(number, signed, spelling) in spellings() {
+fn numbers_in_base_128_are_written_and_read(rt: HostRuntime) {
+    for &(number, signed, spelling) in spelling_rows() {
         assert!(rt;
-            matches!(are_written(number, signed, spelling), Ok(true)),
+            matches!(are_spelled_as(number, signed, spelling), Ok(true)),
             "{number}"
         );
         assert!(rt;
-            matches!(are_read(spelling, number, signed, 0), Ok(true)),
+            matches!(are_decoded_as(spelling, number, signed, 0), Ok(true)),
             "{number}"
         );
     }
-    for &(bytes, number, signed, left) in fronts() {
+    for &(bytes, number, signed, left) in prefix_rows() {
         assert!(rt;
-            matches!(are_read(bytes, number, signed, left), Ok(true)),
+            matches!(are_decoded_as(bytes, number, signed, left), Ok(true)),
             "at {bytes:?}"
         );
     }
-    for &(bytes, kind) in faults() {
+    for &(bytes, kind) in fault_rows() {
         let mut buf = bytes;
-        assert!(rt; is_refusal(decode_var_u64(&mut buf), kind), "at {bytes:?}");
-        assert!(rt; is_refusal(decode_var_i64(&mut buf), kind), "at {bytes:?}");
+        assert!(rt;
+            is_io_error_of_kind(decode_var_u64(&mut buf), kind),
+            "at {bytes:?}"
+        );
+        assert!(rt;
+            is_io_error_of_kind(decode_var_i64(&mut buf), kind),
+            "at {bytes:?}"
+        );
         assert!(rt; buf == bytes);
     }
 }
@@ -277,37 +286,38 @@ fn numbers_in_base_128(rt: HostRuntime) {
 fn seven_bytes_hold_no_number(rt: HostRuntime) {
     let mut bytes = [0; 7];
     let mut out: &mut [u8] = &mut bytes;
-    assert!(rt; is_refusal(out.encode_u64(1), ErrorKind::WriteZero));
+    assert!(rt; is_io_error_of_kind(out.encode_u64(1), ErrorKind::WriteZero));
     let mut out: &mut [u8] = &mut bytes;
-    assert!(rt; is_refusal(out.encode_u64_desc(1), ErrorKind::WriteZero));
+    assert!(rt; is_io_error_of_kind(out.encode_u64_desc(1), ErrorKind::WriteZero));
     let mut out: &mut [u8] = &mut bytes;
-    assert!(rt; is_refusal(out.encode_i64(1), ErrorKind::WriteZero));
+    assert!(rt; is_io_error_of_kind(out.encode_i64(1), ErrorKind::WriteZero));
     let mut out: &mut [u8] = &mut bytes;
-    assert!(rt; is_refusal(out.encode_i64_desc(1), ErrorKind::WriteZero));
+    assert!(rt; is_io_error_of_kind(out.encode_i64_desc(1), ErrorKind::WriteZero));
     let mut buf: &[u8] = b"1234567";
-    assert!(rt; is_refusal(decode_u64(&mut buf), ErrorKind::UnexpectedEof));
-    assert!(rt; is_refusal(decode_u64_desc(&mut buf), ErrorKind::UnexpectedEof));
-    assert!(rt; is_refusal(decode_i64(&mut buf), ErrorKind::UnexpectedEof));
-    assert!(rt; is_refusal(decode_i64_desc(&mut buf), ErrorKind::UnexpectedEof));
+    assert!(rt; is_io_error_of_kind(decode_u64(&mut buf), ErrorKind::UnexpectedEof));
+    assert!(rt; is_io_error_of_kind(decode_u64_desc(&mut buf), ErrorKind::UnexpectedEof));
+    assert!(rt; is_io_error_of_kind(decode_i64(&mut buf), ErrorKind::UnexpectedEof));
+    assert!(rt; is_io_error_of_kind(decode_i64_desc(&mut buf), ErrorKind::UnexpectedEof));
     assert!(rt; buf.len() == 7);
 }
 
+/// Tests that no number is written to a slice that is too short for it, nor read from one.
 #[test]
-fn slices_that_are_too_short(rt: HostRuntime) {
+fn short_slices_take_and_give_no_number(rt: HostRuntime) {
     let mut bytes = [0; 7];
     let mut out: &mut [u8] = &mut bytes;
     assert!(rt; matches!(out.encode_u64(1), Err(Error::Io(_))));
     let mut buf: &[u8] = b"\x07234567";
-    assert!(rt; is_refusal(decode_u64(&mut buf), ErrorKind::UnexpectedEof));
+    assert!(rt; is_io_error_of_kind(decode_u64(&mut buf), ErrorKind::UnexpectedEof));
     assert!(rt; buf.len() == 7);
     assert!(rt; matches!(read_u8(&mut buf), Ok(7)));
     assert!(rt; buf == b"234567".as_slice());
     let mut empty: &[u8] = b"";
-    assert!(rt; is_refusal(read_u8(&mut empty), ErrorKind::UnexpectedEof));
+    assert!(rt; is_io_error_of_kind(read_u8(&mut empty), ErrorKind::UnexpectedEof));
 }
 
 /// Writes a number by each encoder, and then one that takes a single byte.
-fn encode_all<W: Write>(out: &mut W) -> codec::Result<()> {
+fn encode_by_each_encoder<W: Write>(out: &mut W) -> codec::Result<()> {
     encode_highest_first(out)?;
     encode_lowest_first(out)?;
     out.encode_var_u64(1024)?;
@@ -361,6 +371,11 @@ struct Limited {
 }
 
 impl Write for Limited {
+    /// Takes the bytes, as long as writes are left.
+    ///
+    /// # Errors
+    ///
+    /// `BrokenPipe` once no writes are left.
     fn write(&mut self, buf: &[u8]) -> io::Result<usize> {
         if self.writes == 0 {
             return Err(io::Error::new(ErrorKind::BrokenPipe, "closed"));
@@ -369,6 +384,7 @@ impl Write for Limited {
         Ok(buf.len())
     }
 
+    /// Does nothing.
     fn flush(&mut self) -> io::Result<()> {
         Ok(())
     }
@@ -381,23 +397,23 @@ fn numbers_are_written_at_once(rt: HostRuntime) {
     for writes in 0..14 {
         let mut out = Limited { writes };
         assert!(rt;
-            is_refusal(encode_all(&mut out), ErrorKind::BrokenPipe),
+            is_io_error_of_kind(encode_by_each_encoder(&mut out), ErrorKind::BrokenPipe),
             "{writes}"
         );
     }
     let mut out = Limited { writes: 14 };
-    assert!(rt; encode_all(&mut out).is_ok());
+    assert!(rt; encode_by_each_encoder(&mut out).is_ok());
 }
 
 /// Tests that a vector which finds no memory for a number keeps the numbers before it, and no part of that number.
 #[test]
 fn vectors_take_whole_numbers(rt: HostRuntime) {
     let mut vector = Vec::new(rt.alloc());
-    if encode_all(&mut vector).is_err() {
+    if encode_by_each_encoder(&mut vector).is_err() {
         // Memory is refused once in a test at most.
         assert!(rt; ENDS.contains(&vector.len()) && ALL_NUMBERS.starts_with(vector.as_slice()));
         vector.clear();
-        assert!(rt; encode_all(&mut vector).is_ok());
+        assert!(rt; encode_by_each_encoder(&mut vector).is_ok());
     }
     assert!(rt; vector.as_slice() == ALL_NUMBERS);
 }

@@ -13,11 +13,17 @@ struct SmallPipe;
 impl PipeLog for SmallPipe {
     ghost file_range_of = { λ _ _. (3, 7) };
 
+    /// Returns the first bytes of `small`, at most as many as `handle` says.
+    ///
+    /// # Errors
+    ///
+    /// `Memory` alone.
     fn read_bytes(&self, alloc: Global, handle: FileBlockHandle) -> Result<Vec<u8>> {
         let file = b"small";
         Ok(Vec::from_slice(alloc, &file[..handle.len.min(5)])?)
     }
 
+    /// Returns a place in file 7, of the length that `bytes` have there. Keeps nothing.
     fn append<T: ReactiveBytes>(&self, queue: LogQueue, bytes: &mut T) -> Result<FileBlockHandle> {
         let id = FileId::new(queue, 7);
         let context = LogFileContext::new(id, Version::V2);
@@ -25,22 +31,27 @@ impl PipeLog for SmallPipe {
         Ok(FileBlockHandle { id, offset: 0, len })
     }
 
+    /// Does nothing.
     fn sync(&self, _queue: LogQueue) -> Result<()> {
         Ok(())
     }
 
+    /// Returns the numbers of the first and the last file of this small pipe, for either queue.
     fn file_span(&self, _queue: LogQueue) -> (FileSeq, FileSeq) {
         (3, 7)
     }
 
+    /// Returns 25: the pipe stands for five files of five bytes each.
     fn total_size(&self, _queue: LogQueue) -> usize {
         5 * 5
     }
 
+    /// Does nothing.
     fn rotate(&self, _queue: LogQueue) -> Result<()> {
         Ok(())
     }
 
+    /// Returns how many files are to go, 1 if `file_id` is above the first file, else 0. Deletes nothing.
     fn purge_to(&self, file_id: FileId) -> Result<usize> {
         Ok(usize::from(file_id.seq > 3))
     }
@@ -59,8 +70,9 @@ fn appended_len(mut bytes: &&str) -> Option<usize> {
     }
 }
 
+/// Tests which file a pipe names at a fraction of its files, and that bytes to append give their own length.
 #[test]
-fn pipes_are_asked_for_parts(rt: HostRuntime) {
+fn pipes_give_the_file_at_a_fraction(rt: HostRuntime) {
     assert_eq!(rt; small_file_at(0, 1), 3);
     assert_eq!(rt; small_file_at(1, 1), 8);
     for &(num, file) in &[(0, 3), (1, 5), (2, 8), (3, 8)] {
@@ -77,39 +89,41 @@ fn is_before(old: FileId, new: FileId) -> bool {
 }
 
 /// Returns the file that comes after the other.
-fn later(old: FileId, new: FileId) -> FileId {
+fn later_of(old: FileId, new: FileId) -> FileId {
     new.max(old)
 }
 
+/// Tests that files are ordered by queue and number, and that the queues have the numbers 0 and 1.
 #[test]
 fn files_and_queues_have_numbers(rt: HostRuntime) {
     let old = FileId::new(LogQueue::Rewrite, u64::MAX);
     let new = FileId::new(LogQueue::Append, 0);
     assert!(rt; is_before(old, new));
     assert!(rt; is_before(new, FileId::new(LogQueue::Append, 1)));
-    assert!(rt; later(old, new) == new);
+    assert!(rt; later_of(old, new) == new);
     assert!(rt; LogQueue::Append as u8 == 0);
     assert!(rt; LogQueue::Rewrite as u8 == 1);
 }
 
 /// Tests whether a version prints as a text.
-fn is_printed(version: Version, text: &str) -> bool {
+fn is_printed_as(version: Version, text: &str) -> bool {
     let printed = InlineText::<32>::of(version);
     printed.as_str() == text
 }
 
 /// Returns the version with a number; `None` where there is none.
-fn version_of(number: u64) -> Option<Version> {
+fn version_with_number(number: u64) -> Option<Version> {
     Version::from_u64(number)
 }
 
+/// Tests the number and the text of each version, whether it signs batches, and that other numbers are no version.
 #[test]
 fn versions_have_numbers(rt: HostRuntime) {
     for &(version, text, number, signs) in &[
         (Version::V1, "1", 1, false),
         (Version::V2, "2", 2, true),
     ] {
-        assert!(rt; is_printed(version, text));
+        assert!(rt; is_printed_as(version, text));
         assert!(rt; version.to_u64() == number);
         assert!(rt; version.has_log_signing() == signs);
     }
@@ -121,10 +135,11 @@ fn versions_have_numbers(rt: HostRuntime) {
         (3, None),
         (u64::MAX, None),
     ] {
-        assert!(rt; version_of(number) == version, "{number}");
+        assert!(rt; version_with_number(number) == version, "{number}");
     }
 }
 
+/// Tests that files of version 2 are signed by the low 32 bits of their number, and those of version 1 not at all.
 #[test]
 fn files_have_signatures(rt: HostRuntime) {
     for &(version, seq, signature) in &[

@@ -11,6 +11,7 @@ use std::fmt::InlineText;
 use std::str::{FromStr, from_utf8};
 use toml::Value;
 
+/// Tests that sizes print as the texts of the rows and are read from them, and that other texts are refused.
 #[test]
 fn sizes_are_printed_and_read(rt: HostRuntime) {
     let (printed_rows, read_rows, refused_rows) = rows::rows();
@@ -32,6 +33,7 @@ fn sizes_are_printed_and_read(rt: HostRuntime) {
 }
 
 // Tests exponents of a thousand nines: without a sign, and with each.
+/// Tests that a text with an exponent of a thousand digits is read as the greatest size, or as 0 with a minus sign.
 #[test]
 fn long_exponents_are_read(rt: HostRuntime) {
     let mut bytes = [b'9'; 1003];
@@ -52,6 +54,7 @@ fn long_exponents_are_read(rt: HostRuntime) {
     }
 }
 
+/// Tests the sizes in kilobytes, megabytes and gigabytes, and their divisions.
 #[test]
 fn sizes_are_calculated(rt: HostRuntime) {
     for &(size, number, megabytes) in &[
@@ -72,13 +75,14 @@ fn sizes_are_calculated(rt: HostRuntime) {
 
 /// Returns the size that a text stands for as a TOML value. Without memory for the value it is refused as an empty
 /// text.
-fn read_value(alloc: Global, text: &str) -> Result<ReadableSize, SizeError> {
+fn read_size_value(alloc: Global, text: &str) -> Result<ReadableSize, SizeError> {
     match Value::string(alloc, text) {
         Ok(value) => size_from_value(&value),
         Err(_) => Err(SizeError::Empty),
     }
 }
 
+/// Tests that sizes are read from numbers and texts of TOML, and from no other value.
 #[test]
 fn values_are_read(rt: HostRuntime) {
     assert_eq!(rt;
@@ -91,8 +95,8 @@ fn values_are_read(rt: HostRuntime) {
         Err(SizeError::Kind)
     );
     // Memory is refused once in a test at most.
-    let size = match read_value(rt.alloc(), "4KiB") {
-        Err(SizeError::Empty) => read_value(rt.alloc(), "4KiB"),
+    let size = match read_size_value(rt.alloc(), "4KiB") {
+        Err(SizeError::Empty) => read_size_value(rt.alloc(), "4KiB"),
         size => size,
     };
     assert_eq!(rt; size, Ok(ReadableSize(4096)));
@@ -106,19 +110,21 @@ impl Factory<ReadableSize> for Sizes {
 
     ghost may_refuse = { λ _ _. ⊥ };
 
+    /// Returns a copy of the size of this factory.
     fn new_target(&self, _alloc: Global) -> raft_base::Result<ReadableSize> {
         Ok(ReadableSize(self.0))
     }
 }
 
 /// Returns two values that a factory makes.
-fn two_of<T: Drop, F: Factory<T>>(alloc: Global, factory: &F) -> raft_base::Result<(T, T)> {
+fn make_two<T: Drop, F: Factory<T>>(alloc: Global, factory: &F) -> raft_base::Result<(T, T)> {
     Ok((factory.new_target(alloc)?, factory.new_target(alloc)?))
 }
 
+/// Tests that a factory makes a value at each call.
 #[test]
 fn factories_give_targets(rt: HostRuntime) {
-    let both = two_of(rt.alloc(), &Sizes(512)).ok();
+    let both = make_two(rt.alloc(), &Sizes(512)).ok();
     assert_eq!(rt; both, Some((ReadableSize(512), ReadableSize(512))));
 }
 
@@ -129,19 +135,21 @@ struct Settings {
 }
 
 /// Reads settings from a text, and returns the text that they are written as; `None` where one of both fails.
-fn rewritten(alloc: Global, text: &str) -> Option<String> {
+fn read_and_write_settings(alloc: Global, text: &str) -> Option<String> {
     let settings = toml::from_str::<Settings>(alloc, text).ok()?;
     toml::to_string(alloc, &settings).ok()
 }
 
 // Tests that settings go both ways, and faults in them are refused.
+/// Tests that settings with a size and a version are written as the text that they were read from, and faulty ones
+/// refused.
 #[test]
 fn settings_are_read_and_written(rt: HostRuntime) {
     let text = "limit = \"1536B\"\nformat = 2\n";
     // Memory is refused once in a test at most.
-    let mut answer = rewritten(rt.alloc(), text);
+    let mut answer = read_and_write_settings(rt.alloc(), text);
     if answer.is_none() {
-        answer = rewritten(rt.alloc(), text);
+        answer = read_and_write_settings(rt.alloc(), text);
     }
     assert!(rt; matches!(&answer, Some(written) if written.as_str() == text));
     for &fault in &[

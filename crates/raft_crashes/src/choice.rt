@@ -38,7 +38,12 @@ impl Choice {
     /// # Errors
     ///
     /// `Memory` alone.
-    pub(crate) fn draw(self, alloc: Global, dice: &mut Dice, records: &Records) -> Result<Change> {
+    pub(crate) fn draw_change(
+        self,
+        alloc: Global,
+        dice: &mut Dice,
+        records: &Records,
+    ) -> Result<Change> {
         Ok(match self {
             Choice::Any => Change::draw_any(alloc, dice, records)?,
             Choice::Replacement => Change::draw_replacement(alloc, dice, records)?,
@@ -46,7 +51,10 @@ impl Choice {
             Choice::Entries(first, end) => {
                 Change::Append(draw_entries_between(alloc, dice, first, end)?)
             }
-            Choice::SoundBatch(index, version) => one_entry(index, sound_batch(alloc, version)?)?,
+            Choice::SoundBatch(index, version) => append_of_one_entry(
+                index,
+                sound_batch_bytes(alloc, version)?,
+            )?,
             Choice::Put(value) => {
                 let value = Vec::from_slice(alloc, value.as_bytes())?;
                 Change::Put(Vec::from_slice(alloc, b"k")?, value)
@@ -75,7 +83,7 @@ fn draw_long_change(
     if records.entries.len() > 3 {
         return Ok(Change::Compact(end.saturating_sub(1)));
     }
-    one_entry(end, vec![in alloc; dice.draw_letter(); len]?)
+    append_of_one_entry(end, vec![in alloc; dice.draw_letter(); len]?)
 }
 
 /// Returns the change that appends one entry with the index `index` and the bytes `text`.
@@ -83,7 +91,7 @@ fn draw_long_change(
 /// # Errors
 ///
 /// `Memory` alone.
-fn one_entry(index: u64, text: Vec<u8>) -> Result<Change> {
+fn append_of_one_entry(index: u64, text: Vec<u8>) -> Result<Change> {
     let alloc = *text.allocator();
     Ok(Change::Append(vec![in alloc; Proposal { index, text }]?))
 }
@@ -94,7 +102,7 @@ fn one_entry(index: u64, text: Vec<u8>) -> Result<Change> {
 /// # Errors
 ///
 /// `Memory` alone.
-fn sound_batch(alloc: Global, version: Version) -> Result<Vec<u8>> {
+fn sound_batch_bytes(alloc: Global, version: Version) -> Result<Vec<u8>> {
     let mut batch = LogBatch::default(alloc);
     batch.put(
         1,

@@ -1,7 +1,7 @@
 //! Tries crashes: recovers what is left, opens it, and lets the openings crash too.
 
 use crate::disk::{Crash, Disk};
-use crate::found::{Way, open_found_files, records_of, recover_records};
+use crate::found::{Way, open_found_files, read_all_records, recover_records};
 use crate::noted_files::NotedFiles;
 use raft_base::{Error, LogQueue, Result};
 use raft_engine::Engine;
@@ -55,7 +55,7 @@ impl<'a, R: Host> Crashes<'a, R> {
                 self.try_crash(way, disk, crash, dice)?;
             }
         }
-        let crash = disk.draw(dice);
+        let crash = disk.draw_crash(dice);
         self.try_crash(way, disk, crash, dice)
     }
 
@@ -67,10 +67,10 @@ impl<'a, R: Host> Crashes<'a, R> {
     /// `Io` for the output; `Memory`.
     fn try_crash(&mut self, way: Way, disk: &Disk, crash: Crash, dice: &mut Dice) -> Result<()> {
         self.tried = self.tried.saturating_add(1);
-        let mut left = disk.disk_after(crash)?;
-        self.recover(way, &left)?;
+        let mut left = disk.disk_after_crash(crash)?;
+        self.recover_and_compare(way, &left)?;
         for _ in 0..RESTARTS {
-            match self.open(way, &mut left, dice)? {
+            match self.open_and_compare(way, &mut left, dice)? {
                 Some(next) => left = next,
                 None => return Ok(()),
             }
@@ -84,11 +84,11 @@ impl<'a, R: Host> Crashes<'a, R> {
     /// # Errors
     ///
     /// `Io` for the output; `Memory`.
-    fn recover(&mut self, way: Way, disk: &Disk) -> Result<()> {
+    fn recover_and_compare(&mut self, way: Way, disk: &Disk) -> Result<()> {
         self.recoveries = self.recoveries.saturating_add(1);
-        let (append, rewrite) = disk.untorn_files()?;
+        let (append, rewrite) = disk.copy_untorn_files()?;
         match recover_records(self.rt, self.alloc(), way, append, rewrite) {
-            Ok(contents) => self.compare_contents(&contents, disk.records(), "recovered"),
+            Ok(contents) => self.compare_contents(&contents, disk.synced_records(), "recovered"),
             Err(e) => self.count_refusal("not recovered", &e),
         }
     }
@@ -101,11 +101,16 @@ impl<'a, R: Host> Crashes<'a, R> {
     /// # Errors
     ///
     /// `Io` for the output; `Memory`.
-    fn open(&mut self, way: Way, disk: &mut Disk, dice: &mut Dice) -> Result<Option<Disk>> {
+    fn open_and_compare(
+        &mut self,
+        way: Way,
+        disk: &mut Disk,
+        dice: &mut Dice,
+    ) -> Result<Option<Disk>> {
         self.recoveries = self.recoveries.saturating_add(1);
-        let (append, rewrite) = disk.files()?;
+        let (append, rewrite) = disk.copy_files()?;
         match open_found_files(self.rt, self.alloc(), way, append, rewrite) {
-            Ok(mut engine) => self.crash_again(&mut engine, disk, dice),
+            Ok(mut engine) => self.compare_and_crash_opening(&mut engine, disk, dice),
             Err(e) => {
                 self.count_refusal("not opened", &e)?;
                 Ok(None)
@@ -121,14 +126,14 @@ impl<'a, R: Host> Crashes<'a, R> {
     /// # Errors
     ///
     /// `Io` for the output; `Memory`.
-    fn crash_again(
+    fn compare_and_crash_opening(
         &mut self,
         engine: &mut Engine<NotedFiles>,
         disk: &mut Disk,
         dice: &mut Dice,
     ) -> Result<Option<Disk>> {
-        match records_of(self.alloc(), engine) {
-            Ok(contents) => self.compare_contents(&contents, disk.records(), "opened")?,
+        match read_all_records(self.alloc(), engine) {
+            Ok(contents) => self.compare_contents(&contents, disk.synced_records(), "opened")?,
             Err(e) => self.count_refusal("not read", &e)?,
         }
         let asks = &engine.files().asks;
@@ -139,8 +144,8 @@ impl<'a, R: Host> Crashes<'a, R> {
         for ask in asks.iter().take(count.saturating_add(1)) {
             disk.apply_ask(ask, "")?;
         }
-        let crash = disk.draw(dice);
-        Ok(Some(disk.disk_after(crash)?))
+        let crash = disk.draw_crash(dice);
+        Ok(Some(disk.disk_after_crash(crash)?))
     }
 
     /// Counts a difference, and prints both texts, if `contents` aren't `wanted` as text. `how` says in the
@@ -151,7 +156,7 @@ impl<'a, R: Host> Crashes<'a, R> {
     /// `Io` for the output; `Memory`.
     fn compare_contents(&mut self, contents: &Contents, wanted: &str, how: &str) -> Result<()> {
         let found = describe_contents(self.alloc(), contents)?;
-        self.compare(found.as_str(), wanted, how)
+        self.compare_texts(found.as_str(), wanted, how)
     }
 
     /// Counts a difference, as something that had to succeed failed with `error`. Prints `how`, which says
@@ -171,7 +176,7 @@ impl<'a, R: Host> Crashes<'a, R> {
     /// # Errors
     ///
     /// `Io` for the output; `Memory`.
-    pub(crate) fn compare(&mut self, found: &str, wanted: &str, how: &str) -> Result<()> {
+    pub(crate) fn compare_texts(&mut self, found: &str, wanted: &str, how: &str) -> Result<()> {
         if found == wanted {
             return Ok(());
         }
@@ -197,7 +202,7 @@ impl<'a, R: Host> Crashes<'a, R> {
     /// # Errors
     ///
     /// `Io` for the output.
-    pub(crate) fn print_place(&self, kind: &str, number: u64, step: u64) -> Result<()> {
+    pub(crate) fn print_where_different(&self, kind: &str, number: u64, step: u64) -> Result<()> {
         Ok(println!(self.rt; "so in the history of {kind} {number}, step {step}")?)
     }
 

@@ -48,7 +48,7 @@ impl Disk {
     /// # Errors
     ///
     /// `Memory` alone.
-    pub(crate) fn disk_after(&self, crash: Crash) -> Result<Disk> {
+    pub(crate) fn disk_after_crash(&self, crash: Crash) -> Result<Disk> {
         let alloc = self.append.alloc();
         let records = match self
             .prefix_records
@@ -58,14 +58,14 @@ impl Disk {
             None => String::new(alloc),
         };
         Ok(Disk {
-            append: self.append.disk_after(crash.append)?,
-            rewrite: self.rewrite.disk_after(crash.rewrite)?,
+            append: self.append.disk_after_crash(crash.append)?,
+            rewrite: self.rewrite.disk_after_crash(crash.rewrite)?,
             prefix_records: vec![in alloc; records]?,
         })
     }
 
     /// Returns what the disk holds of `queue`.
-    fn queue(&self, queue: LogQueue) -> &QueueDisk {
+    fn queue_disk(&self, queue: LogQueue) -> &QueueDisk {
         match queue {
             LogQueue::Append => &self.append,
             LogQueue::Rewrite => &self.rewrite,
@@ -84,7 +84,7 @@ impl Disk {
             LogQueue::Rewrite => self.rewrite.apply_act(&ask.act)?,
         }
         if ask.queue == LogQueue::Append {
-            self.note_records(&ask.act, records)?;
+            self.note_prefix_records(&ask.act, records)?;
         }
         Ok(())
     }
@@ -96,7 +96,7 @@ impl Disk {
     /// # Errors
     ///
     /// `Memory` alone.
-    fn note_records(&mut self, act: &Act, records: &str) -> Result<()> {
+    fn note_prefix_records(&mut self, act: &Act, records: &str) -> Result<()> {
         let alloc = self.append.alloc();
         match act {
             Act::Put(_) => self.prefix_records.push(String::from_str(alloc, records)?)?,
@@ -113,16 +113,16 @@ impl Disk {
     /// Returns the crash that loses nothing of either queue.
     pub(crate) fn lossless_crash(&self) -> Crash {
         Crash {
-            append: self.append.whole(),
-            rewrite: self.rewrite.whole(),
+            append: self.append.lossless_rest(),
+            rewrite: self.rewrite.lossless_rest(),
         }
     }
 
     /// Draws a crash. What it leaves of one queue says nothing of the other.
-    pub(crate) fn draw(&self, dice: &mut Dice) -> Crash {
+    pub(crate) fn draw_crash(&self, dice: &mut Dice) -> Crash {
         Crash {
-            append: self.append.draw(dice),
-            rewrite: self.rewrite.draw(dice),
+            append: self.append.draw_rest(dice),
+            rewrite: self.rewrite.draw_rest(dice),
         }
     }
 
@@ -135,9 +135,9 @@ impl Disk {
     /// `Memory` alone.
     pub(crate) fn crashes_of_queue(&self, queue: LogQueue) -> Result<Vec<Crash>> {
         let mut crashes = Vec::new(self.append.alloc());
-        for left in self.queue(queue).possible_rests()? {
-            let other = self.queue(queue.other());
-            for end in [other.prefix(other.synced), other.whole()] {
+        for left in self.queue_disk(queue).possible_rests()? {
+            let other = self.queue_disk(queue.other());
+            for end in [other.rest_with_prefix(other.synced), other.lossless_rest()] {
                 crashes.push(match queue {
                     LogQueue::Append => Crash {
                         append: left,
@@ -154,7 +154,7 @@ impl Disk {
     }
 
     /// Returns the text of the records that the synced batches of the append queue give.
-    pub(crate) fn records(&self) -> &str {
+    pub(crate) fn synced_records(&self) -> &str {
         match self.prefix_records.first() {
             Some(records) => records.as_str(),
             None => "",
@@ -167,9 +167,12 @@ impl Disk {
     /// # Errors
     ///
     /// `Memory` alone.
-    pub(crate) fn files(&self) -> Result<(LogFiles, LogFiles)> {
-        let append = self.append.files_left(self.append.whole())?;
-        Ok((append, self.rewrite.files_left(self.rewrite.whole())?))
+    pub(crate) fn copy_files(&self) -> Result<(LogFiles, LogFiles)> {
+        let append = self.append.copy_files_left(self.append.lossless_rest())?;
+        Ok((
+            append,
+            self.rewrite.copy_files_left(self.rewrite.lossless_rest())?,
+        ))
     }
 
     /// Returns copies of the files of the append queue and of those of the rewrite queue. The last one of
@@ -178,8 +181,11 @@ impl Disk {
     /// # Errors
     ///
     /// `Memory` alone.
-    pub(crate) fn untorn_files(&self) -> Result<(LogFiles, LogFiles)> {
-        Ok((self.append.untorn_files()?, self.rewrite.untorn_files()?))
+    pub(crate) fn copy_untorn_files(&self) -> Result<(LogFiles, LogFiles)> {
+        Ok((
+            self.append.copy_untorn_files()?,
+            self.rewrite.copy_untorn_files()?,
+        ))
     }
 
     /// Returns copies of the files of both queues in which the first of two or more unsynced batches of the
@@ -189,11 +195,11 @@ impl Disk {
     /// # Errors
     ///
     /// `Memory` alone.
-    pub(crate) fn with_lost_page(&self) -> Result<Option<(LogFiles, LogFiles)>> {
+    pub(crate) fn copy_files_with_lost_page(&self) -> Result<Option<(LogFiles, LogFiles)>> {
         let [end, _, ..] = self.append.ends.as_slice() else {
             return Ok(None);
         };
-        let (mut append, rewrite) = self.files()?;
+        let (mut append, rewrite) = self.copy_files()?;
         let begin = self.append.synced.saturating_add(HEADER_LEN);
         if let Some(last) = append.last_mut() {
             let len = end.saturating_sub(begin);

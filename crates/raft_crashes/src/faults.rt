@@ -228,7 +228,7 @@ pub(crate) fn try_written_histories<R: Host>(crashes: &mut Crashes<'_, R>) -> Re
         for workers in [1, 4] {
             for steps in &FAULTS {
                 let way = Way { version, workers };
-                take_history(crashes, way, steps, count)?;
+                run_history(crashes, way, steps, count)?;
                 count = count.saturating_add(1);
             }
         }
@@ -242,7 +242,7 @@ pub(crate) fn try_written_histories<R: Host>(crashes: &mut Crashes<'_, R>) -> Re
 /// # Errors
 ///
 /// `Io` for the output; `Memory`; those of beginning the history.
-fn take_history<R: Host>(
+fn run_history<R: Host>(
     crashes: &mut Crashes<'_, R>,
     way: Way,
     steps: &[Step],
@@ -250,16 +250,16 @@ fn take_history<R: Host>(
 ) -> Result<()> {
     let different = crashes.different;
     let mut history = History::begin(crashes, number, way, way.workers == 1)?;
-    take_steps(crashes, &mut history, steps, number, different)
+    run_steps(crashes, &mut history, steps, number, different)
 }
 
-/// Takes the `steps` of a history one after another, and at the end tries a lost page ([`lose_page`]). Stops,
+/// Takes the `steps` of a history one after another, and at the end tries a lost page ([`check_lost_page_is_refused`]). Stops,
 /// and prints the `number` of the history and the step, once there are more than `different` differences.
 ///
 /// # Errors
 ///
 /// `Io` for the output; `Memory`. An error of a step counts as a difference.
-fn take_steps<R: Host>(
+fn run_steps<R: Host>(
     crashes: &mut Crashes<'_, R>,
     history: &mut History,
     steps: &[Step],
@@ -267,13 +267,13 @@ fn take_steps<R: Host>(
     different: u64,
 ) -> Result<()> {
     for (at, step) in steps.iter().enumerate() {
-        let taken = take_step(crashes, history, *step);
+        let taken = run_step(crashes, history, *step);
         crashes.check_success(taken)?;
         if crashes.different > different {
-            return crashes.print_place("fault", number, at as u64);
+            return crashes.print_where_different("fault", number, at as u64);
         }
     }
-    lose_page(crashes, history)
+    check_lost_page_is_refused(crashes, history)
 }
 
 /// Takes one `step` of a history: calls the engine, and tries crashes after each ask of its files.
@@ -281,20 +281,20 @@ fn take_steps<R: Host>(
 /// # Errors
 ///
 /// Those of the engine's call; those of reading the records; `Io` for the output; `Memory`.
-fn take_step<R: Host>(
+fn run_step<R: Host>(
     crashes: &mut Crashes<'_, R>,
     history: &mut History,
     step: Step,
 ) -> Result<()> {
     match step {
-        Write(choices) => write_changes(crashes, history, choices, false),
-        Synced(choices) => write_changes(crashes, history, choices, true),
+        Write(choices) => write_changes_of_region_1(crashes, history, choices, false),
+        Synced(choices) => write_changes_of_region_1(crashes, history, choices, true),
         Sync => history.sync(crashes),
         Rotate => history.rotate(crashes),
-        Rewrite(gate) => history.rewrite(crashes, gate),
+        Rewrite(gate) => history.rewrite_up_to(crashes, gate),
         Again => history.move_rewritten_records(crashes),
-        Purge => history.purge(crashes, LogQueue::Append),
-        PurgeRewrites => history.purge(crashes, LogQueue::Rewrite),
+        Purge => history.purge_queue(crashes, LogQueue::Append),
+        PurgeRewrites => history.purge_queue(crashes, LogQueue::Rewrite),
         Restart => history.restart(crashes),
     }
 }
@@ -304,7 +304,7 @@ fn take_step<R: Host>(
 /// # Errors
 ///
 /// Those of [`History::write`]; `Memory`.
-fn write_changes<R: Host>(
+fn write_changes_of_region_1<R: Host>(
     crashes: &mut Crashes<'_, R>,
     history: &mut History,
     choices: &[Choice],
@@ -324,8 +324,11 @@ fn write_changes<R: Host>(
 /// # Errors
 ///
 /// Any other refusal of the opening; `Io` for the output; `Memory`.
-fn lose_page<R: Host>(crashes: &mut Crashes<'_, R>, history: &History) -> Result<()> {
-    let Some((append, rewrite)) = history.disk.with_lost_page()? else {
+fn check_lost_page_is_refused<R: Host>(
+    crashes: &mut Crashes<'_, R>,
+    history: &History,
+) -> Result<()> {
+    let Some((append, rewrite)) = history.disk.copy_files_with_lost_page()? else {
         return Ok(());
     };
     match open_found_files(crashes.rt, crashes.rt.alloc(), history.way, append, rewrite) {

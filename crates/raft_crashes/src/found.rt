@@ -48,11 +48,11 @@ pub(crate) fn open_found_files<R: Threads + Sync>(
 /// # Errors
 ///
 /// Those of the engine's readings; `Memory`.
-pub(crate) fn records_of(alloc: Global, engine: &mut Engine<NotedFiles>) -> Result<Contents> {
-    let regions = regions_of(alloc, engine.accessor())?;
+pub(crate) fn read_all_records(alloc: Global, engine: &mut Engine<NotedFiles>) -> Result<Contents> {
+    let regions = regions_with_tables(alloc, engine.accessor())?;
     let mut contents = BTreeMap::new(alloc);
     for region in &regions {
-        let _ = contents.insert(*region, records_of_region(alloc, engine, *region)?)?;
+        let _ = contents.insert(*region, read_region_records(alloc, engine, *region)?)?;
     }
     Ok(contents)
 }
@@ -62,16 +62,16 @@ pub(crate) fn records_of(alloc: Global, engine: &mut Engine<NotedFiles>) -> Resu
 /// # Errors
 ///
 /// Those of the engine's readings; `Memory`.
-fn records_of_region(
+fn read_region_records(
     alloc: Global,
     engine: &mut Engine<NotedFiles>,
     region: u64,
 ) -> Result<Records> {
     let mut records = Records::new(alloc);
-    read_entries(alloc, engine, region, &mut records)?;
+    read_region_entries(alloc, engine, region, &mut records)?;
     let mut kept = Ok(());
     engine.scan(region, None, None, false, |key, value| {
-        kept = put_copy(alloc, &mut records, key, value);
+        kept = put_pair_copy(alloc, &mut records, key, value);
         kept.is_ok()
     })?;
     kept?;
@@ -83,7 +83,7 @@ fn records_of_region(
 /// # Errors
 ///
 /// Those of the engine's readings; `Memory`.
-fn read_entries(
+fn read_region_entries(
     alloc: Global,
     engine: &mut Engine<NotedFiles>,
     region: u64,
@@ -120,7 +120,7 @@ fn fetch_entries(
 ///
 /// # Errors
 ///
-/// Those of [`recover_both`] and of [`bytes_of_entry`].
+/// Those of [`recover_both`] and of [`read_entry_bytes`].
 pub(crate) fn recover_records<R: Threads + Sync>(
     rt: &R,
     alloc: Global,
@@ -137,15 +137,15 @@ pub(crate) fn recover_records<R: Threads + Sync>(
 ///
 /// # Errors
 ///
-/// Those of [`recover_both`] and of [`bytes_of_entry`].
+/// Those of [`recover_both`] and of [`read_entry_bytes`].
 fn recover_records_of_files<R: Threads + Sync>(
     rt: &R,
     alloc: Global,
     way: Way,
     files: &MemoryFiles,
 ) -> Result<Contents> {
-    let tables = tables_of(rt, alloc, way, files)?;
-    contents_of_tables(alloc, files, &tables)
+    let tables = recover_tables(rt, alloc, way, files)?;
+    read_contents_of_tables(alloc, files, &tables)
 }
 
 /// Recovers the tables of both queues of `files`, with the version and the workers of `way`.
@@ -153,14 +153,14 @@ fn recover_records_of_files<R: Threads + Sync>(
 /// # Errors
 ///
 /// Those of [`recover_both`]; `Memory`.
-fn tables_of<R: Threads + Sync>(
+fn recover_tables<R: Threads + Sync>(
     rt: &R,
     alloc: Global,
     way: Way,
     files: &MemoryFiles,
 ) -> Result<MemTableAccessor> {
-    let append = segments_of(way, files, LogQueue::Append)?;
-    let rewrite = segments_of(way, files, LogQueue::Rewrite)?;
+    let append = copy_queue_segments(way, files, LogQueue::Append)?;
+    let rewrite = copy_queue_segments(way, files, LogQueue::Rewrite)?;
     recover_both(
         rt,
         alloc,
@@ -175,7 +175,7 @@ fn tables_of<R: Threads + Sync>(
 /// # Errors
 ///
 /// `Memory` alone.
-fn segments_of(way: Way, files: &MemoryFiles, queue: LogQueue) -> Result<Vec<Segment>> {
+fn copy_queue_segments(way: Way, files: &MemoryFiles, queue: LogQueue) -> Result<Vec<Segment>> {
     file_segments(queue, way.version, files.copies(queue)?)
 }
 
@@ -183,17 +183,17 @@ fn segments_of(way: Way, files: &MemoryFiles, queue: LogQueue) -> Result<Vec<Seg
 ///
 /// # Errors
 ///
-/// Those of [`bytes_of_entry`]; `Memory`.
-fn contents_of_tables(
+/// Those of [`read_entry_bytes`]; `Memory`.
+fn read_contents_of_tables(
     alloc: Global,
     files: &MemoryFiles,
     tables: &MemTableAccessor,
 ) -> Result<Contents> {
-    let regions = regions_of(alloc, tables)?;
+    let regions = regions_with_tables(alloc, tables)?;
     let mut contents = BTreeMap::new(alloc);
     for region in &regions {
         if let Some(table) = tables.get(*region) {
-            let _ = contents.insert(*region, records_of_table(alloc, files, table)?)?;
+            let _ = contents.insert(*region, read_table_records(alloc, files, table)?)?;
         }
     }
     Ok(contents)
@@ -204,7 +204,7 @@ fn contents_of_tables(
 /// # Errors
 ///
 /// `Memory` alone.
-fn regions_of(alloc: Global, accessor: &MemTableAccessor) -> Result<Vec<u64>> {
+fn regions_with_tables(alloc: Global, accessor: &MemTableAccessor) -> Result<Vec<u64>> {
     let mut regions = Vec::new(alloc);
     for table in accessor.tables()? {
         regions.push(table.region_id())?;
@@ -217,7 +217,7 @@ fn regions_of(alloc: Global, accessor: &MemTableAccessor) -> Result<Vec<u64>> {
 /// # Errors
 ///
 /// `Memory` alone.
-fn put_copy(alloc: Global, records: &mut Records, key: &[u8], value: &[u8]) -> Result<()> {
+fn put_pair_copy(alloc: Global, records: &mut Records, key: &[u8], value: &[u8]) -> Result<()> {
     let (key, value) = (Vec::from_slice(alloc, key)?, Vec::from_slice(alloc, value)?);
     let _ = records.pairs.insert(key, value)?;
     Ok(())
@@ -227,11 +227,11 @@ fn put_copy(alloc: Global, records: &mut Records, key: &[u8], value: &[u8]) -> R
 ///
 /// # Errors
 ///
-/// Those of [`bytes_of_entry`]; `Memory`.
-fn records_of_table(alloc: Global, files: &MemoryFiles, table: &MemTable) -> Result<Records> {
+/// Those of [`read_entry_bytes`]; `Memory`.
+fn read_table_records(alloc: Global, files: &MemoryFiles, table: &MemTable) -> Result<Records> {
     let mut records = Records::new(alloc);
     for entry in &table_entries(alloc, table)? {
-        let bytes = bytes_of_entry(alloc, files, entry)?;
+        let bytes = read_entry_bytes(alloc, files, entry)?;
         let _ = records.entries.insert(entry.index, bytes)?;
     }
     records.put_pairs_of_table(alloc, table)?;
@@ -243,9 +243,9 @@ fn records_of_table(alloc: Global, files: &MemoryFiles, table: &MemTable) -> Res
 /// # Errors
 ///
 /// `EntryNotFound` if the files have no such place; those of decoding its block; `Memory`.
-fn bytes_of_entry(alloc: Global, files: &MemoryFiles, entry: &EntryIndex) -> Result<Vec<u8>> {
+fn read_entry_bytes(alloc: Global, files: &MemoryFiles, entry: &EntryIndex) -> Result<Vec<u8>> {
     let place = entry.entries.ok_or(Error::EntryNotFound)?;
-    let file = file_bytes(files, place.id).ok_or(Error::EntryNotFound)?;
+    let file = find_file_bytes(files, place.id).ok_or(Error::EntryNotFound)?;
     let (_, behind) = file
         .split_at_checked(place.offset as usize)
         .ok_or(Error::EntryNotFound)?;
@@ -255,7 +255,7 @@ fn bytes_of_entry(alloc: Global, files: &MemoryFiles, entry: &EntryIndex) -> Res
 }
 
 /// Returns the bytes of the file `id`, or `None` if it isn't there.
-fn file_bytes(files: &MemoryFiles, id: FileId) -> Option<&[u8]> {
+fn find_file_bytes(files: &MemoryFiles, id: FileId) -> Option<&[u8]> {
     for (seq, bytes) in files.files(id.queue) {
         if *seq == id.seq {
             return Some(bytes.as_slice());

@@ -6,7 +6,7 @@ ghost use Rattle.raft_records.specs.LogBatch.{is_open};
 use crate::choice::Choice;
 use crate::crashes::{Crashes, Host};
 use crate::disk::{Crash, Disk};
-use crate::found::{Way, open_found_files, records_of};
+use crate::found::{Way, open_found_files, read_all_records};
 use crate::noted_files::NotedFiles;
 use raft_base::{FileSeq, LogQueue, Result, Version};
 use raft_engine::Engine;
@@ -83,7 +83,7 @@ impl History {
     /// Those of reading the records; `Io` for the output; `Memory`.
     fn end_step<R: Host>(&mut self, crashes: &mut Crashes<'_, R>) -> Result<()> {
         let wanted = describe_contents(self.alloc, &self.kept)?;
-        self.compare(crashes, wanted.as_str())?;
+        self.compare_with_engine(crashes, wanted.as_str())?;
         self.apply_asks(crashes, wanted.as_str())
     }
 
@@ -93,10 +93,14 @@ impl History {
     /// # Errors
     ///
     /// Those of reading the records; `Io` for the output; `Memory`.
-    fn compare<R: Host>(&mut self, crashes: &mut Crashes<'_, R>, wanted: &str) -> Result<()> {
-        let contents = records_of(self.alloc, &mut self.engine)?;
+    fn compare_with_engine<R: Host>(
+        &mut self,
+        crashes: &mut Crashes<'_, R>,
+        wanted: &str,
+    ) -> Result<()> {
+        let contents = read_all_records(self.alloc, &mut self.engine)?;
         let found = describe_contents(self.alloc, &contents)?;
-        crashes.compare(found.as_str(), wanted, "kept")
+        crashes.compare_texts(found.as_str(), wanted, "kept")
     }
 
     /// Applies what was asked of the files since the last call to the disk, oldest first, and tries crashes
@@ -130,7 +134,7 @@ impl History {
     ) -> Result<()> {
         let mut batch = LogBatch::default(self.alloc);
         for choice in choices {
-            self.add(&mut batch, choice.0, choice.1)?;
+            self.add_change(&mut batch, choice.0, choice.1)?;
         }
         self.engine.write(&mut batch, sync)?;
         self.end_step(crashes)
@@ -142,12 +146,12 @@ impl History {
     /// # Errors
     ///
     /// `Memory`; those of the batch's call. The change may have been made in one of the two then.
-    fn add(&mut self, batch: &mut LogBatch, region: u64, choice: Choice) -> Result<()>
+    fn add_change(&mut self, batch: &mut LogBatch, region: u64, choice: Choice) -> Result<()>
         requires { batch.old.stage ≡ is_open }
         ensures { OnOk result (batch.new.stage ≡ is_open) }
     {
         let records = get_or_insert_records(self.alloc, &mut self.kept, region)?;
-        let change = choice.draw(self.alloc, &mut self.dice, records)?;
+        let change = choice.draw_change(self.alloc, &mut self.dice, records)?;
         change.add_to_batch_and_records(batch, region, records)
     }
 
@@ -176,7 +180,7 @@ impl History {
     /// # Errors
     ///
     /// Those of [`Engine::rewrite`]; those of reading the records; `Io` for the output; `Memory`.
-    pub(crate) fn rewrite<R: Host>(
+    pub(crate) fn rewrite_up_to<R: Host>(
         &mut self,
         crashes: &mut Crashes<'_, R>,
         gate: FileSeq,
@@ -203,7 +207,7 @@ impl History {
     /// # Errors
     ///
     /// Those of the engine's purge; those of reading the records; `Io` for the output; `Memory`.
-    pub(crate) fn purge<R: Host>(
+    pub(crate) fn purge_queue<R: Host>(
         &mut self,
         crashes: &mut Crashes<'_, R>,
         queue: LogQueue,
@@ -230,8 +234,8 @@ impl History {
     /// # Errors
     ///
     /// Those of opening the files; those of reading the records; `Io` for the output; `Memory`.
-    pub(crate) fn crash<R: Host>(&mut self, crashes: &mut Crashes<'_, R>) -> Result<()> {
-        let crash = self.disk.draw(&mut self.dice);
+    pub(crate) fn crash_and_reopen<R: Host>(&mut self, crashes: &mut Crashes<'_, R>) -> Result<()> {
+        let crash = self.disk.draw_crash(&mut self.dice);
         self.reopen(crashes, crash)
     }
 
@@ -242,11 +246,11 @@ impl History {
     ///
     /// Those of opening the files; those of reading the records; `Io` for the output; `Memory`.
     fn reopen<R: Host>(&mut self, crashes: &mut Crashes<'_, R>, crash: Crash) -> Result<()> {
-        self.disk = self.disk.disk_after(crash)?;
-        self.open_disk(crashes.rt)?;
+        self.disk = self.disk.disk_after_crash(crash)?;
+        self.open_engine_over_disk(crashes.rt)?;
         self.taken = 0;
-        self.kept = records_of(self.alloc, &mut self.engine)?;
-        self.compare_opened(crashes)?;
+        self.kept = read_all_records(self.alloc, &mut self.engine)?;
+        self.compare_opened_records(crashes)?;
         self.end_step(crashes)
     }
 
@@ -255,8 +259,8 @@ impl History {
     /// # Errors
     ///
     /// Those of [`open_found_files`]; `Memory`. The old engine stays then.
-    fn open_disk<R: Host>(&mut self, rt: &R) -> Result<()> {
-        let (append, rewrite) = self.disk.files()?;
+    fn open_engine_over_disk<R: Host>(&mut self, rt: &R) -> Result<()> {
+        let (append, rewrite) = self.disk.copy_files()?;
         self.engine = open_found_files(rt, self.alloc, self.way, append, rewrite)?;
         Ok(())
     }
@@ -267,9 +271,9 @@ impl History {
     /// # Errors
     ///
     /// `Io` for the output; `Memory`.
-    fn compare_opened<R: Host>(&self, crashes: &mut Crashes<'_, R>) -> Result<()> {
+    fn compare_opened_records<R: Host>(&self, crashes: &mut Crashes<'_, R>) -> Result<()> {
         let found = describe_contents(self.alloc, &self.kept)?;
-        crashes.compare(found.as_str(), self.disk.records(), "opened again")
+        crashes.compare_texts(found.as_str(), self.disk.synced_records(), "opened again")
     }
 
     /// Returns the number of the last append file, to which batches are written, or 0 if there is none.

@@ -48,7 +48,7 @@ impl NotedFiles {
     /// # Errors
     ///
     /// `Memory` alone. The act isn't noted then.
-    fn note(&mut self, queue: LogQueue, act: Act) -> Result<()>
+    fn note_act(&mut self, queue: LogQueue, act: Act) -> Result<()>
         ensures { self.new.files ≡ self.old.files }
     {
         Ok(self.asks.push(Ask { queue, act })?)
@@ -74,6 +74,7 @@ impl EngineFiles for NotedFiles {
     ///
     /// # Errors
     ///
+<<<<<<< HEAD
     /// `Memory`; those of the files in memory, which are unchanged then. The ask isn't noted.
     fn append(&mut self, queue: LogQueue, bytes: &[u8]) -> std::result::Result<(), AppendError> {
         if let Err(error) = self.note_put(queue, bytes) {
@@ -84,6 +85,13 @@ impl EngineFiles for NotedFiles {
             let _undone = self.asks.pop();
         }
         put
+=======
+    /// `Memory`; those of the files in memory, which are unchanged then. The ask may be noted.
+    fn append(&mut self, queue: LogQueue, bytes: &[u8]) -> Result<()> {
+        let alloc: Global = *self.asks.allocator();
+        self.note_act(queue, Act::Put(Vec::from_slice(alloc, bytes)?))?;
+        self.files.append(queue, bytes)
+>>>>>>> 364ff092c1cba09897d9009f8cd45addd218a3af
     }
 
     /// Notes that a file is begun, and begins it as the last one of `queue`, numbered `seq`. The bytes of the
@@ -93,7 +101,7 @@ impl EngineFiles for NotedFiles {
     ///
     /// `Memory`; those of the files in memory, which are unchanged then. The ask may be noted.
     fn rotate(&mut self, queue: LogQueue, seq: FileSeq) -> Result<()> {
-        self.note(queue, Act::Begin(seq))?;
+        self.note_act(queue, Act::Begin(seq))?;
         self.files.rotate(queue, seq)
     }
 
@@ -104,7 +112,7 @@ impl EngineFiles for NotedFiles {
     ///
     /// `Memory`; those of the files in memory. The ask may be noted then.
     fn sync(&mut self, queue: LogQueue) -> Result<()> {
-        self.note(queue, Act::Sync)?;
+        self.note_act(queue, Act::Sync)?;
         self.files.sync(queue)
     }
 
@@ -114,7 +122,7 @@ impl EngineFiles for NotedFiles {
     ///
     /// `Memory`; those of the files in memory, which are unchanged then. The ask may be noted.
     fn delete_oldest(&mut self, queue: LogQueue) -> Result<()> {
-        self.note(queue, Act::Delete)?;
+        self.note_act(queue, Act::Delete)?;
         self.files.delete_oldest(queue)
     }
 
@@ -124,7 +132,7 @@ impl EngineFiles for NotedFiles {
     ///
     /// `Memory`; those of the files in memory, which are unchanged then. The ask may be noted.
     fn truncate(&mut self, queue: LogQueue, len: u64) -> Result<()> {
-        self.note(queue, Act::Cut(len))?;
+        self.note_act(queue, Act::Cut(len))?;
         self.files.truncate(queue, len)
     }
 

@@ -65,10 +65,10 @@ impl QueueDisk {
     /// # Errors
     ///
     /// `Memory` alone.
-    pub(crate) fn disk_after(&self, left: Rest) -> Result<QueueDisk> {
+    pub(crate) fn disk_after_crash(&self, left: Rest) -> Result<QueueDisk> {
         let mut disk = QueueDisk::new(self.alloc());
-        disk.files = self.files_left(left)?;
-        disk.synced = disk.len();
+        disk.files = self.copy_files_left(left)?;
+        disk.synced = disk.last_file_len();
         disk.whole = self.whole_batches_len(left).min(disk.synced);
         Ok(disk)
     }
@@ -79,7 +79,7 @@ impl QueueDisk {
     }
 
     /// Returns how many bytes the last file has, or 0 if there are no files.
-    fn len(&self) -> usize {
+    fn last_file_len(&self) -> usize {
         self.files.last().map_or(0, |file| file.1.len())
     }
 
@@ -91,17 +91,17 @@ impl QueueDisk {
     /// `Memory` alone. The files may have been changed then.
     pub(crate) fn apply_act(&mut self, act: &Act) -> Result<()> {
         match act {
-            Act::Put(bytes) => self.put_batch(bytes)?,
+            Act::Put(bytes) => self.append_batch(bytes)?,
             Act::Begin(seq) => {
                 let file = Vec::new(self.alloc());
                 self.files.push((*seq, file))?;
-                self.note_synced(0);
+                self.note_synced_len(0);
                 self.is_new = true;
             }
             Act::Sync => {
-                self.drop_deleted();
-                let len = self.len();
-                self.note_synced(len);
+                self.drop_deleted_files();
+                let len = self.last_file_len();
+                self.note_synced_len(len);
             }
             Act::Delete => self.deleted = self.deleted.saturating_add(1),
             Act::Cut(len) => self.cut_last_file(*len as usize)?,
@@ -114,7 +114,7 @@ impl QueueDisk {
     /// # Errors
     ///
     /// `Memory` alone.
-    fn put_batch(&mut self, bytes: &[u8]) -> Result<()> {
+    fn append_batch(&mut self, bytes: &[u8]) -> Result<()> {
         if let Some(last) = self.files.last_mut() {
             last.1.extend_from_slice(bytes)?;
             self.ends.push(last.1.len())?;
@@ -123,7 +123,7 @@ impl QueueDisk {
     }
 
     /// Notes that the last file, and its first `synced` bytes, survive a crash from now on.
-    fn note_synced(&mut self, synced: usize) {
+    fn note_synced_len(&mut self, synced: usize) {
         self.synced = synced;
         self.whole = synced;
         self.ends.clear();
@@ -132,7 +132,7 @@ impl QueueDisk {
     }
 
     /// Drops the files that were deleted: their deletion survives a crash from now on.
-    fn drop_deleted(&mut self) {
+    fn drop_deleted_files(&mut self) {
         for _ in 0..self.deleted {
             if !self.files.is_empty() {
                 let _ = self.files.remove(0);
@@ -152,19 +152,19 @@ impl QueueDisk {
         if let Some(last) = self.files.last_mut() {
             let uncut = Vec::from_slice(alloc, &last.1)?;
             last.1.truncate(len);
-            self.note_synced(len);
+            self.note_synced_len(len);
             self.uncut = Some(uncut);
         }
         Ok(())
     }
 
     /// Returns what a crash leaves that loses nothing.
-    pub(crate) fn whole(&self) -> Rest {
-        self.prefix(self.len())
+    pub(crate) fn lossless_rest(&self) -> Rest {
+        self.rest_with_prefix(self.last_file_len())
     }
 
     /// Returns what a crash leaves that loses no deletion, and leaves the first `len` bytes of the last file.
-    pub(crate) fn prefix(&self, len: usize) -> Rest {
+    pub(crate) fn rest_with_prefix(&self, len: usize) -> Rest {
         Rest {
             gone: self.deleted,
             tail: Tail::Prefix(len),
@@ -173,7 +173,7 @@ impl QueueDisk {
 
     /// Draws what a crash leaves: how many of the unsynced deletions it doesn't lose, and what of the last
     /// file.
-    pub(crate) fn draw(&self, dice: &mut Dice) -> Rest {
+    pub(crate) fn draw_rest(&self, dice: &mut Dice) -> Rest {
         let gone = dice.draw_below((self.deleted as u64).saturating_add(1)) as usize;
         Rest {
             gone,
@@ -185,7 +185,7 @@ impl QueueDisk {
     /// one, at the synced bytes or at the end. Sometimes it is nothing, if the file is new, or the bytes
     /// before a cut, if it was cut.
     fn draw_tail(&self, dice: &mut Dice) -> Tail {
-        let unsynced = self.len().saturating_sub(self.synced) as u64;
+        let unsynced = self.last_file_len().saturating_sub(self.synced) as u64;
         let drawn = dice.draw_below(unsynced.saturating_add(1)) as usize;
         let len = self.synced.saturating_add(drawn);
         match dice.draw_below(8) {
@@ -194,7 +194,7 @@ impl QueueDisk {
             2 | 3 => Tail::Prefix(self.synced),
             4 => Tail::Prefix(len),
             5 | 6 => Tail::Prefix(self.whole_prefix_len(len)),
-            _ => Tail::Prefix(self.len()),
+            _ => Tail::Prefix(self.last_file_len()),
         }
     }
 
@@ -211,7 +211,7 @@ impl QueueDisk {
         for gone in 0..gone {
             rests.push(Rest {
                 gone,
-                tail: Tail::Prefix(self.len()),
+                tail: Tail::Prefix(self.last_file_len()),
             })?;
         }
         if self.is_new {
@@ -226,9 +226,9 @@ impl QueueDisk {
                 tail: Tail::Uncut,
             })?;
         }
-        let begin = self.whole_prefix_len(self.len().saturating_sub(1));
-        for len in begin..=self.len() {
-            rests.push(self.prefix(len))?;
+        let begin = self.whole_prefix_len(self.last_file_len().saturating_sub(1));
+        for len in begin..=self.last_file_len() {
+            rests.push(self.rest_with_prefix(len))?;
         }
         Ok(rests)
     }
@@ -257,7 +257,7 @@ impl QueueDisk {
     /// # Errors
     ///
     /// `Memory` alone.
-    pub(crate) fn files_left(&self, left: Rest) -> Result<LogFiles> {
+    pub(crate) fn copy_files_left(&self, left: Rest) -> Result<LogFiles> {
         let alloc = self.alloc();
         let mut files = Vec::new(alloc);
         for (seq, bytes) in self.files.iter().skip(left.gone) {
@@ -296,7 +296,7 @@ impl QueueDisk {
     /// # Errors
     ///
     /// `Memory` alone.
-    pub(crate) fn untorn_files(&self) -> Result<LogFiles> {
-        self.files_left(self.prefix(self.whole))
+    pub(crate) fn copy_untorn_files(&self) -> Result<LogFiles> {
+        self.copy_files_left(self.rest_with_prefix(self.whole))
     }
 }

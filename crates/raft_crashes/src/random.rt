@@ -41,7 +41,7 @@ pub(crate) fn try_random_history<R: Host>(crashes: &mut Crashes<'_, R>, seed: u6
     let by_bytes = long.is_none() && dice.draw_one_in(BY_BYTES);
     let different = crashes.different;
     let mut history = History::begin(crashes, seed, way, by_bytes)?;
-    take_steps(crashes, &mut history, long, seed, different)
+    run_random_steps(crashes, &mut history, long, seed, different)
 }
 
 /// Takes random steps of a history. If `long` is a number, some of them write entries of so many bytes.
@@ -50,7 +50,7 @@ pub(crate) fn try_random_history<R: Host>(crashes: &mut Crashes<'_, R>, seed: u6
 /// # Errors
 ///
 /// `Io` for the output; `Memory`. An error of a step counts as a difference.
-fn take_steps<R: Host>(
+fn run_random_steps<R: Host>(
     crashes: &mut Crashes<'_, R>,
     history: &mut History,
     long: Option<usize>,
@@ -59,12 +59,12 @@ fn take_steps<R: Host>(
 ) -> Result<()> {
     for step in 0..STEPS {
         let taken = match long {
-            Some(len) => take_long_step(crashes, history, len),
-            None => take_step(crashes, history),
+            Some(len) => run_long_step(crashes, history, len),
+            None => run_random_step(crashes, history),
         };
         crashes.check_success(taken)?;
         if crashes.different > different {
-            return crashes.print_place("seed", seed, step);
+            return crashes.print_where_different("seed", seed, step);
         }
     }
     Ok(())
@@ -103,15 +103,15 @@ fn draw_way(dice: &mut Dice, long: Option<usize>) -> Way {
 /// # Errors
 ///
 /// Those of the step.
-fn take_long_step<R: Host>(
+fn run_long_step<R: Host>(
     crashes: &mut Crashes<'_, R>,
     history: &mut History,
     len: usize,
 ) -> Result<()> {
     match history.dice.draw_below(8) {
-        0..=3 => write_long(crashes, history, len),
+        0..=3 => write_long_entry(crashes, history, len),
         4 | 5 => move_and_purge_all(crashes, history),
-        _ => take_step(crashes, history),
+        _ => run_random_step(crashes, history),
     }
 }
 
@@ -121,7 +121,7 @@ fn take_long_step<R: Host>(
 /// # Errors
 ///
 /// Those of [`History::write`].
-fn write_long<R: Host>(
+fn write_long_entry<R: Host>(
     crashes: &mut Crashes<'_, R>,
     history: &mut History,
     len: usize,
@@ -140,17 +140,17 @@ fn write_long<R: Host>(
 /// # Errors
 ///
 /// Those of the step.
-fn take_step<R: Host>(crashes: &mut Crashes<'_, R>, history: &mut History) -> Result<()> {
+fn run_random_step<R: Host>(crashes: &mut Crashes<'_, R>, history: &mut History) -> Result<()> {
     match history.dice.draw_below(24) {
-        0..=8 => write_batch(crashes, history),
+        0..=8 => write_random_batch(crashes, history),
         9 => history.sync(crashes),
         10 => history.rotate(crashes),
         11..=13 => move_records(crashes, history),
         14 | 15 => history.move_rewritten_records(crashes),
-        16 | 17 => history.purge(crashes, LogQueue::Append),
-        18 => history.purge(crashes, LogQueue::Rewrite),
+        16 | 17 => history.purge_queue(crashes, LogQueue::Append),
+        18 => history.purge_queue(crashes, LogQueue::Rewrite),
         19 => history.restart(crashes),
-        20 | 21 => history.crash(crashes),
+        20 | 21 => history.crash_and_reopen(crashes),
         22 => replace_entries(crashes, history),
         _ => move_and_purge_all(crashes, history),
     }
@@ -161,7 +161,7 @@ fn take_step<R: Host>(crashes: &mut Crashes<'_, R>, history: &mut History) -> Re
 /// # Errors
 ///
 /// Those of [`History::write`].
-fn write_batch<R: Host>(crashes: &mut Crashes<'_, R>, history: &mut History) -> Result<()> {
+fn write_random_batch<R: Host>(crashes: &mut Crashes<'_, R>, history: &mut History) -> Result<()> {
     let first = (history.dice.draw_below(2) + 1, Choice::Any);
     let second = (history.dice.draw_below(2) + 1, Choice::Any);
     let third = (history.dice.draw_below(2) + 1, Choice::Any);
@@ -181,12 +181,12 @@ fn write_batch<R: Host>(crashes: &mut Crashes<'_, R>, history: &mut History) -> 
 /// Those of [`History::rotate`] and [`History::rewrite`].
 fn move_records<R: Host>(crashes: &mut Crashes<'_, R>, history: &mut History) -> Result<()> {
     if history.dice.draw_one_in(2) {
-        return rewrite_all(crashes, history);
+        return rotate_and_rewrite_all(crashes, history);
     }
     let gate = history
         .last_append_seq()
         .saturating_sub(history.dice.draw_below(3));
-    history.rewrite(crashes, gate)
+    history.rewrite_up_to(crashes, gate)
 }
 
 /// Begins a new append file, and moves the records of all older ones to the rewrite queue.
@@ -194,10 +194,13 @@ fn move_records<R: Host>(crashes: &mut Crashes<'_, R>, history: &mut History) ->
 /// # Errors
 ///
 /// Those of [`History::rotate`] and [`History::rewrite`].
-fn rewrite_all<R: Host>(crashes: &mut Crashes<'_, R>, history: &mut History) -> Result<()> {
+fn rotate_and_rewrite_all<R: Host>(
+    crashes: &mut Crashes<'_, R>,
+    history: &mut History,
+) -> Result<()> {
     let gate = history.last_append_seq();
     history.rotate(crashes)?;
-    history.rewrite(crashes, gate)
+    history.rewrite_up_to(crashes, gate)
 }
 
 /// Takes steps by which entries would be lost or come back if the rewrite queue weren't told of runs that
@@ -208,7 +211,7 @@ fn rewrite_all<R: Host>(crashes: &mut Crashes<'_, R>, history: &mut History) -> 
 ///
 /// Those of the steps.
 fn replace_entries<R: Host>(crashes: &mut Crashes<'_, R>, history: &mut History) -> Result<()> {
-    rewrite_all(crashes, history)?;
+    rotate_and_rewrite_all(crashes, history)?;
     history.write(
         crashes,
         &[(1, Choice::Replacement), (2, Choice::Replacement)],
@@ -216,10 +219,10 @@ fn replace_entries<R: Host>(crashes: &mut Crashes<'_, R>, history: &mut History)
     )?;
     if history.dice.draw_one_in(2) {
         history.restart(crashes)?;
-        rewrite_all(crashes, history)?;
+        rotate_and_rewrite_all(crashes, history)?;
     }
     history.rotate(crashes)?;
-    history.purge(crashes, LogQueue::Append)
+    history.purge_queue(crashes, LogQueue::Append)
 }
 
 /// Moves all records to a new rewrite file, and deletes the oldest files of both queues that no table needs.
@@ -228,8 +231,8 @@ fn replace_entries<R: Host>(crashes: &mut Crashes<'_, R>, history: &mut History)
 ///
 /// Those of the steps.
 fn move_and_purge_all<R: Host>(crashes: &mut Crashes<'_, R>, history: &mut History) -> Result<()> {
-    rewrite_all(crashes, history)?;
-    history.purge(crashes, LogQueue::Append)?;
+    rotate_and_rewrite_all(crashes, history)?;
+    history.purge_queue(crashes, LogQueue::Append)?;
     history.move_rewritten_records(crashes)?;
-    history.purge(crashes, LogQueue::Rewrite)
+    history.purge_queue(crashes, LogQueue::Rewrite)
 }

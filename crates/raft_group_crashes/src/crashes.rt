@@ -41,7 +41,7 @@ pub(crate) fn try_histories<R: Host + Print + Eprint>(
         let different = crashes.different;
         let mut history = History::begin(rt, seed.wrapping_add(number))?;
         for step in 0..STEPS {
-            history.step(&mut crashes)?;
+            history.run_step(&mut crashes)?;
             if crashes.different > different {
                 println!(rt; "history {number}, step {step}: different")?;
                 break;

@@ -69,11 +69,11 @@ impl<'a, R: Disk> FolderPipe<'a, R> {
         let pipe = FolderPipe {
             rt,
             folder,
-            append: span_in_folder(rt, folder, LogQueue::Append)?,
-            rewrite: span_in_folder(rt, folder, LogQueue::Rewrite)?,
+            append: find_span_in_folder(rt, folder, LogQueue::Append)?,
+            rewrite: find_span_in_folder(rt, folder, LogQueue::Rewrite)?,
         };
         for queue in [LogQueue::Append, LogQueue::Rewrite] {
-            pipe.make_file(FileId::new(queue, pipe.span(queue).last))?;
+            pipe.make_file(FileId::new(queue, pipe.queue_span(queue).last))?;
         }
         Ok(pipe)
     }
@@ -92,12 +92,12 @@ impl<'a, R: Disk> FolderPipe<'a, R> {
     /// # Errors
     ///
     /// `Io` for a file; `Memory`.
-    pub(crate) fn files(&self, queue: LogQueue) -> Result<Vec<FilePart>> {
+    pub(crate) fn read_files(&self, queue: LogQueue) -> Result<Vec<FilePart>> {
         let mut files = Vec::new(self.rt.alloc());
-        let span = self.span(queue);
+        let span = self.queue_span(queue);
         for seq in span.first..=span.last {
             let id = FileId::new(queue, seq);
-            let bytes = fs::read(self.rt, self.path(id)?.as_str())?;
+            let bytes = fs::read(self.rt, self.path_of(id)?.as_str())?;
             files.push(FilePart::new(id, VERSION, 0, bytes)?)?;
         }
         Ok(files)
@@ -110,7 +110,9 @@ impl<'a, R: Disk> FolderPipe<'a, R> {
     /// `Io` for the file; `Memory`.
     pub(crate) fn cut_file(&self, id: FileId, len: u64) -> Result<()> {
         let mut options = OpenOptions::new();
-        let file = options.write(true).open(self.rt, self.path(id)?.as_str())?;
+        let file = options
+            .write(true)
+            .open(self.rt, self.path_of(id)?.as_str())?;
         file.set_len(len)?;
         Ok(file.sync_all()?)
     }
@@ -120,7 +122,7 @@ impl<'a, R: Disk> FolderPipe<'a, R> {
     /// # Errors
     ///
     /// `Memory` alone.
-    pub(crate) fn path(&self, id: FileId) -> Result<String> {
+    pub(crate) fn path_of(&self, id: FileId) -> Result<String> {
         file_path(self.rt.alloc(), self.folder, id)
     }
 
@@ -130,11 +132,11 @@ impl<'a, R: Disk> FolderPipe<'a, R> {
     ///
     /// `Io` for the file; `Memory`.
     pub(crate) fn file_len(&self, id: FileId) -> Result<u64> {
-        Ok(fs::metadata(self.rt, self.path(id)?.as_str())?.len())
+        Ok(fs::metadata(self.rt, self.path_of(id)?.as_str())?.len())
     }
 
     /// Returns the numbers of the first and the last file of `queue`.
-    fn span(&self, queue: LogQueue) -> Span
+    fn queue_span(&self, queue: LogQueue) -> Span
         ensures { (result.first, result.last)
             ≡ range_in (self.now.append.first, self.now.append.last)
             (self.now.rewrite.first, self.now.rewrite.last) queue }
@@ -155,7 +157,7 @@ impl<'a, R: Disk> FolderPipe<'a, R> {
         options
             .create(true)
             .append(true)
-            .open(self.rt, self.path(id)?.as_str())?;
+            .open(self.rt, self.path_of(id)?.as_str())?;
         Ok(())
     }
 }
@@ -178,13 +180,13 @@ pub(crate) fn remove_folder<R: Disk>(rt: &R, folder: &str) -> Result<()> {
 ///
 /// `Memory` alone.
 pub(crate) fn file_path(alloc: Global, folder: &str, id: FileId) -> Result<String> {
-    let extension = extension_of(id.queue);
+    let extension = file_extension(id.queue);
     Ok(format!(in alloc; "{folder}/{:016}{extension}", id.seq)?)
 }
 
 /// Returns the ending of the names of the files of `queue`: `.raftlog` for the append queue, `.rewrite` for
 /// the rewrite queue.
-fn extension_of(queue: LogQueue) -> &'static str {
+fn file_extension(queue: LogQueue) -> &'static str {
     match queue {
         LogQueue::Append => ".raftlog",
         LogQueue::Rewrite => ".rewrite",
@@ -196,11 +198,11 @@ fn extension_of(queue: LogQueue) -> &'static str {
 /// # Errors
 ///
 /// `Full` if the number of the last file is so great that none can follow it; those of reading the folder.
-fn span_in_folder<R: Disk>(rt: &R, folder: &str, queue: LogQueue) -> Result<Span> {
+fn find_span_in_folder<R: Disk>(rt: &R, folder: &str, queue: LogQueue) -> Result<Span> {
     let (mut first, mut last) = (FileSeq::MAX, 0);
     for entry in fs::read_dir(rt, folder)? {
         let entry = entry?;
-        if let Some(seq) = number_in_name(entry.file_name(), queue) {
+        if let Some(seq) = parse_file_name(entry.file_name(), queue) {
             first = first.min(seq);
             last = last.max(seq);
         }
@@ -216,8 +218,10 @@ fn span_in_folder<R: Disk>(rt: &R, folder: &str, queue: LogQueue) -> Result<Span
 
 /// Returns the number in `name`, the name of a file of `queue`, such as 1 in `0000000000000001.raftlog`.
 /// Returns `None` for any other name.
-fn number_in_name(name: &str, queue: LogQueue) -> Option<FileSeq> {
-    name.strip_suffix(extension_of(queue))?.parse::<u64>().ok()
+fn parse_file_name(name: &str, queue: LogQueue) -> Option<FileSeq> {
+    name.strip_suffix(file_extension(queue))?
+        .parse::<u64>()
+        .ok()
 }
 
 impl<R: Disk> PipeLog for FolderPipe<'_, R> {
@@ -232,7 +236,7 @@ impl<R: Disk> PipeLog for FolderPipe<'_, R> {
     ///
     /// Those of the system, also if the file ends before the place does; `Memory`.
     fn read_bytes(&self, alloc: Global, handle: FileBlockHandle) -> Result<Vec<u8>> {
-        let mut file = fs::open(self.rt, self.path(handle.id)?.as_str())?;
+        let mut file = fs::open(self.rt, self.path_of(handle.id)?.as_str())?;
         file.seek(SeekFrom::Start(handle.offset))?;
         let mut bytes = vec![in alloc; 0; handle.len]?;
         file.read_exact(&mut bytes)?;
@@ -246,10 +250,12 @@ impl<R: Disk> PipeLog for FolderPipe<'_, R> {
     ///
     /// Those of the system; `Memory`. Some of the bytes stay only if the cut fails too.
     fn append<T: ReactiveBytes>(&self, queue: LogQueue, bytes: &mut T) -> Result<FileBlockHandle> {
-        let id = FileId::new(queue, self.span(queue).last);
+        let id = FileId::new(queue, self.queue_span(queue).last);
         let bytes = bytes.as_bytes(&LogFileContext::new(id, VERSION));
         let mut options = OpenOptions::new();
-        let mut file = options.append(true).open(self.rt, self.path(id)?.as_str())?;
+        let mut file = options
+            .append(true)
+            .open(self.rt, self.path_of(id)?.as_str())?;
         let offset = file.seek(SeekFrom::End(0))?;
         if let Err(e) = file.write_all(bytes) {
             file.set_len(offset)?;
@@ -268,20 +274,20 @@ impl<R: Disk> PipeLog for FolderPipe<'_, R> {
     ///
     /// Those of the system; `Memory`.
     fn sync(&self, queue: LogQueue) -> Result<()> {
-        let id = FileId::new(queue, self.span(queue).last);
-        Ok(fs::open(self.rt, self.path(id)?.as_str())?.sync_all()?)
+        let id = FileId::new(queue, self.queue_span(queue).last);
+        Ok(fs::open(self.rt, self.path_of(id)?.as_str())?.sync_all()?)
     }
 
     /// Returns the numbers of the first and the last file of `queue`.
     fn file_span(&self, queue: LogQueue) -> (FileSeq, FileSeq) {
-        let span = self.span(queue);
+        let span = self.queue_span(queue);
         (span.first, span.last)
     }
 
     /// Returns how many bytes the files of `queue` have together, at most 2^64 - 1. A file whose length can't
     /// be read counts as empty.
     fn total_size(&self, queue: LogQueue) -> usize {
-        let span = self.span(queue);
+        let span = self.queue_span(queue);
         let mut total = 0usize;
         for seq in span.first..=span.last {
             if let Ok(len) = self.file_len(FileId::new(queue, seq)) {
@@ -299,7 +305,7 @@ impl<R: Disk> PipeLog for FolderPipe<'_, R> {
     /// Those of the system; `Memory`. The new file may be there then.
     fn rotate(&self, queue: LogQueue) -> Result<()> {
         self.sync(queue)?;
-        self.make_file(FileId::new(queue, self.span(queue).last + 1))?;
+        self.make_file(FileId::new(queue, self.queue_span(queue).last + 1))?;
         Ok(fs::open(self.rt, self.folder)?.sync_all()?)
     }
 
@@ -310,12 +316,12 @@ impl<R: Disk> PipeLog for FolderPipe<'_, R> {
     ///
     /// Those of the system; `Memory`. Some of the files may be gone then.
     fn purge_to(&self, file_id: FileId) -> Result<usize> {
-        let span = self.span(file_id.queue);
+        let span = self.queue_span(file_id.queue);
         let mut count = 0usize;
         for seq in span.first..file_id.seq.min(span.last) {
             fs::remove_file(
                 self.rt,
-                self.path(FileId::new(file_id.queue, seq))?.as_str(),
+                self.path_of(FileId::new(file_id.queue, seq))?.as_str(),
             )?;
             count = count.saturating_add(1);
         }

@@ -30,8 +30,8 @@ impl Logs {
     /// `Io` for a file; `Memory`.
     pub(crate) fn read<R: Disk>(alloc: Global, pipe: &FolderPipe<'_, R>) -> Result<Logs> {
         Ok(Logs {
-            append: segments_of(alloc, pipe, LogQueue::Append)?,
-            rewrite: segments_of(alloc, pipe, LogQueue::Rewrite)?,
+            append: read_segments(alloc, pipe, LogQueue::Append)?,
+            rewrite: read_segments(alloc, pipe, LogQueue::Rewrite)?,
         })
     }
 
@@ -41,10 +41,10 @@ impl Logs {
     /// # Errors
     ///
     /// Those of [`next_batch`]; `Memory`.
-    pub(crate) fn tombstones(&self, alloc: Global) -> Result<Vec<LogItem>> {
+    pub(crate) fn collect_tombstones(&self, alloc: Global) -> Result<Vec<LogItem>> {
         let mut tombstones = Vec::new(alloc);
         for part in self.append.iter().flatten() {
-            for (batch, _) in &batches_of(alloc, part)? {
+            for (batch, _) in &read_batches(alloc, part)? {
                 push_tombstones(&mut tombstones, batch.iter().as_slice(), None)?;
             }
         }
@@ -56,10 +56,10 @@ impl Logs {
     /// # Errors
     ///
     /// Those of [`next_batch`]; `Corruption` for a group marker with an unknown status; `Memory`.
-    pub(crate) fn last_group(&self, alloc: Global) -> Result<u64> {
+    pub(crate) fn last_group_number(&self, alloc: Global) -> Result<u64> {
         let mut last = 0;
         for part in self.rewrite.iter().flatten() {
-            for (batch, _) in &batches_of(alloc, part)? {
+            for (batch, _) in &read_batches(alloc, part)? {
                 for item in batch.iter() {
                     if let Some((group, _)) = AtomicGroupStatus::parse(alloc, item)? {
                         last = group.max(last);
@@ -126,12 +126,12 @@ fn first_overwritten(
 /// # Errors
 ///
 /// `Io` for a file; `Memory`.
-fn segments_of<R: Disk>(
+fn read_segments<R: Disk>(
     alloc: Global,
     pipe: &FolderPipe<'_, R>,
     queue: LogQueue,
 ) -> Result<Vec<Segment>> {
-    let mut files = pipe.files(queue)?;
+    let mut files = pipe.read_files(queue)?;
     if let Some(last) = files.last_mut() {
         cut_torn_tail(pipe, last)?;
     }
@@ -191,7 +191,7 @@ fn is_damaged(file: &FilePart, at: usize) -> Result<bool>
 /// # Errors
 ///
 /// Those of [`next_batch`]; `Memory`.
-pub(crate) fn batches_of(alloc: Global, part: &FilePart) -> Result<Vec<(LogItemBatch, usize)>> {
+pub(crate) fn read_batches(alloc: Global, part: &FilePart) -> Result<Vec<(LogItemBatch, usize)>> {
     let mut batches = Vec::new(alloc);
     let mut at = 0;
     while let Some((batch, behind)) = next_batch(part, at)? {

@@ -33,7 +33,7 @@ fn main(rt: HostRuntime) -> Result<ExitCode> {
         println!(rt; "{USAGE}")?;
         return Ok(ExitCode::SUCCESS);
     }
-    let Some((seed, histories, by_bytes)) = parse_numbers(words.as_slice()) else {
+    let Some((seed, histories, by_bytes)) = parse_seed_and_counts(words.as_slice()) else {
         eprintln!(rt; "{USAGE}")?;
         return Ok(ExitCode::from(2));
     };
@@ -46,7 +46,7 @@ fn main(rt: HostRuntime) -> Result<ExitCode> {
 
 /// Returns the three numbers that `words` name: the seed, how many histories there are, and in how many of
 /// these a crash is tried at each byte. Returns `None` if `words` aren't three numbers.
-fn parse_numbers(words: &[String]) -> Option<(u64, u64, u64)> {
+fn parse_seed_and_counts(words: &[String]) -> Option<(u64, u64, u64)> {
     let [seed, histories, by_bytes] = words else {
         return None;
     };

@@ -70,8 +70,8 @@ impl<'a, R: Host> Store<'a, R> {
             rt,
             pipe,
             tables,
-            tombstones: logs.tombstones(rt.alloc())?,
-            last_group: logs.last_group(rt.alloc())?,
+            tombstones: logs.collect_tombstones(rt.alloc())?,
+            last_group: logs.last_group_number(rt.alloc())?,
             file_size,
             changes: None,
         })
@@ -91,7 +91,7 @@ impl<'a, R: Host> Store<'a, R> {
             return Ok(());
         }
         self.tables.check_append_writes(batch.items())?;
-        self.append(LogQueue::Append, &mut batch)?;
+        self.append_batch(LogQueue::Append, &mut batch)?;
         if sync {
             self.sync(LogQueue::Append)?;
         }
@@ -156,7 +156,7 @@ impl<'a, R: Host> Store<'a, R> {
     ///
     /// `Io` for a file; `Full` for a batch that is too long; `Failed` if its place would be after the last
     /// offset; `Memory`. The batch may be in the file then, and isn't in the tables.
-    fn append(&mut self, queue: LogQueue, batch: &mut LogBatch) -> Result<FileSeq>
+    fn append_batch(&mut self, queue: LogQueue, batch: &mut LogBatch) -> Result<FileSeq>
         requires { batch.old.stage ≡ is_open }
     {
         let (_, last) = self.pipe.file_span(queue);
@@ -179,10 +179,10 @@ impl<'a, R: Host> Store<'a, R> {
     /// # Errors
     ///
     /// Those of reading the entry blocks; `Memory`.
-    pub(crate) fn contents(&self) -> Result<Contents> {
+    pub(crate) fn read_contents(&self) -> Result<Contents> {
         let mut contents = BTreeMap::new(self.rt.alloc());
         for table in self.tables.tables()? {
-            let _ = contents.insert(table.region_id(), self.records_of_table(table)?)?;
+            let _ = contents.insert(table.region_id(), self.read_table_records(table)?)?;
         }
         Ok(contents)
     }
@@ -192,7 +192,7 @@ impl<'a, R: Host> Store<'a, R> {
     /// # Errors
     ///
     /// Those of reading the entry blocks; `Memory`.
-    fn records_of_table(&self, table: &MemTable) -> Result<Records> {
+    fn read_table_records(&self, table: &MemTable) -> Result<Records> {
         let alloc = self.rt.alloc();
         let mut records = Records::new(alloc);
         records.put_entries(self.read_entries(&table_entries(alloc, table)?)?)?;
@@ -230,7 +230,7 @@ impl<'a, R: Host> Store<'a, R> {
         let block = self.pipe.read_bytes(alloc, place)?;
         match LogBatch::decode_entries_block(alloc, &block, place, compression) {
             Err(Error::Corruption(text)) => {
-                let (path, offset) = (self.pipe.path(place.id)?, place.offset);
+                let (path, offset) = (self.pipe.path_of(place.id)?, place.offset);
                 Err(Error::Corruption(format!(in alloc; "{path}, offset {offset}: {text}")?))
             }
             entries => entries,

@@ -1,7 +1,7 @@
 //! Tests how many records contexts count as written and deleted: where they only replay, and where a clean meets an
 //! older table.
 
-use crate::overlays::{Word, read};
+use crate::overlays::{Word, context_of_words};
 use LogQueue::{Append, Rewrite};
 use Word::{Clean, Compact, Delete, Put, Run, Truncate};
 use raft_memtable::{LogQueue, MemTableRecoverContext, Result};
@@ -13,7 +13,7 @@ use std::alloc::Global;
 type Counts = (usize, usize, usize);
 
 /// Returns the counts of the tables of a context.
-fn counts_of(context: MemTableRecoverContext) -> Result<Counts> {
+fn counts_of_context(context: MemTableRecoverContext) -> Result<Counts> {
     let accessor = context.finish()?;
     let stats = accessor.stats();
     Ok((
@@ -89,29 +89,30 @@ static ROWS: [Row; 17] = [
 ];
 
 /// Returns the rows of contexts.
-fn rows() -> &'static [Row] {
+fn rows_of_contexts() -> &'static [Row] {
     &ROWS
 }
 
 /// Returns the counts of a row's contexts: the newer one is merged into the older one, or put over it, if it is of the
 /// append queue.
-fn counted(alloc: Global, row: &Row) -> Result<Counts> {
+fn counts_after_merge(alloc: Global, row: &Row) -> Result<Counts> {
     let (queue, older, newer, _) = *row;
-    let mut context = read(alloc, queue, older)?;
+    let mut context = context_of_words(alloc, queue, older)?;
     if let Some((queue, words)) = newer {
-        let newer = read(alloc, queue, words)?;
+        let newer = context_of_words(alloc, queue, words)?;
         match queue {
             Rewrite => context.merge(newer, Rewrite)?,
             Append => context.merge_append_context(newer)?,
         }
     }
-    counts_of(context)
+    counts_of_context(context)
 }
 
+/// Tests the live counts of two contexts that are merged, or of which one is put over the other.
 #[test]
-fn records_of_contexts_are_counted(rt: HostRuntime) {
-    for row in rows() {
-        let counts = again!(counted(rt.alloc(), row));
+fn live_counts_are_right_after_merges_of_contexts(rt: HostRuntime) {
+    for row in rows_of_contexts() {
+        let counts = again!(counts_after_merge(rt.alloc(), row));
         assert!(rt;
             matches!(counts, Ok(counts) if counts == row.3),
             "{:?}",

@@ -8,7 +8,7 @@ use raft_records::{FilePart, LogBatch, LogFileContext, ReadBatch, Version, next_
 use std::alloc::Global;
 
 /// Makes the bytes of a batch, and returns them as the only ones of a file.
-pub(crate) fn file_of(alloc: Global, file: FileId, mut batch: LogBatch) -> Result<FilePart>
+pub(crate) fn file_with_batch(alloc: Global, file: FileId, mut batch: LogBatch) -> Result<FilePart>
     requires { batch.stage ≡ is_open }
 {
     batch.finish_populate()?;
@@ -26,7 +26,10 @@ pub(crate) fn replay_file(context: &mut MemTableRecoverContext, file: &FilePart)
 }
 
 /// Returns a context that has replayed the batches of these files.
-pub(crate) fn replayed(alloc: Global, files: &[FilePart]) -> Result<MemTableRecoverContext> {
+pub(crate) fn context_of_files(
+    alloc: Global,
+    files: &[FilePart],
+) -> Result<MemTableRecoverContext> {
     let mut context = MemTableRecoverContext::new(alloc)?;
     for file in files {
         replay_file(&mut context, file)?;
@@ -35,7 +38,7 @@ pub(crate) fn replayed(alloc: Global, files: &[FilePart]) -> Result<MemTableReco
 }
 
 /// Reads the batch of a file, and replays it, without a copy of its items, as one of the file `id`.
-pub(crate) fn replay_read(
+pub(crate) fn read_and_replay(
     context: &mut MemTableRecoverContext,
     file: &FilePart,
     id: FileId,

@@ -3,7 +3,7 @@
 ghost use Rattle.std.specs.Prelude.{◌≡◌, OnOk};
 ghost use Rattle.raft_records.specs.LogBatch.{is_open};
 
-use crate::files::file_of;
+use crate::files::file_with_batch;
 use AtomicGroupStatus::{Begin, Middle};
 use raft_memtable::{FileId, LogQueue, MemTableAccessor, Result};
 use raft_records::{AtomicGroupBuilder, AtomicGroupStatus, FilePart, LogBatch};
@@ -13,7 +13,7 @@ use std::alloc::Global;
 pub(crate) const KEYS: [&[u8; 2]; 4] = [b"k1", b"k2", b"k3", b"k4"];
 
 /// Returns a file of the rewrite queue.
-pub(crate) fn file(seq: u64) -> FileId {
+pub(crate) fn rewrite_file(seq: u64) -> FileId {
     FileId::new(LogQueue::Rewrite, seq)
 }
 
@@ -39,7 +39,7 @@ pub(crate) fn add_marker(
 }
 
 /// Returns a part with a batch that has a group marker and puts a key of a region.
-pub(crate) fn part_of(
+pub(crate) fn part_with_marker(
     alloc: Global,
     group: u64,
     region: u64,
@@ -54,14 +54,14 @@ pub(crate) fn part_of(
         Vec::from_slice(alloc, key)?,
         Vec::from_slice(alloc, b"v".as_slice())?,
     )?;
-    file_of(alloc, file(seq), batch)
+    file_with_batch(alloc, rewrite_file(seq), batch)
 }
 
 /// Which of the four keys a region has, and the first and the last file of its last atomic group.
 pub(crate) type Effect = ([bool; 4], Option<(u64, u64)>);
 
 /// Returns which keys the table of a region has, and the files of its last group.
-pub(crate) fn seen_of(accessor: &MemTableAccessor, region: u64) -> Effect {
+pub(crate) fn effect_on_region(accessor: &MemTableAccessor, region: u64) -> Effect {
     match accessor.get(region) {
         Some(table) => (
             KEYS.map(|key| table.get(key.as_slice()).is_some()),

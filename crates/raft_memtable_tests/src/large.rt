@@ -1,8 +1,8 @@
 //! Tests contexts with many regions, many groups, long stretches, many deleted keys, long runs and many batches.
 
-use crate::files::{file_of, replay_file, replayed};
-use crate::groups::{add_marker, file, part_of, seen_of};
-use crate::overlays::{Word, read};
+use crate::files::{context_of_files, file_with_batch, replay_file};
+use crate::groups::{add_marker, effect_on_region, part_with_marker, rewrite_file};
+use crate::overlays::{Word, context_of_words};
 use AtomicGroupStatus::{Begin, End};
 use raft_memtable::{
     Error, FileId, LogQueue, MemTable, MemTableAccessor, MemTableRecoverContext, Result,
@@ -29,7 +29,7 @@ const BATCHES: u64 = 100_000;
 
 /// Returns a context that has replayed a batch with this status for each group: from `first_group` on to the last one,
 /// and then the others, in the files from `first_seq` on. The batch of group n puts a key of region n.
-fn groups(
+fn context_with_groups(
     alloc: Global,
     status: AtomicGroupStatus,
     key: &[u8],
@@ -42,7 +42,7 @@ fn groups(
         let group = first_group.saturating_add(number) % GROUPS;
         replay_file(
             &mut context,
-            &part_of(alloc, group, group, status, key, seq)?,
+            &part_with_marker(alloc, group, group, status, key, seq)?,
         )?;
     }
     Ok(context)
@@ -50,10 +50,10 @@ fn groups(
 
 /// Tests whether all groups take effect in a merge with a context that ends them, the second half of them first, so
 /// that some groups are within others, and some begin before another one and end within it.
-fn groups_take_effect(alloc: Global) -> Result<bool> {
-    let mut context = groups(alloc, Begin, b"k1", 1, 0)?;
+fn do_all_groups_take_effect(alloc: Global) -> Result<bool> {
+    let mut context = context_with_groups(alloc, Begin, b"k1", 1, 0)?;
     context.merge(
-        groups(alloc, End, b"k2", 101, GROUPS / 2)?,
+        context_with_groups(alloc, End, b"k2", 101, GROUPS / 2)?,
         LogQueue::Rewrite,
     )?;
     let accessor = context.finish()?;
@@ -61,7 +61,7 @@ fn groups_take_effect(alloc: Global) -> Result<bool> {
     for group in 0..GROUPS {
         let end = group.saturating_add(GROUPS / 2) % GROUPS;
         let files = (group.saturating_add(1), end.saturating_add(101));
-        all &= seen_of(&accessor, group) == ([true, true, false, false], Some(files));
+        all &= effect_on_region(&accessor, group) == ([true, true, false, false], Some(files));
     }
     Ok(all)
 }
@@ -78,7 +78,7 @@ use Change::{Delete, Put};
 
 /// Adds a change of the key with a number to a batch. The key is the eight bytes of the number; that with the number 0
 /// is empty.
-fn change_key(
+fn add_key_change(
     alloc: Global,
     batch: &mut LogBatch,
     region: u64,
@@ -104,7 +104,7 @@ fn change_key(
 
 /// Returns a part whose batch changes the keys with these numbers in region 5, if `is_of_one_region`, else the empty
 /// key in the regions with these numbers; with a group marker of group 9, if a status is given.
-fn changes(
+fn part_with_changes(
     alloc: Global,
     file: FileId,
     status: Option<AtomicGroupStatus>,
@@ -118,19 +118,19 @@ fn changes(
     }
     for number in numbers {
         if is_of_one_region {
-            change_key(alloc, &mut batch, 5, number, change)?;
+            add_key_change(alloc, &mut batch, 5, number, change)?;
         } else {
-            change_key(alloc, &mut batch, number, 0, change)?;
+            add_key_change(alloc, &mut batch, number, 0, change)?;
         }
     }
     if !batch.is_open() {
         return Err(Error::Failed);
     }
-    file_of(alloc, file, batch)
+    file_with_batch(alloc, file, batch)
 }
 
 /// Returns how many tables there are, and how many keys they have together.
-fn counts(accessor: &MemTableAccessor) -> (u64, usize) {
+fn table_and_key_counts(accessor: &MemTableAccessor) -> (u64, usize) {
     let tables = accessor.fold(0u64, |count: u64, _: &MemTable| count.saturating_add(1));
     let keys = accessor.fold(0usize, |count: usize, table: &MemTable| {
         count.saturating_add(table.key_count())
@@ -145,23 +145,30 @@ fn merge_parts(
     older: FilePart,
     newer: FilePart,
 ) -> Result<MemTableAccessor> {
-    let mut context = replayed(alloc, &[older])?;
-    context.merge(replayed(alloc, &[newer])?, queue)?;
+    let mut context = context_of_files(alloc, &[older])?;
+    context.merge(context_of_files(alloc, &[newer])?, queue)?;
     context.finish()
 }
 
 /// Tests whether region 5 has the first and the last key that a group puts in two batches.
-fn has_ends(accessor: &MemTableAccessor) -> bool {
+fn has_first_and_last_key(accessor: &MemTableAccessor) -> bool {
     let last = (2 * LONG - 1).to_be_bytes();
     accessor.get(5).is_some_and(|table| table.get(&last).is_some() && table.get(b"").is_some())
 }
 
 /// Tests whether a group of many items takes effect as a whole when a batch with as many items ends it.
-fn stretch_takes_effect(alloc: Global) -> Result<bool> {
-    let begun = changes(alloc, file(1), Some(Begin), 0..LONG, true, Put(1))?;
-    let ended = changes(alloc, file(2), Some(End), LONG..2 * LONG, true, Put(1))?;
+fn does_long_group_take_effect(alloc: Global) -> Result<bool> {
+    let begun = part_with_changes(alloc, rewrite_file(1), Some(Begin), 0..LONG, true, Put(1))?;
+    let ended = part_with_changes(
+        alloc,
+        rewrite_file(2),
+        Some(End),
+        LONG..2 * LONG,
+        true,
+        Put(1),
+    )?;
     let accessor = merge_parts(alloc, LogQueue::Rewrite, begun, ended)?;
-    Ok(counts(&accessor) == (1, 2_400) && has_ends(&accessor))
+    Ok(table_and_key_counts(&accessor) == (1, 2_400) && has_first_and_last_key(&accessor))
 }
 
 /// A file of the append queue.
@@ -171,9 +178,9 @@ const APPENDED: FileId = FileId {
 };
 
 /// Tests whether contexts that put a key of many regions each, half of which are the same, are merged.
-fn regions_are_merged(alloc: Global) -> Result<bool> {
-    let older = changes(alloc, APPENDED, None, 0..REGIONS, false, Put(1))?;
-    let newer = changes(
+fn are_regions_merged(alloc: Global) -> Result<bool> {
+    let older = part_with_changes(alloc, APPENDED, None, 0..REGIONS, false, Put(1))?;
+    let newer = part_with_changes(
         alloc,
         APPENDED,
         None,
@@ -182,15 +189,18 @@ fn regions_are_merged(alloc: Global) -> Result<bool> {
         Put(1 << 10),
     )?;
     let accessor = merge_parts(alloc, LogQueue::Append, older, newer)?;
-    Ok(counts(&accessor) == (900, 900))
+    Ok(table_and_key_counts(&accessor) == (900, 900))
 }
 
 /// Returns a context that has read changes of keys in region 5: each row changes the keys with the numbers from its
 /// first on and below its second.
-fn read_changes(alloc: Global, rows: &[(u64, u64, Change)]) -> Result<MemTableRecoverContext> {
+fn context_with_changes(
+    alloc: Global,
+    rows: &[(u64, u64, Change)],
+) -> Result<MemTableRecoverContext> {
     let mut context = MemTableRecoverContext::new(alloc)?;
     for &(first, end, change) in rows {
-        let part = changes(alloc, APPENDED, None, first..end, true, change)?;
+        let part = part_with_changes(alloc, APPENDED, None, first..end, true, change)?;
         replay_file(&mut context, &part)?;
     }
     Ok(context)
@@ -198,24 +208,24 @@ fn read_changes(alloc: Global, rows: &[(u64, u64, Change)]) -> Result<MemTableRe
 
 /// Returns a context that has put keys, from the empty one on, and deleted as many others, merged with a newer one that
 /// has deleted all that were put but the last.
-fn deletions(alloc: Global) -> Result<MemTableRecoverContext> {
+fn context_with_deletions(alloc: Global) -> Result<MemTableRecoverContext> {
     let older = [
         (0, DELETED + 1, Put(1 << 16)),
         (DELETED + 1, 2 * DELETED + 1, Delete),
     ];
-    let mut context = read_changes(alloc, &older)?;
-    let newer = read_changes(alloc, &[(0, DELETED, Delete)])?;
+    let mut context = context_with_changes(alloc, &older)?;
+    let newer = context_with_changes(alloc, &[(0, DELETED, Delete)])?;
     context.merge(newer, LogQueue::Append)?;
     Ok(context)
 }
 
 /// Tests whether the keys that both contexts delete, the empty one among them, are removed, also if an older context
 /// has put them, and the other key stays.
-fn deletions_are_merged(alloc: Global) -> Result<bool> {
-    let mut context = read_changes(alloc, &[(DELETED + 1, 2 * DELETED + 1, Put(1))])?;
-    context.merge(deletions(alloc)?, LogQueue::Append)?;
+fn are_deletions_merged(alloc: Global) -> Result<bool> {
+    let mut context = context_with_changes(alloc, &[(DELETED + 1, 2 * DELETED + 1, Put(1))])?;
+    context.merge(context_with_deletions(alloc)?, LogQueue::Append)?;
     let accessor = context.finish()?;
-    Ok(has_long_value(&accessor, DELETED) && counts(&accessor) == (1, 1))
+    Ok(has_long_value(&accessor, DELETED) && table_and_key_counts(&accessor) == (1, 1))
 }
 
 /// Tests whether region 5's key with a number has a value of 64 KiB.
@@ -230,7 +240,7 @@ fn has_long_value(accessor: &MemTableAccessor, number: u64) -> bool {
 type Shape = (Option<u64>, Option<u64>, usize, usize);
 
 /// Returns the first and the last index of region 1, and how many records are live in each queue.
-fn shape(accessor: &MemTableAccessor) -> Shape {
+fn indexes_and_counts(accessor: &MemTableAccessor) -> Shape {
     let table = accessor.get(1);
     let stats = accessor.stats();
     (
@@ -265,15 +275,19 @@ static RUNS: [(LogQueue, LogQueue, Shape); 3] = [
 ];
 
 /// Returns the rows of two long runs.
-fn runs() -> &'static [(LogQueue, LogQueue, Shape)] {
+fn rows_of_long_runs() -> &'static [(LogQueue, LogQueue, Shape)] {
     &RUNS
 }
 
 /// Reads an older and a newer long run in a context each. Returns both merged, or, if they are of different queues, the
 /// newer one put over the older one.
-fn both_runs(alloc: Global, older: LogQueue, newer: LogQueue) -> Result<MemTableRecoverContext> {
-    let mut context = read(alloc, older, &[OLDER])?;
-    let appended = read(alloc, newer, &[NEWER])?;
+fn context_of_both_runs(
+    alloc: Global,
+    older: LogQueue,
+    newer: LogQueue,
+) -> Result<MemTableRecoverContext> {
+    let mut context = context_of_words(alloc, older, &[OLDER])?;
+    let appended = context_of_words(alloc, newer, &[NEWER])?;
     if older == newer {
         context.merge(appended, newer)?;
     } else {
@@ -284,18 +298,18 @@ fn both_runs(alloc: Global, older: LogQueue, newer: LogQueue) -> Result<MemTable
 
 /// Tests whether long runs are merged and put over each other as the rows say, and two long runs that one context reads
 /// give the same.
-fn runs_are_merged(alloc: Global) -> Result<bool> {
-    for &(older, newer, merged) in runs() {
-        if shape(&both_runs(alloc, older, newer)?.finish()?) != merged {
+fn are_long_runs_merged(alloc: Global) -> Result<bool> {
+    for &(older, newer, merged) in rows_of_long_runs() {
+        if indexes_and_counts(&context_of_both_runs(alloc, older, newer)?.finish()?) != merged {
             return Ok(false);
         }
     }
-    let read = read(alloc, LogQueue::Append, &[OLDER, NEWER])?;
-    Ok(shape(&read.finish()?) == (Some(0), Some(8_999), 9_000, 0))
+    let read = context_of_words(alloc, LogQueue::Append, &[OLDER, NEWER])?;
+    Ok(indexes_and_counts(&read.finish()?) == (Some(0), Some(8_999), 9_000, 0))
 }
 
 /// Returns a context that has replayed many batches, each a compaction of region 5 that wasn't read from a file.
-fn long_context(alloc: Global) -> Result<MemTableRecoverContext> {
+fn context_of_many_batches(alloc: Global) -> Result<MemTableRecoverContext> {
     let mut context = MemTableRecoverContext::new(alloc)?;
     for _ in 0..BATCHES {
         let mut batch = LogItemBatch::default(alloc);
@@ -306,25 +320,26 @@ fn long_context(alloc: Global) -> Result<MemTableRecoverContext> {
 }
 
 /// Tests whether two contexts of many batches are merged, and have a single table then.
-fn many_batches_are_merged(alloc: Global) -> Result<bool> {
-    let mut context = long_context(alloc)?;
-    context.merge(long_context(alloc)?, LogQueue::Append)?;
-    Ok(counts(&context.finish()?) == (1, 0))
+fn are_many_batches_merged(alloc: Global) -> Result<bool> {
+    let mut context = context_of_many_batches(alloc)?;
+    context.merge(context_of_many_batches(alloc)?, LogQueue::Append)?;
+    Ok(table_and_key_counts(&context.finish()?) == (1, 0))
 }
 
 /// Tests all merges of large contexts.
-fn all_are_merged(alloc: Global) -> Result<bool> {
+fn are_all_large_contexts_merged(alloc: Global) -> Result<bool> {
     Ok(
-        groups_take_effect(alloc)?
-            && stretch_takes_effect(alloc)?
-            && regions_are_merged(alloc)?
-            && deletions_are_merged(alloc)?
-            && runs_are_merged(alloc)?
-            && many_batches_are_merged(alloc)?,
+        do_all_groups_take_effect(alloc)?
+            && does_long_group_take_effect(alloc)?
+            && are_regions_merged(alloc)?
+            && are_deletions_merged(alloc)?
+            && are_long_runs_merged(alloc)?
+            && are_many_batches_merged(alloc)?,
     )
 }
 
+/// Tests merges of contexts with many groups, keys, regions, deletions and batches, and with long runs.
 #[test]
 fn large_contexts_are_merged(rt: HostRuntime) {
-    assert!(rt; matches!(again!(all_are_merged(rt.alloc())), Ok(true)));
+    assert!(rt; matches!(again!(are_all_large_contexts_merged(rt.alloc())), Ok(true)));
 }

@@ -23,7 +23,11 @@ fn regions_of_slot(alloc: Global) -> Result<Vec<u64>> {
 }
 
 /// Returns a context that has replayed a batch, in append file `seq`, with a compaction of each region.
-fn context_of(alloc: Global, regions: &[u64], seq: FileSeq) -> Result<MemTableRecoverContext> {
+fn context_with_compactions(
+    alloc: Global,
+    regions: &[u64],
+    seq: FileSeq,
+) -> Result<MemTableRecoverContext> {
     let mut batch = LogItemBatch::default(alloc);
     for &region in regions {
         batch.add_command(region, Command::Compact { index: 1 })?;
@@ -35,11 +39,14 @@ fn context_of(alloc: Global, regions: &[u64], seq: FileSeq) -> Result<MemTableRe
 
 /// Tests whether all regions have a region mark and a table once an older context, with the first `older` regions, is
 /// merged with a newer one.
-fn are_merged(alloc: Global, older: usize) -> Result<bool> {
+fn are_regions_merged(alloc: Global, older: usize) -> Result<bool> {
     let regions = regions_of_slot(alloc)?;
     let first = regions.get(..older).unwrap_or(&[]);
-    let mut context = context_of(alloc, first, 1)?;
-    context.merge(context_of(alloc, regions.as_slice(), 2)?, LogQueue::Append)?;
+    let mut context = context_with_compactions(alloc, first, 1)?;
+    context.merge(
+        context_with_compactions(alloc, regions.as_slice(), 2)?,
+        LogQueue::Append,
+    )?;
     let marks = context.kept()?.marks;
     let tables = context.finish()?.fold(
         0usize,
@@ -48,10 +55,11 @@ fn are_merged(alloc: Global, older: usize) -> Result<bool> {
     Ok(first.len() == older && marks == 300 && tables == REGIONS)
 }
 
+/// Tests that contexts whose regions all belong to one slot are merged, whatever share the older one has.
 #[test]
 fn regions_of_one_slot_are_merged(rt: HostRuntime) {
     for &older in &[0, 1, 100, 300] {
-        let merged = again!(are_merged(rt.alloc(), older));
+        let merged = again!(are_regions_merged(rt.alloc(), older));
         assert!(rt; matches!(merged, Ok(true)), "{older} older regions");
     }
 }

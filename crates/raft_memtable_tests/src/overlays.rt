@@ -5,8 +5,8 @@ ghost use Rattle.raft_records.specs.LogBatch.{is_open};
 
 mod refused;
 
-use crate::files::{file_of, replay_file};
-use crate::groups::part_of;
+use crate::files::{file_with_batch, replay_file};
+use crate::groups::part_with_marker;
 use raft_memtable::{FileId, LogQueue, MemTableAccessor, MemTableRecoverContext, Result};
 use raft_records::{AtomicGroupStatus, Command, FilePart, LogBatch};
 use raft_samples::{Proposal, Proposals};
@@ -28,7 +28,7 @@ pub(crate) enum Word {
 use Word::{Clean, Compact, Delete, Put, Run, Truncate};
 
 /// Adds an item for what a word does to a region.
-fn add(alloc: Global, region: u64, word: Word, batch: &mut LogBatch) -> Result<()>
+fn add_word(alloc: Global, region: u64, word: Word, batch: &mut LogBatch) -> Result<()>
     requires { batch.old.stage ≡ is_open }
     ensures { OnOk result (batch.new.stage ≡ is_open) }
 {
@@ -54,14 +54,14 @@ fn add(alloc: Global, region: u64, word: Word, batch: &mut LogBatch) -> Result<(
 }
 
 /// Returns a part with a batch of what a word does to a region.
-fn part(alloc: Global, region: u64, word: Word, file: FileId) -> Result<FilePart> {
+fn part_with_word(alloc: Global, region: u64, word: Word, file: FileId) -> Result<FilePart> {
     let mut batch = LogBatch::default(alloc);
-    add(alloc, region, word, &mut batch)?;
-    file_of(alloc, file, batch)
+    add_word(alloc, region, word, &mut batch)?;
+    file_with_batch(alloc, file, batch)
 }
 
 /// Replays a batch for each word, each in a file of its own.
-fn replay(
+fn replay_words(
     alloc: Global,
     context: &mut MemTableRecoverContext,
     queue: LogQueue,
@@ -70,7 +70,7 @@ fn replay(
 ) -> Result<()> {
     let mut seq = 1u64;
     for word in words {
-        let part = part(alloc, region, *word, FileId::new(queue, seq))?;
+        let part = part_with_word(alloc, region, *word, FileId::new(queue, seq))?;
         replay_file(context, &part)?;
         seq = seq.saturating_add(1);
     }
@@ -78,13 +78,13 @@ fn replay(
 }
 
 /// Returns a context that has read batches of a queue with these words on region 1.
-pub(crate) fn read(
+pub(crate) fn context_of_words(
     alloc: Global,
     queue: LogQueue,
     words: &[Word],
 ) -> Result<MemTableRecoverContext> {
     let mut context = MemTableRecoverContext::new(alloc)?;
-    replay(alloc, &mut context, queue, 1, words)?;
+    replay_words(alloc, &mut context, queue, 1, words)?;
     Ok(context)
 }
 
@@ -322,7 +322,7 @@ static ROWS: [Row; 18] = [
 const BESIDE: Word = Run(3, 6);
 
 /// Tests whether region 2 has its entries, and region 3 no table, since its group doesn't end.
-fn are_beside(accessor: &MemTableAccessor) -> bool {
+fn has_only_finished_groups(accessor: &MemTableAccessor) -> bool {
     let table = accessor.get(2);
     let first = table.and_then(|table| table.first_index());
     let last = table.and_then(|table| table.last_index());
@@ -330,7 +330,7 @@ fn are_beside(accessor: &MemTableAccessor) -> bool {
 }
 
 /// Returns what region 1 has. The three entries of region 2 are subtracted from the counts.
-fn shape_of(accessor: &MemTableAccessor) -> Shape {
+fn shape_of_region_1(accessor: &MemTableAccessor) -> Shape {
     let table = accessor.get(1);
     Shape {
         table: table.is_some(),
@@ -343,46 +343,47 @@ fn shape_of(accessor: &MemTableAccessor) -> Shape {
             .live_entries(LogQueue::Rewrite)
             .wrapping_sub(3),
         cleaned: accessor.cleaned_regions().len(),
-        beside: are_beside(accessor),
+        beside: has_only_finished_groups(accessor),
     }
 }
 
 /// Returns the rows of overlays.
-fn rows() -> &'static [Row] {
+fn rows_of_overlays() -> &'static [Row] {
     &ROWS
 }
 
 /// Returns a context of the rewrite queue with these words on region 1, entries of region 2, and a group of region 3
 /// that waits for its end.
-fn rewritten_beside(alloc: Global, words: &[Word]) -> Result<MemTableRecoverContext> {
+fn rewrite_context_with_neighbors(alloc: Global, words: &[Word]) -> Result<MemTableRecoverContext> {
     let mut context = MemTableRecoverContext::new(alloc)?;
-    replay(alloc, &mut context, LogQueue::Rewrite, 2, &[BESIDE])?;
-    let begun = part_of(alloc, 9, 3, AtomicGroupStatus::Begin, b"k1", 1)?;
+    replay_words(alloc, &mut context, LogQueue::Rewrite, 2, &[BESIDE])?;
+    let begun = part_with_marker(alloc, 9, 3, AtomicGroupStatus::Begin, b"k1", 1)?;
     replay_file(&mut context, &begun)?;
-    replay(alloc, &mut context, LogQueue::Rewrite, 1, words)?;
+    replay_words(alloc, &mut context, LogQueue::Rewrite, 1, words)?;
     Ok(context)
 }
 
 /// Returns the context of words of the rewrite queue, over which that of words of the append queue was put.
-fn overlaid(
+fn overlay_of_words(
     alloc: Global,
     rewritten: &[Word],
     appended: &[Word],
 ) -> Result<MemTableRecoverContext> {
-    let mut context = rewritten_beside(alloc, rewritten)?;
-    context.merge_append_context(read(alloc, LogQueue::Append, appended)?)?;
+    let mut context = rewrite_context_with_neighbors(alloc, rewritten)?;
+    context.merge_append_context(context_of_words(alloc, LogQueue::Append, appended)?)?;
     Ok(context)
 }
 
 /// Tests whether region 1 has what a row says.
-fn holds(alloc: Global, row: &Row) -> Result<bool> {
-    let tables = overlaid(alloc, row.rewritten, row.appended)?.finish()?;
-    Ok(shape_of(&tables) == row.shape)
+fn overlay_row_holds(alloc: Global, row: &Row) -> Result<bool> {
+    let tables = overlay_of_words(alloc, row.rewritten, row.appended)?.finish()?;
+    Ok(shape_of_region_1(&tables) == row.shape)
 }
 
+/// Tests what a region has once its append queue is put over its rewrite queue.
 #[test]
-fn the_append_queue_lies_over_the_rewrite_queue(rt: HostRuntime) {
-    for row in rows() {
-        assert!(rt; matches!(again!(holds(rt.alloc(), row)), Ok(true)));
+fn what_the_append_queue_says_wins_over_the_rewrite_queue(rt: HostRuntime) {
+    for row in rows_of_overlays() {
+        assert!(rt; matches!(again!(overlay_row_holds(rt.alloc(), row)), Ok(true)));
     }
 }

@@ -1,6 +1,6 @@
 //! Tests batches that are read one after another, whole and damaged.
 
-use crate::refusals::is_refused_for;
+use crate::refusals::is_corruption_with_text;
 use raft_records::{
     Command, CompressionType, EntryIndex, Error, FileBlockHandle, FileId, FilePart, LogBatch,
     LogItemContent, LogQueue, Result, Version, entries_block_in, entry_bytes, next_batch,
@@ -32,13 +32,13 @@ const BLOCK: FileBlockHandle = FileBlockHandle {
 };
 
 /// Returns these bytes as the part of that file from offset 100 on.
-pub(crate) fn part(alloc: Global, bytes: &[u8]) -> Result<FilePart> {
+pub(crate) fn part_with_bytes(alloc: Global, bytes: &[u8]) -> Result<FilePart> {
     FilePart::new(FILE, Version::V1, 100, Vec::from_slice(alloc, bytes)?)
 }
 
 /// Reads the batch at byte `at` of a part. Returns how many items it has, and where the next batch begins; `None` at
 /// the end of the part and behind it.
-fn counted(part: &FilePart, at: usize) -> Result<Option<(usize, usize)>> {
+fn count_items_at(part: &FilePart, at: usize) -> Result<Option<(usize, usize)>> {
     if at > part.bytes().len() {
         return Ok(None);
     }
@@ -48,38 +48,39 @@ fn counted(part: &FilePart, at: usize) -> Result<Option<(usize, usize)>> {
     }
 }
 
+/// Tests that the batches of a part are read in order, and that it knows its file and lends its entries.
 #[test]
-fn batches(rt: HostRuntime) {
-    assert!(rt; again!(batches_stand_one_behind_the_other(&rt, rt.alloc())).is_ok());
+fn batches_are_read_one_after_another(rt: HostRuntime) {
+    assert!(rt; again!(check_batches_in_order(&rt, rt.alloc())).is_ok());
 }
 
 /// Tests that the batches of `BATCHES` are read one after another, and that a part knows its file and lends its
 /// entries.
-fn batches_stand_one_behind_the_other(rt: &impl Abort, alloc: Global) -> Result<()> {
-    let part = part(alloc, BATCHES)?;
+fn check_batches_in_order(rt: &impl Abort, alloc: Global) -> Result<()> {
+    let part = part_with_bytes(alloc, BATCHES)?;
     for &(at, read) in &[(0, Some((1, FIRST))), (FIRST, Some((1, 58))), (58, None)] {
-        assert!(rt; counted(&part, at)? == read, "at {at}");
+        assert!(rt; count_items_at(&part, at)? == read, "at {at}");
     }
     assert!(rt; knows_its_file(&part)?);
-    assert!(rt; lends_entries(alloc, &part)?);
+    assert!(rt; lends_entry_bytes(alloc, &part)?);
     Ok(())
 }
 
 /// Tests whether a part lends the entry bytes of its first batch, and the bytes of each of its entries.
-fn lends_entries(alloc: Global, part: &FilePart) -> Result<bool> {
+fn lends_entry_bytes(alloc: Global, part: &FilePart) -> Result<bool> {
     let Some((batch, _)) = next_batch(part, 0)? else {
         return Ok(false);
     };
     for item in batch.iter() {
         if let LogItemContent::EntryIndexes(entries) = &item.content {
-            return are_lent(alloc, part, entries.0.as_slice());
+            return are_both_entries_lent(alloc, part, entries.0.as_slice());
         }
     }
     Ok(false)
 }
 
 /// Tests whether a part lends the block of two entries, and it the bytes of each.
-fn are_lent(alloc: Global, part: &FilePart, entries: &[EntryIndex]) -> Result<bool> {
+fn are_both_entries_lent(alloc: Global, part: &FilePart, entries: &[EntryIndex]) -> Result<bool> {
     let [first, second] = entries else {
         return Ok(false);
     };
@@ -106,22 +107,23 @@ fn knows_its_file(part: &FilePart) -> Result<bool> {
     Ok(decoded_in == Some(FILE) && copy.decoded_in() == Some(FILE) && batch.decoded_in().is_none())
 }
 
+/// Tests that a batch that is cut short or has a flipped bit is refused, wherever that is.
 #[test]
-fn damaged_batches(rt: HostRuntime) {
-    assert!(rt; again!(damaged_batches_are_refused(&rt, rt.alloc())).is_ok());
+fn damaged_batches_are_refused(rt: HostRuntime) {
+    assert!(rt; again!(check_damaged_batches(&rt, rt.alloc())).is_ok());
 }
 
 /// Tests that a batch is refused which is cut short (unless nothing of it is left), or has a flipped bit (unless that
 /// is in its entry block, which isn't read); and that the readable prefix of such bytes ends with the last whole batch,
 /// with the error of the decoders.
-fn damaged_batches_are_refused(rt: &impl Abort, alloc: Global) -> Result<()> {
-    assert!(rt; counted(&part(alloc, b"")?, 0)?.is_none());
+fn check_damaged_batches(rt: &impl Abort, alloc: Global) -> Result<()> {
+    assert!(rt; count_items_at(&part_with_bytes(alloc, b"")?, 0)?.is_none());
     for len in 1..FIRST {
         let bytes = BATCHES.get(..len).unwrap_or(&[]);
-        assert!(rt; is_refused(alloc, bytes)?, "{len} bytes");
+        assert!(rt; is_first_batch_refused(alloc, bytes)?, "{len} bytes");
     }
     for at in 0..FIRST {
-        assert!(rt; is_flip_row(alloc, at)?, "at {at}");
+        assert!(rt; is_flipped_bit_refused(alloc, at)?, "at {at}");
     }
     for &(len, front, reason) in &[
         (0, 0, ""),
@@ -133,7 +135,10 @@ fn damaged_batches_are_refused(rt: &impl Abort, alloc: Global) -> Result<()> {
         (57, FIRST, "a log batch of 24 bytes is cut short"),
         (58, 58, ""),
     ] {
-        assert!(rt; is_front(alloc, len, front, reason)?, "{len} bytes");
+        assert!(rt;
+            is_prefix_readable(alloc, len, front, reason)?,
+            "{len} bytes"
+        );
     }
     Ok(())
 }
@@ -147,20 +152,21 @@ const SIGNED: &[u8; 24] =
 fn is_read_in(alloc: Global, seq: u64, version: Version) -> Result<bool> {
     let id = FileId::new(LogQueue::Append, seq);
     let part = FilePart::new(id, version, 100, Vec::from_slice(alloc, SIGNED)?)?;
-    match counted(&part, 0) {
+    match count_items_at(&part, 0) {
         Ok(read) => Ok(read == Some((1, 24))),
         Err(Error::Corruption(_text)) => Ok(false),
         Err(e) => Err(e),
     }
 }
 
+/// Tests that a signed batch is read in its own file, and in no file whose number differs in its low 32 bits.
 #[test]
-fn signed_batches(rt: HostRuntime) {
-    assert!(rt; again!(signed_batches_are_read_in_their_files(&rt, rt.alloc())).is_ok());
+fn signed_batches_are_read_in_their_files(rt: HostRuntime) {
+    assert!(rt; again!(check_signed_batches(&rt, rt.alloc())).is_ok());
 }
 
 /// Tests that a batch is read in the file that it was signed for, and in another whose number has the same low 32 bits.
-fn signed_batches_are_read_in_their_files(rt: &impl Abort, alloc: Global) -> Result<()> {
+fn check_signed_batches(rt: &impl Abort, alloc: Global) -> Result<()> {
     for &(seq, version, is_read) in &[
         (12, Version::V2, true),
         (13, Version::V2, false),
@@ -176,8 +182,8 @@ fn signed_batches_are_read_in_their_files(rt: &impl Abort, alloc: Global) -> Res
 }
 
 /// Tests whether the batch at the start of these bytes is refused as `Corruption`.
-fn is_refused(alloc: Global, bytes: &[u8]) -> Result<bool> {
-    match counted(&part(alloc, bytes)?, 0) {
+fn is_first_batch_refused(alloc: Global, bytes: &[u8]) -> Result<bool> {
+    match count_items_at(&part_with_bytes(alloc, bytes)?, 0) {
         Ok(_read) => Ok(false),
         Err(Error::Corruption(_text)) => Ok(true),
         Err(e) => Err(e),
@@ -186,17 +192,21 @@ fn is_refused(alloc: Global, bytes: &[u8]) -> Result<bool> {
 
 /// Flips the lowest bit of the byte at `at`, and tests whether the first batch is refused; or, if the byte is in its
 /// entry block, whether the batch is read and the block refused.
-fn is_flip_row(alloc: Global, at: usize) -> Result<bool> {
+fn is_flipped_bit_refused(alloc: Global, at: usize) -> Result<bool> {
     let mut bytes = *BATCHES;
     if let Some(byte) = bytes.get_mut(at) {
         *byte ^= 1;
     }
     let bytes = bytes.get(..FIRST).unwrap_or(&[]);
     if at < 16 || at >= 23 {
-        return is_refused(alloc, bytes);
+        return is_first_batch_refused(alloc, bytes);
     }
-    let is_read = counted(&part(alloc, bytes)?, 0)? == Some((1, FIRST));
-    Ok(is_read && is_block_refused(alloc, bytes)? && is_block_refused_in(&part(alloc, bytes)?)?)
+    let is_read = count_items_at(&part_with_bytes(alloc, bytes)?, 0)? == Some((1, FIRST));
+    Ok(
+        is_read
+            && is_block_refused(alloc, bytes)?
+            && is_block_refused_in(&part_with_bytes(alloc, bytes)?)?,
+    )
 }
 
 /// Tests whether the entry block of the first batch in these bytes is refused as `Corruption`.
@@ -269,36 +279,37 @@ static NO_BLOCKS: [PlaceRow; 6] = [
 ];
 
 /// Returns the rows of places at which there is no entry block.
-fn no_blocks() -> &'static [PlaceRow] {
+fn rows_without_block() -> &'static [PlaceRow] {
     &NO_BLOCKS
 }
 
 /// Tests whether no entry block is lent at the place of a row, with its error.
-fn is_place_row(part: &FilePart, row: &PlaceRow) -> Result<bool> {
-    is_refused_for(entries_block_in(part, row.0), row.1)
+fn is_no_block_lent(part: &FilePart, row: &PlaceRow) -> Result<bool> {
+    is_corruption_with_text(entries_block_in(part, row.0), row.1)
 }
 
 /// Tests whether an entry of `len` bytes at an offset isn't found in three entry bytes, with the error `reason`.
-fn is_entry_row(alloc: Global, offset: u32, len: u32, reason: &str) -> Result<bool> {
+fn is_no_entry_found(alloc: Global, offset: u32, len: u32, reason: &str) -> Result<bool> {
     let entry = EntryIndex {
         index: 10,
         entry_offset: offset,
         entry_len: len,
         ..EntryIndex::default()
     };
-    is_refused_for(entry_bytes(alloc, b"abc", &entry), reason)
-}
-
-#[test]
-fn entry_places(rt: HostRuntime) {
-    assert!(rt; again!(places_are_refused(&rt, rt.alloc())).is_ok());
+    is_corruption_with_text(entry_bytes(alloc, b"abc", &entry), reason)
 }
 
 /// Tests that entry blocks and entries at wrong places are refused, each with its text.
-fn places_are_refused(rt: &impl Abort, alloc: Global) -> Result<()> {
-    let part = part(alloc, BATCHES)?;
-    for row in no_blocks() {
-        assert!(rt; is_place_row(&part, row)?, "{}", row.1);
+#[test]
+fn entries_at_wrong_places_are_refused(rt: HostRuntime) {
+    assert!(rt; again!(check_wrong_places(&rt, rt.alloc())).is_ok());
+}
+
+/// Tests that entry blocks and entries at wrong places are refused, each with its text.
+fn check_wrong_places(rt: &impl Abort, alloc: Global) -> Result<()> {
+    let part = part_with_bytes(alloc, BATCHES)?;
+    for row in rows_without_block() {
+        assert!(rt; is_no_block_lent(&part, row)?, "{}", row.1);
     }
     for &(offset, len, reason) in &[
         (
@@ -317,18 +328,22 @@ fn places_are_refused(rt: &impl Abort, alloc: Global) -> Result<()> {
             "entry 10 ends at byte 8589934590 of an entry block with 3 entry bytes",
         ),
     ] {
-        assert!(rt; is_entry_row(alloc, offset, len, reason)?, "at {offset}");
+        assert!(rt;
+            is_no_entry_found(alloc, offset, len, reason)?,
+            "at {offset}"
+        );
     }
     Ok(())
 }
 
+/// Tests that a part is refused if its end would be past the highest number.
 #[test]
-fn ends(rt: HostRuntime) {
-    assert!(rt; again!(parts_end_at_the_last_offset(&rt, rt.alloc())).is_ok());
+fn parts_end_at_the_last_offset(rt: HostRuntime) {
+    assert!(rt; again!(check_ends_of_parts(&rt, rt.alloc())).is_ok());
 }
 
 /// Tests that a part is refused if its end would be past the highest number.
-fn parts_end_at_the_last_offset(rt: &impl Abort, alloc: Global) -> Result<()> {
+fn check_ends_of_parts(rt: &impl Abort, alloc: Global) -> Result<()> {
     let end = u64::MAX - 58;
     for &(offset, fits) in &[(end, true), (end + 1, false), (u64::MAX, false)] {
         let bytes = Vec::from_slice(alloc, BATCHES)?;
@@ -343,14 +358,18 @@ fn parts_end_at_the_last_offset(rt: &impl Abort, alloc: Global) -> Result<()> {
 
 /// Tests whether the first `front` bytes of the first `len` bytes of `BATCHES` are readable, and the next batch is
 /// refused for `reason`, or not at all if that is empty.
-fn is_front(alloc: Global, len: usize, front: usize, reason: &str) -> Result<bool> {
+fn is_prefix_readable(alloc: Global, len: usize, front: usize, reason: &str) -> Result<bool> {
     let bytes = BATCHES.get(..len).unwrap_or(&[]);
-    is_readable_front(&part(alloc, bytes)?, front, reason)
+    is_prefix_of_part_readable(&part_with_bytes(alloc, bytes)?, front, reason)
 }
 
 /// Tests whether the first `front` bytes of a part are readable, and the next batch is refused for `reason`, or not at
 /// all if that is empty.
-pub(crate) fn is_readable_front(part: &FilePart, front: usize, reason: &str) -> Result<bool> {
+pub(crate) fn is_prefix_of_part_readable(
+    part: &FilePart,
+    front: usize,
+    reason: &str,
+) -> Result<bool> {
     let (readable, error) = readable_front(part);
     match error {
         None => Ok(readable == front && reason.is_empty()),

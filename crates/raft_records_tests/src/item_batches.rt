@@ -86,12 +86,12 @@ static ROWS: [Row; 7] = [
 ];
 
 /// Returns the rows of item batches.
-fn rows() -> &'static [Row] {
+fn item_batch_rows() -> &'static [Row] {
     &ROWS
 }
 
 /// Returns a batch of a put and a delete.
-fn put_and_delete(alloc: Global) -> Result<LogItemBatch> {
+fn batch_of_put_and_delete(alloc: Global) -> Result<LogItemBatch> {
     let mut batch = LogItemBatch::with_capacity(alloc, 2)?;
     let key = Vec::from_slice(alloc, b"put")?;
     batch.put(1, key, Vec::from_slice(alloc, b"put_v")?)?;
@@ -100,7 +100,7 @@ fn put_and_delete(alloc: Global) -> Result<LogItemBatch> {
 }
 
 /// Returns an entry of one byte with an index.
-pub(crate) fn entry(index: u64) -> EntryIndex
+pub(crate) fn entry_with_index(index: u64) -> EntryIndex
     ensures index { result.index ≡ index }
     ensures len { result.entry_len ≡ 1 }
 {
@@ -112,29 +112,44 @@ pub(crate) fn entry(index: u64) -> EntryIndex
 }
 
 /// Returns a batch with three entries of region 7, into which one with two entries of region 8 was merged.
-fn merged(alloc: Global) -> Result<LogItemBatch> {
+fn batch_after_merge(alloc: Global) -> Result<LogItemBatch> {
     let mut batch = LogItemBatch::default(alloc);
     batch.add_entry_indexes(
         7,
-        Vec::from_slice(alloc, &[entry(10), entry(11), entry(12)])?,
+        Vec::from_slice(
+            alloc,
+            &[
+                entry_with_index(10),
+                entry_with_index(11),
+                entry_with_index(12),
+            ],
+        )?,
     )?;
     let mut behind = LogItemBatch::default(alloc);
-    behind.add_entry_indexes(8, Vec::from_slice(alloc, &[entry(1), entry(2)])?)?;
+    behind.add_entry_indexes(
+        8,
+        Vec::from_slice(alloc, &[entry_with_index(1), entry_with_index(2)])?,
+    )?;
     batch.merge(&mut behind)?;
     Ok(batch)
 }
 
 /// Returns the batch that a row names.
-fn batch_of(alloc: Global, made: Made) -> Result<LogItemBatch> {
+fn batch_of_row(alloc: Global, made: Made) -> Result<LogItemBatch> {
     match made {
         Made::Empty => Ok(LogItemBatch::default(alloc)),
-        Made::PutAndDelete => put_and_delete(alloc),
-        Made::Merged => merged(alloc),
+        Made::PutAndDelete => batch_of_put_and_delete(alloc),
+        Made::Merged => batch_after_merge(alloc),
     }
 }
 
 /// Makes the bytes of a batch for append file `seq` in a version, and returns them.
-fn sealed(alloc: Global, batch: &mut LogItemBatch, seq: u64, version: Version) -> Result<Vec<u8>> {
+fn sealed_bytes_in_file(
+    alloc: Global,
+    batch: &mut LogItemBatch,
+    seq: u64,
+    version: Version,
+) -> Result<Vec<u8>> {
     let context = LogFileContext::new(FileId::new(LogQueue::Append, seq), version);
     let mut buf = Vec::new(alloc);
     batch.encode(&mut buf)?;
@@ -143,27 +158,28 @@ fn sealed(alloc: Global, batch: &mut LogItemBatch, seq: u64, version: Version) -
 }
 
 /// Tests whether the batch of a row has its size, its first index, its bytes and its number of items.
-fn is_row(alloc: Global, row: &Row) -> Result<bool> {
+fn row_holds(alloc: Global, row: &Row) -> Result<bool> {
     let (made, approximate_size, first_index, items, version, seq, bytes) = *row;
-    let mut batch = batch_of(alloc, made)?;
+    let mut batch = batch_of_row(alloc, made)?;
     let index = match batch.entry_index() {
         Some(entry) => Some(entry.index),
         None => None,
     };
     let is_seen_so = batch.approximate_size() == approximate_size && index == first_index;
-    let written = sealed(alloc, &mut batch, seq, version)?;
+    let written = sealed_bytes_in_file(alloc, &mut batch, seq, version)?;
     Ok(is_seen_so && written.as_slice() == bytes && batch.drain().count() == items)
 }
 
+/// Tests that each item batch of the rows has its size, its first index, its bytes and its number of items.
 #[test]
-fn item_batches(rt: HostRuntime) {
-    assert!(rt; again!(item_batches_are_as_in_the_rows(&rt, rt.alloc())).is_ok());
+fn item_batches_have_the_bytes_of_the_rows(rt: HostRuntime) {
+    assert!(rt; again!(check_each_item_batch_row(&rt, rt.alloc())).is_ok());
 }
 
 /// Tests each row.
-fn item_batches_are_as_in_the_rows(rt: &impl Abort, alloc: Global) -> Result<()> {
-    for row in rows() {
-        assert!(rt; is_row(alloc, row)?, "of {:?}", row.6);
+fn check_each_item_batch_row(rt: &impl Abort, alloc: Global) -> Result<()> {
+    for row in item_batch_rows() {
+        assert!(rt; row_holds(alloc, row)?, "of {:?}", row.6);
     }
     Ok(())
 }

@@ -3,7 +3,7 @@
 ghost use Rattle.std.specs.Prelude.{◌≡◌, OnOk};
 ghost use Rattle.raft_records.specs.LogBatch.{is_open};
 
-use crate::file_parts::is_readable_front;
+use crate::file_parts::is_prefix_of_part_readable;
 use raft_records::{
     Command, CompressionType, EntryIndex, Error, FileBlockHandle, FileId, FilePart, LogBatch,
     LogFileContext, LogItem, LogItemContent, LogQueue, Result, Version, is_consecutive, next_batch,
@@ -25,7 +25,7 @@ const VALUE: usize = 1 << 16;
 const ITEM_OFFSET: usize = 16 + 5_000 * LENGTH + 4;
 
 /// Adds the entries to a batch, from index 1 on.
-fn add_entries(alloc: Global, batch: &mut LogBatch) -> Result<()>
+fn add_large_entries(alloc: Global, batch: &mut LogBatch) -> Result<()>
     requires { batch.old.stage ≡ is_open }
     ensures { OnOk result (batch.new.stage ≡ is_open) }
 {
@@ -47,7 +47,7 @@ fn add_entries(alloc: Global, batch: &mut LogBatch) -> Result<()>
 }
 
 /// Makes the bytes of an open batch, and returns them as a part of version 2.
-fn part_of(alloc: Global, mut batch: LogBatch) -> Result<FilePart> {
+fn part_with_batch(alloc: Global, mut batch: LogBatch) -> Result<FilePart> {
     if !batch.is_open() {
         return Err(Error::Failed);
     }
@@ -59,17 +59,17 @@ fn part_of(alloc: Global, mut batch: LogBatch) -> Result<FilePart> {
 }
 
 /// Returns a part with the large batch alone.
-fn large_part(alloc: Global) -> Result<FilePart> {
+fn part_with_large_batch(alloc: Global) -> Result<FilePart> {
     let mut batch = LogBatch::default(alloc);
-    add_entries(alloc, &mut batch)?;
+    add_large_entries(alloc, &mut batch)?;
     let mut value = Vec::new(alloc);
     value.resize(VALUE, 0xab)?;
     batch.put(7, Vec::new(alloc), value)?;
-    part_of(alloc, batch)
+    part_with_batch(alloc, batch)
 }
 
 /// Tests whether there are `len` bytes, all of them equal to `byte`.
-fn are_all(bytes: &[u8], len: usize, byte: u8) -> bool {
+fn are_equal_to(bytes: &[u8], len: usize, byte: u8) -> bool {
     for found in bytes {
         if *found != byte {
             return false;
@@ -90,7 +90,7 @@ fn has_entry_bytes(alloc: Global, part: &FilePart) -> Result<bool> {
     let mut index = 0u64;
     for text in entries.as_slice().chunks(LENGTH) {
         index = index.saturating_add(1);
-        if !are_all(text, LENGTH, (index % 251) as u8) {
+        if !are_equal_to(text, LENGTH, (index % 251) as u8) {
             return Ok(false);
         }
     }
@@ -98,7 +98,7 @@ fn has_entry_bytes(alloc: Global, part: &FilePart) -> Result<bool> {
 }
 
 /// Tests whether an item has all entries, the last of them at its place, or the value.
-fn is_whole(item: &LogItem) -> bool {
+fn is_item_complete(item: &LogItem) -> bool {
     match &item.content {
         LogItemContent::EntryIndexes(entries) => match entries.0.last() {
             Some(last) => {
@@ -110,7 +110,7 @@ fn is_whole(item: &LogItem) -> bool {
             None => false,
         },
         LogItemContent::Kv(kv) => match &kv.value {
-            Some(value) => are_all(value.as_slice(), VALUE, 0xab),
+            Some(value) => are_equal_to(value.as_slice(), VALUE, 0xab),
             None => false,
         },
         LogItemContent::Command(_) => false,
@@ -118,29 +118,30 @@ fn is_whole(item: &LogItem) -> bool {
 }
 
 /// Tests whether the large batch is read as it was made.
-fn is_read(alloc: Global) -> Result<bool> {
-    let part = large_part(alloc)?;
+fn is_large_batch_read(alloc: Global) -> Result<bool> {
+    let part = part_with_large_batch(alloc)?;
     let Some((batch, end)) = next_batch(&part, 0)? else {
         return Ok(false);
     };
     for item in batch.iter() {
-        if !is_whole(item) {
+        if !is_item_complete(item) {
             return Ok(false);
         }
     }
     Ok(end == part.bytes().len() && batch.iter().count() == 2 && has_entry_bytes(alloc, &part)?)
 }
 
+/// Tests that a batch of large items is read as it was made, with the bytes of each entry.
 #[test]
 fn large_batches_are_read_again(rt: HostRuntime) {
-    assert!(rt; matches!(again!(is_read(rt.alloc())), Ok(true)));
+    assert!(rt; matches!(again!(is_large_batch_read(rt.alloc())), Ok(true)));
 }
 
 /// How many items the batch with many items has.
 const ITEMS: u64 = 10_000;
 
 /// Returns the batch with many items: each compacts a region, up to the number of the region.
-fn with_many_items(alloc: Global) -> Result<LogBatch> {
+fn batch_with_many_items(alloc: Global) -> Result<LogBatch> {
     let mut batch = LogBatch::default(alloc);
     for id in 0..ITEMS {
         if !batch.is_open() {
@@ -152,7 +153,7 @@ fn with_many_items(alloc: Global) -> Result<LogBatch> {
 }
 
 /// Returns how many items there are, if they compact the regions from 0 on, each up to its number; else `None`.
-fn compacted(items: &[LogItem]) -> Option<u64> {
+fn count_compactions(items: &[LogItem]) -> Option<u64> {
     let mut id = 0u64;
     for item in items {
         match &item.content {
@@ -166,17 +167,18 @@ fn compacted(items: &[LogItem]) -> Option<u64> {
 }
 
 /// Tests whether the batch with many items is read as it was made.
-fn are_all_read(alloc: Global) -> Result<bool> {
-    let part = part_of(alloc, with_many_items(alloc)?)?;
+fn are_many_items_read(alloc: Global) -> Result<bool> {
+    let part = part_with_batch(alloc, batch_with_many_items(alloc)?)?;
     let Some((batch, end)) = next_batch(&part, 0)? else {
         return Ok(false);
     };
-    Ok(end == part.bytes().len() && compacted(batch.as_slice()) == Some(ITEMS))
+    Ok(end == part.bytes().len() && count_compactions(batch.as_slice()) == Some(ITEMS))
 }
 
+/// Tests that a batch of many items is read as it was made.
 #[test]
 fn many_items_are_read_again(rt: HostRuntime) {
-    assert!(rt; matches!(again!(are_all_read(rt.alloc())), Ok(true)));
+    assert!(rt; matches!(again!(are_many_items_read(rt.alloc())), Ok(true)));
 }
 
 /// The length of the value of each of three long batches, in bytes.
@@ -186,20 +188,20 @@ const LONG: usize = 700_000;
 const BATCH: usize = 16 + 1 + 2 + 3 + 3 + LONG + 4;
 
 /// Appends the bytes of a long batch, signed for file 12.
-fn append_long(alloc: Global, bytes: &mut Vec<u8>) -> Result<()> {
+fn append_long_batch(alloc: Global, bytes: &mut Vec<u8>) -> Result<()> {
     let mut value = Vec::new(alloc);
     value.resize(LONG, 0xab)?;
     let mut batch = LogBatch::default(alloc);
     batch.put(7, Vec::from_slice(alloc, b"k")?, value)?;
-    bytes.extend_from_slice(part_of(alloc, batch)?.bytes())?;
+    bytes.extend_from_slice(part_with_batch(alloc, batch)?.bytes())?;
     Ok(())
 }
 
 /// Returns a part of file 12 with three long batches, without its last `missing` bytes.
-fn long_part(alloc: Global, missing: usize) -> Result<FilePart> {
+fn part_with_long_batches(alloc: Global, missing: usize) -> Result<FilePart> {
     let mut bytes = Vec::new(alloc);
     for _ in 0..3 {
-        append_long(alloc, &mut bytes)?;
+        append_long_batch(alloc, &mut bytes)?;
     }
     bytes.truncate(bytes.len().saturating_sub(missing));
     FilePart::new(FileId::new(LogQueue::Append, 12), Version::V2, 0, bytes)
@@ -208,11 +210,11 @@ fn long_part(alloc: Global, missing: usize) -> Result<FilePart> {
 /// Tests whether a part of three long batches, without its last `missing` bytes, is readable up to `end`, and the batch
 /// there is refused for `reason`.
 fn is_readable_to(alloc: Global, missing: usize, end: usize, reason: &str) -> Result<bool> {
-    is_readable_front(&long_part(alloc, missing)?, end, reason)
+    is_prefix_of_part_readable(&part_with_long_batches(alloc, missing)?, end, reason)
 }
 
 /// Tests how far a part of three long batches is readable without its last bytes.
-fn long_parts_are_readable(rt: &impl Abort, alloc: Global) -> Result<()> {
+fn check_long_parts(rt: &impl Abort, alloc: Global) -> Result<()> {
     for &(missing, end, reason) in &[
         (0, 3 * BATCH, ""),
         (1, 2 * BATCH, "a log batch of 700029 bytes is cut short"),
@@ -224,7 +226,8 @@ fn long_parts_are_readable(rt: &impl Abort, alloc: Global) -> Result<()> {
     Ok(())
 }
 
+/// Tests how far a part of long batches is readable if it lacks its last bytes.
 #[test]
-fn long_parts(rt: HostRuntime) {
-    assert!(rt; again!(long_parts_are_readable(&rt, rt.alloc())).is_ok());
+fn long_parts_are_readable_to_the_last_whole_batch(rt: HostRuntime) {
+    assert!(rt; again!(check_long_parts(&rt, rt.alloc())).is_ok());
 }

@@ -6,7 +6,7 @@ ghost use Rattle.raft_records.specs.LogBatch.{is_open};
 mod rows;
 mod written;
 
-use crate::item_batches::entry;
+use crate::item_batches::entry_with_index;
 use raft_records::{
     AtomicGroupBuilder, AtomicGroupStatus, Command, Error, FileBlockHandle, FileId, LogBatch,
     LogFileContext, LogItemBatch, LogQueue, Message, MessageError, MessageExt, ReactiveBytes,
@@ -29,6 +29,11 @@ impl Message for Line {
 
     ghost refuses = { λ line code. (line.text.now ≡ []) × (code ≡ 7) };
 
+    /// Appends the text of the line to `buf`.
+    ///
+    /// # Errors
+    ///
+    /// `Refused(7)` for a line without text; `Memory`. `buf` is unchanged then.
     fn write_to_vec(&self, buf: &mut Vec<u8>) -> std::result::Result<(), MessageError> {
         if self.text.is_empty() {
             return Err(MessageError::Refused(7));
@@ -48,34 +53,35 @@ impl MessageExt for Lines {
 
     ghost index_of = { λ line. line.index };
 
+    /// Returns the index of `line` in its log.
     fn index(line: &Line) -> u64 {
         line.index
     }
 }
 
 /// Returns a line with an index.
-const fn line_of(index: u64, text: &'static [u8]) -> Line {
+const fn line_at(index: u64, text: &'static [u8]) -> Line {
     Line { index, text }
 }
 
 /// Returns a batch with a command for a region.
-fn with_command(alloc: Global, region_id: u64, command: Command) -> Result<LogBatch> {
+fn batch_with_command(alloc: Global, region_id: u64, command: Command) -> Result<LogBatch> {
     let mut batch = LogBatch::default(alloc);
     batch.add_command(region_id, command)?;
     Ok(batch)
 }
 
 /// Returns a batch with a put and a delete.
-fn with_key_values(alloc: Global) -> Result<LogBatch> {
+fn batch_with_key_values(alloc: Global) -> Result<LogBatch> {
     let mut batch = LogBatch::with_capacity(alloc, 2)?;
     let key = Vec::from_slice(alloc, b"put")?;
-    batch.put_message(1, key, &line_of(0, b"put_v"))?;
+    batch.put_message(1, key, &line_at(0, b"put_v"))?;
     batch.delete(1, Vec::new(alloc))?;
     Ok(batch)
 }
 
 /// Returns a batch with lines as the entries of a region.
-fn with_lines(alloc: Global, region_id: u64, lines: &[Line]) -> Result<LogBatch>
+fn batch_with_lines(alloc: Global, region_id: u64, lines: &[Line]) -> Result<LogBatch>
     ensures { IfOk result (λ batch. batch.stage ≡ is_open) }
 {
     let mut batch = LogBatch::default(alloc);
@@ -84,11 +90,18 @@ fn with_lines(alloc: Global, region_id: u64, lines: &[Line]) -> Result<LogBatch>
 }
 
 /// Returns a batch with three entries, of which one has no bytes.
-fn with_raw_entries(alloc: Global) -> Result<LogBatch>
+fn batch_with_raw_entries(alloc: Global) -> Result<LogBatch>
     ensures { IfOk result (λ batch. batch.stage ≡ is_open) }
 {
     let mut batch = LogBatch::default(alloc);
-    let indexes = Vec::from_slice(alloc, &[entry(10), entry(11), entry(12)])?;
+    let indexes = Vec::from_slice(
+        alloc,
+        &[
+            entry_with_index(10),
+            entry_with_index(11),
+            entry_with_index(12),
+        ],
+    )?;
     let texts = vec![in alloc;
         Vec::from_slice(alloc, b"ab")?,
         Vec::new(alloc),
@@ -99,10 +112,10 @@ fn with_raw_entries(alloc: Global) -> Result<LogBatch>
 }
 
 /// Returns a batch with three entries, and one item of each other kind.
-fn with_one_of_each(alloc: Global) -> Result<LogBatch>
+fn batch_with_each_kind_of_item(alloc: Global) -> Result<LogBatch>
     ensures { IfOk result (λ batch. batch.stage ≡ is_open) }
 {
-    let mut batch = with_raw_entries(alloc)?;
+    let mut batch = batch_with_raw_entries(alloc)?;
     batch.add_command(8, Command::Clean)?;
     batch.add_command(7, Command::Compact { index: 11 })?;
     batch.put(
@@ -116,17 +129,17 @@ fn with_one_of_each(alloc: Global) -> Result<LogBatch>
 }
 
 /// Returns three entries of region 7, and two of region 8 in a batch that was merged after theirs.
-fn merged(alloc: Global) -> Result<LogBatch> {
+fn batch_after_merge(alloc: Global) -> Result<LogBatch> {
     let mut batch = LogBatch::default(alloc);
-    let first = [line_of(10, b"x"), line_of(11, b"x"), line_of(12, b"x")];
-    batch.merge(&mut with_lines(alloc, 7, &first)?)?;
-    let second = [line_of(1, b"x"), line_of(2, b"x")];
-    batch.merge(&mut with_lines(alloc, 8, &second)?)?;
+    let first = [line_at(10, b"x"), line_at(11, b"x"), line_at(12, b"x")];
+    batch.merge(&mut batch_with_lines(alloc, 7, &first)?)?;
+    let second = [line_at(1, b"x"), line_at(2, b"x")];
+    batch.merge(&mut batch_with_lines(alloc, 8, &second)?)?;
     Ok(batch)
 }
 
 /// Returns a batch with a group marker of this status.
-fn with_marker(alloc: Global, status: AtomicGroupStatus) -> Result<LogBatch> {
+fn batch_with_marker(alloc: Global, status: AtomicGroupStatus) -> Result<LogBatch> {
     let mut builder = AtomicGroupBuilder::with_id(9);
     let mut batch = LogBatch::default(alloc);
     builder.begin(&mut batch)?;
@@ -142,12 +155,12 @@ fn with_marker(alloc: Global, status: AtomicGroupStatus) -> Result<LogBatch> {
 }
 
 /// Returns append file `seq` in a version.
-fn context(seq: u64, version: Version) -> LogFileContext {
+fn append_file_context(seq: u64, version: Version) -> LogFileContext {
     LogFileContext::new(FileId::new(LogQueue::Append, seq), version)
 }
 
 /// Tests whether a value has these bytes in append file `seq` of a version: `front`, and then `seal`.
-fn is_written<T: ReactiveBytes>(
+fn has_bytes_in_file<T: ReactiveBytes>(
     value: &mut T,
     seq: u64,
     version: Version,
@@ -157,7 +170,7 @@ fn is_written<T: ReactiveBytes>(
     if !value.ready() {
         return false;
     }
-    let bytes = value.as_bytes(&context(seq, version));
+    let bytes = value.as_bytes(&append_file_context(seq, version));
     bytes.len() == front.len() + seal.len() && bytes.starts_with(front) && bytes.ends_with(seal)
 }
 
@@ -186,7 +199,7 @@ fn read_back(
 
 /// Tests whether a signed batch's header, entry bytes and item batch are read, as the row says, in the file that it is
 /// signed for.
-fn is_read_so(
+fn is_read_as_row_says(
     alloc: Global,
     batch: &LogBatch,
     context: &LogFileContext,
@@ -210,7 +223,7 @@ fn is_read_so(
 }
 
 /// Tests whether an open batch has the size of a row, and then its bytes in five files, from which it is read back.
-fn is_made(alloc: Global, batch: &mut LogBatch, row: &Row) -> Result<bool> {
+fn is_row_made_and_read(alloc: Global, batch: &mut LogBatch, row: &Row) -> Result<bool> {
     if batch.ready() || !batch.is_open() || batch.approximate_size() != row.size {
         return Ok(false);
     }
@@ -224,40 +237,41 @@ fn is_made(alloc: Global, batch: &mut LogBatch, row: &Row) -> Result<bool> {
         (row.seals[1], 0x1_0000_000c, Version::V2),
         (row.seals[3], u64::MAX, Version::V2),
     ] {
-        same &= is_written(batch, seq, version, row.front, seal);
-        same &= is_read_so(alloc, batch, &context(seq, version), row)?;
+        same &= has_bytes_in_file(batch, seq, version, row.front, seal);
+        same &= is_read_as_row_says(alloc, batch, &append_file_context(seq, version), row)?;
     }
     Ok(same && batch.is_sealed())
 }
 
+/// Tests that the batch of each row has its size and its bytes in five files, and is read back from them.
 #[test]
-fn rows_of_batches(rt: HostRuntime) {
-    assert!(rt; again!(batches_are_made_and_read_as_in_the_rows(&rt, rt.alloc())).is_ok());
+fn batches_are_made_and_read_as_in_the_rows(rt: HostRuntime) {
+    assert!(rt; again!(check_each_log_batch_row(&rt, rt.alloc())).is_ok());
 }
 
 /// Tests the batch of each row.
-fn batches_are_made_and_read_as_in_the_rows(rt: &impl Abort, alloc: Global) -> Result<()> {
-    for (number, row) in rows::rows().iter().enumerate() {
-        let mut batch = batch_of(alloc, number)?;
-        assert!(rt; is_made(alloc, &mut batch, row)?, "{number}");
+fn check_each_log_batch_row(rt: &impl Abort, alloc: Global) -> Result<()> {
+    for (number, row) in rows::log_batch_rows().iter().enumerate() {
+        let mut batch = open_batch_of_row(alloc, number)?;
+        assert!(rt; is_row_made_and_read(alloc, &mut batch, row)?, "{number}");
     }
     Ok(())
 }
 
 /// Returns the open batch of the row at position `number`.
-fn batch_of(alloc: Global, number: usize) -> Result<LogBatch> {
+fn open_batch_of_row(alloc: Global, number: usize) -> Result<LogBatch> {
     match number {
         0 => Ok(LogBatch::default(alloc)),
-        1 => with_command(alloc, 1, Command::Clean),
-        2 => with_command(alloc, 300, Command::Compact { index: 1 << 40 }),
-        3 => with_command(alloc, 300, Command::Truncate { index: 1 << 40 }),
-        4 => with_key_values(alloc),
-        5 => with_lines(alloc, 7, &[line_of(10, b"ab"), line_of(11, b"c")]),
-        6 => merged(alloc),
-        7 => with_one_of_each(alloc),
-        8 => with_marker(alloc, AtomicGroupStatus::Begin),
-        9 => with_marker(alloc, AtomicGroupStatus::Middle),
-        _ => with_marker(alloc, AtomicGroupStatus::End),
+        1 => batch_with_command(alloc, 1, Command::Clean),
+        2 => batch_with_command(alloc, 300, Command::Compact { index: 1 << 40 }),
+        3 => batch_with_command(alloc, 300, Command::Truncate { index: 1 << 40 }),
+        4 => batch_with_key_values(alloc),
+        5 => batch_with_lines(alloc, 7, &[line_at(10, b"ab"), line_at(11, b"c")]),
+        6 => batch_after_merge(alloc),
+        7 => batch_with_each_kind_of_item(alloc),
+        8 => batch_with_marker(alloc, AtomicGroupStatus::Begin),
+        9 => batch_with_marker(alloc, AtomicGroupStatus::Middle),
+        _ => batch_with_marker(alloc, AtomicGroupStatus::End),
     }
 }
 
@@ -273,7 +287,7 @@ fn refusal_of(called: Result<()>) -> Result<&'static str> {
 }
 
 /// Adds an empty list of entries, given as bytes, to an open batch.
-fn add_nothing(alloc: Global, batch: &mut LogBatch) -> Result<()> {
+fn add_no_entries(alloc: Global, batch: &mut LogBatch) -> Result<()> {
     let (indexes, texts) = (Vec::new(alloc), Vec::new(alloc));
     if !batch.is_open() || indexes.len() != texts.len() || !is_consecutive(&indexes) {
         return Err(Error::Failed);
@@ -282,42 +296,43 @@ fn add_nothing(alloc: Global, batch: &mut LogBatch) -> Result<()> {
 }
 
 /// Makes the call with a number, one of ten, of which the last four aren't refused.
-fn attempt(alloc: Global, batch: &mut LogBatch, number: usize) -> Result<()> {
+fn make_numbered_call(alloc: Global, batch: &mut LogBatch, number: usize) -> Result<()> {
     if !batch.is_open() {
         return Ok(());
     }
     let last = u64::MAX;
     match number {
-        0 => batch.add_entries::<Lines>(1, &[line_of(10, b"a"), line_of(12, b"b")]),
-        1 => batch.add_entries::<Lines>(1, &[line_of(last, b"a")]),
-        2 => batch.add_entries::<Lines>(1, &[line_of(10, b"a"), line_of(11, b"")]),
+        0 => batch.add_entries::<Lines>(1, &[line_at(10, b"a"), line_at(12, b"b")]),
+        1 => batch.add_entries::<Lines>(1, &[line_at(last, b"a")]),
+        2 => batch.add_entries::<Lines>(1, &[line_at(10, b"a"), line_at(11, b"")]),
         3 => batch.put(0, Vec::from_slice(alloc, b"__\x01")?, Vec::new(alloc)),
-        4 => batch.put_message(1, Vec::from_slice(alloc, b"__\x01")?, &line_of(0, b"a")),
-        5 => batch.put_message(1, Vec::from_slice(alloc, b"a")?, &line_of(0, b"")),
+        4 => batch.put_message(1, Vec::from_slice(alloc, b"__\x01")?, &line_at(0, b"a")),
+        5 => batch.put_message(1, Vec::from_slice(alloc, b"a")?, &line_at(0, b"")),
         6 => batch.add_entries::<Lines>(1, &[]),
         7 => batch.put(0, Vec::from_slice(alloc, b"__\x00")?, Vec::new(alloc)),
-        8 => add_nothing(alloc, batch),
+        8 => add_no_entries(alloc, batch),
         _ => batch.delete(0, Vec::from_slice(alloc, b"__\x01")?),
     }
 }
 
+/// Tests for each addition to a batch why it is refused, if it is, and that a refused one leaves the batch as it was.
 #[test]
-fn refused_additions(rt: HostRuntime) {
-    assert!(rt; again!(refused_additions_leave_the_batch(&rt, rt.alloc())).is_ok());
+fn refused_additions_leave_the_batch(rt: HostRuntime) {
+    assert!(rt; again!(check_each_refused_addition(&rt, rt.alloc())).is_ok());
 }
 
 /// Tests whether the call with a number, on a batch with a command, is refused for `refusal` and leaves the batch as it
 /// was; or isn't refused, if `refusal` is empty.
 fn is_refused_and_left(alloc: Global, number: usize, refusal: &str) -> Result<bool> {
-    let mut batch = with_command(alloc, 8, Command::Clean)?;
+    let mut batch = batch_with_command(alloc, 8, Command::Clean)?;
     let before = batch.clone()?;
-    let called = attempt(alloc, &mut batch, number);
+    let called = make_numbered_call(alloc, &mut batch, number);
     let is_left = batch == before && batch.items() == before.items();
     Ok(refusal_of(called)? == refusal && (refusal.is_empty() || is_left))
 }
 
 /// Tests for each call why it is refused, if it is, and which size the batch has then.
-fn refused_additions_leave_the_batch(rt: &impl Abort, alloc: Global) -> Result<()> {
+fn check_each_refused_addition(rt: &impl Abort, alloc: Global) -> Result<()> {
     for &(number, refusal, size) in &[
         (0, "invalid argument", 0),
         (1, "invalid argument", 0),
@@ -331,7 +346,7 @@ fn refused_additions_leave_the_batch(rt: &impl Abort, alloc: Global) -> Result<(
         (9, "", 61),
     ] {
         let mut batch = LogBatch::default(alloc);
-        let called = attempt(alloc, &mut batch, number);
+        let called = make_numbered_call(alloc, &mut batch, number);
         assert!(rt; refusal_of(called)? == refusal, "of call {number}");
         assert!(rt;
             batch.is_open() && batch.approximate_size() == size,
@@ -345,14 +360,14 @@ fn refused_additions_leave_the_batch(rt: &impl Abort, alloc: Global) -> Result<(
 /// Tests whether a batch whose bytes in a file are asked for is then equal to its clone that was signed for the same
 /// file.
 fn is_only_signed(alloc: Global) -> Result<bool> {
-    let mut batch = with_one_of_each(alloc)?;
+    let mut batch = batch_with_each_kind_of_item(alloc)?;
     batch.finish_populate()?;
     let mut signed = batch.clone()?;
     if signed.is_open() || !batch.ready() {
         return Ok(false);
     }
-    signed.prepare_write(&context(12, Version::V2));
-    let len = batch.as_bytes(&context(12, Version::V2)).len();
+    signed.prepare_write(&append_file_context(12, Version::V2));
+    let len = batch.as_bytes(&append_file_context(12, Version::V2)).len();
     if !batch.is_sealed() || !signed.is_sealed() {
         return Ok(false);
     }
@@ -363,6 +378,7 @@ fn is_only_signed(alloc: Global) -> Result<bool> {
     )
 }
 
+/// Tests that asking a batch for its bytes in a file does no more than signing it for that file.
 #[test]
 fn asked_bytes_leave_the_batch(rt: HostRuntime) {
     assert!(rt; matches!(again!(is_only_signed(rt.alloc())), Ok(true)));
@@ -377,7 +393,7 @@ const BEHIND: &[u8] =
     b"\x00\x00\x00\x00\x00\x00\x25\x00\x00\x00\x00\x00\x00\x00\x00\x17\x61\x62\x63\xc2\x41\x24\x35\x02\x08\x02\x01\x07\x01\x02\x0a\x02\x03\xfb\x71\x31\x94";
 
 /// Tests whether an open batch has this size, and whether a copy of it has these bytes in file 12.
-fn is_seen_so(batch: &LogBatch, size: usize, bytes: &[u8]) -> Result<bool> {
+fn has_size_and_bytes(batch: &LogBatch, size: usize, bytes: &[u8]) -> Result<bool> {
     let mut copy = batch.clone()?;
     if !copy.is_open() || copy.approximate_size() != size {
         return Ok(false);
@@ -386,7 +402,7 @@ fn is_seen_so(batch: &LogBatch, size: usize, bytes: &[u8]) -> Result<bool> {
     if !copy.ready() {
         return Ok(false);
     }
-    Ok(len == bytes.len() && copy.as_bytes(&context(12, Version::V2)) == bytes)
+    Ok(len == bytes.len() && copy.as_bytes(&append_file_context(12, Version::V2)) == bytes)
 }
 
 /// Tests whether a list whose second line can't be encoded is refused, and leaves an open batch with its items as it
@@ -396,7 +412,7 @@ fn is_left_by_refusal(batch: &mut LogBatch) -> Result<bool> {
     if !batch.is_open() {
         return Ok(false);
     }
-    let called = batch.add_entries::<Lines>(7, &[line_of(10, b"a"), line_of(11, b"")]);
+    let called = batch.add_entries::<Lines>(7, &[line_at(10, b"a"), line_at(11, b"")]);
     let is_refused = refusal_of(called)? == "message";
     Ok(is_refused && *batch == before && batch.items() == before.items())
 }
@@ -406,21 +422,25 @@ fn is_left_by_refusal(batch: &mut LogBatch) -> Result<bool> {
 fn goes_on_after_refusal(alloc: Global) -> Result<bool> {
     let mut batch = LogBatch::default(alloc);
     batch.add_command(8, Command::Clean)?;
-    if !is_left_by_refusal(&mut batch)? || !is_seen_so(&batch, 42, BEFORE)? || !batch.is_open() {
+    if !is_left_by_refusal(&mut batch)?
+        || !has_size_and_bytes(&batch, 42, BEFORE)?
+        || !batch.is_open()
+    {
         return Ok(false);
     }
-    batch.add_entries::<Lines>(7, &[line_of(10, b"ab"), line_of(11, b"c")])?;
-    add_nothing(alloc, &mut batch)?;
-    is_seen_so(&batch, 86, BEHIND)
+    batch.add_entries::<Lines>(7, &[line_at(10, b"ab"), line_at(11, b"c")])?;
+    add_no_entries(alloc, &mut batch)?;
+    has_size_and_bytes(&batch, 86, BEHIND)
 }
 
+/// Tests that a list with a message that can't be encoded leaves the batch as it was, and that the batch goes on.
 #[test]
 fn refused_messages_leave_the_batch(rt: HostRuntime) {
     assert!(rt; matches!(again!(goes_on_after_refusal(rt.alloc())), Ok(true)));
 }
 
 /// Tests whether the builder of a group has the status of the last group marker that it has added.
-fn has_states(alloc: Global) -> Result<bool> {
+fn has_status_after_each_marker(alloc: Global) -> Result<bool> {
     let mut builder = AtomicGroupBuilder::with_id(9);
     let mut batch = LogBatch::default(alloc);
     let is_new = builder.state().is_none();
@@ -433,13 +453,14 @@ fn has_states(alloc: Global) -> Result<bool> {
     Ok(is_new && has_begun && goes_on && has_ended && batch.items().len() == 3)
 }
 
+/// Tests that the builder of a group has the status of the last group marker that it added.
 #[test]
-fn states_of_a_group(rt: HostRuntime) {
-    assert!(rt; matches!(again!(has_states(rt.alloc())), Ok(true)));
+fn a_group_builder_has_the_status_of_its_last_marker(rt: HostRuntime) {
+    assert!(rt; matches!(again!(has_status_after_each_marker(rt.alloc())), Ok(true)));
 }
 
 /// Tests whether clones of item batches are equal to what they are made of, until an item is added to them.
-fn clones_are_equal(alloc: Global) -> Result<bool> {
+fn are_item_batch_clones_equal(alloc: Global) -> Result<bool> {
     let mut items = LogItemBatch::default(alloc);
     items.delete(1, Vec::new(alloc))?;
     let mut more = items.clone()?;
@@ -449,7 +470,7 @@ fn clones_are_equal(alloc: Global) -> Result<bool> {
 }
 
 /// Tests whether clones of log batches are equal to what they are made of, until the bytes of one are made.
-fn log_batches_are_equal(alloc: Global) -> Result<bool> {
+fn are_log_batch_clones_equal(alloc: Global) -> Result<bool> {
     let mut batch = LogBatch::default(alloc);
     AtomicGroupBuilder::with_id(9).begin(&mut batch)?;
     let mut copy = batch.clone()?;
@@ -459,11 +480,13 @@ fn log_batches_are_equal(alloc: Global) -> Result<bool> {
 }
 
 /// Tests both kinds of batches.
-fn all_clones_are_equal(alloc: Global) -> Result<bool> {
-    Ok(clones_are_equal(alloc)? && log_batches_are_equal(alloc)?)
+fn are_all_clones_equal(alloc: Global) -> Result<bool> {
+    Ok(are_item_batch_clones_equal(alloc)? && are_log_batch_clones_equal(alloc)?)
 }
 
+/// Tests that clones of item batches and log batches are equal to what they are made of, until one of them is
+/// changed.
 #[test]
-fn clones(rt: HostRuntime) {
-    assert!(rt; matches!(again!(all_clones_are_equal(rt.alloc())), Ok(true)));
+fn clones_are_equal_until_one_changes(rt: HostRuntime) {
+    assert!(rt; matches!(again!(are_all_clones_equal(rt.alloc())), Ok(true)));
 }

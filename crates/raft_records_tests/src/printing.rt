@@ -9,7 +9,7 @@ use std::io;
 use std::io::{ErrorKind, Read, Write};
 
 /// Returns the bytes of a batch that puts a value of 100,000 bytes, in a file of version 1.
-fn long_batch(alloc: Global) -> Result<Vec<u8>> {
+fn long_batch_bytes(alloc: Global) -> Result<Vec<u8>> {
     let mut bytes = Vec::from_slice(alloc, b"\x01\x01\x03\x01\x01k\xa0\x8d\x06")?;
     bytes.resize(100_009, 0xab)?;
     bytes.extend_from_slice(b"\x42\x5e\xb9\x6e")?;
@@ -17,9 +17,9 @@ fn long_batch(alloc: Global) -> Result<Vec<u8>> {
 }
 
 /// Prints that batch, and returns the text, if it is the one of the batch.
-fn long_text(alloc: Global) -> Result<Option<String>> {
+fn print_long_batch(alloc: Global) -> Result<Option<String>> {
     let context = LogFileContext::new(FileId::new(LogQueue::Append, 0), Version::V1);
-    let bytes = long_batch(alloc)?;
+    let bytes = long_batch_bytes(alloc)?;
     let text = batch_text(alloc, bytes.as_slice(), &context)?;
     let mut input = bytes.as_slice();
     let mut printed = Vec::new(alloc);
@@ -31,12 +31,13 @@ fn long_text(alloc: Global) -> Result<Option<String>> {
     })
 }
 
+/// Tests that a batch with a value of 100,000 bytes is printed in full.
 #[test]
 fn long_batches_are_printed(rt: HostRuntime) {
     // Want of memory inside a reader or a writer is an io error.
-    let mut answer = long_text(rt.alloc());
+    let mut answer = print_long_batch(rt.alloc());
     if matches!(&answer, Err(Error::Memory | Error::Io(_))) {
-        answer = long_text(rt.alloc());
+        answer = print_long_batch(rt.alloc());
     }
     assert!(rt;
         matches!(&answer, Ok(Some(text)) if text.len() == 200_025
@@ -69,7 +70,7 @@ impl Halting {
     }
 
     /// Counts a call, or returns its error: each second one is interrupted, and after `fails_behind` calls all fail.
-    fn go_on(&mut self) -> io::Result<()> {
+    fn count_call(&mut self) -> io::Result<()> {
         self.is_interrupted = !self.is_interrupted;
         if self.is_interrupted {
             return Err(io::Error::from(ErrorKind::Interrupted));
@@ -83,8 +84,13 @@ impl Halting {
 }
 
 impl Read for Halting {
+    /// Reads at most three of the bytes that are left into `buf`, and counts the call. Returns how many it read.
+    ///
+    /// # Errors
+    ///
+    /// Those of [`Halting::count_call`].
     fn read(&mut self, buf: &mut [u8]) -> io::Result<usize> {
-        self.go_on()?;
+        self.count_call()?;
         let left = self.bytes.get(self.read..).unwrap_or(&[]);
         let count = left.len().min(buf.len()).min(3);
         let (front, _) = buf.split_at_mut(count);
@@ -96,13 +102,19 @@ impl Read for Halting {
 }
 
 impl Write for Halting {
+    /// Appends at most three bytes of `buf`, and counts the call. Returns how many it took.
+    ///
+    /// # Errors
+    ///
+    /// Those of [`Halting::count_call`].
     fn write(&mut self, buf: &[u8]) -> io::Result<usize> {
-        self.go_on()?;
+        self.count_call()?;
         let (taken, _) = buf.split_at(buf.len().min(3));
         self.bytes.extend_from_slice(taken)?;
         Ok(taken.len())
     }
 
+    /// Does nothing.
     fn flush(&mut self) -> io::Result<()> {
         Ok(())
     }
@@ -116,7 +128,7 @@ const LINES: &str = "1 clean\nitems 1 rest 0\n";
 
 /// Prints the batch with a reader that fails after so many reads and a writer that fails after so many writes. Returns
 /// what is written, and whether the error of one of them is passed on.
-fn printed(alloc: Global, reads: usize, writes: usize) -> Result<(Vec<u8>, bool)> {
+fn print_with_failures(alloc: Global, reads: usize, writes: usize) -> Result<(Vec<u8>, bool)> {
     let context = LogFileContext::new(FileId::new(LogQueue::Append, 12), Version::V1);
     let mut reader = Halting::new(Vec::from_slice(alloc, CLEAN)?, reads);
     let mut writer = Halting::new(Vec::with_capacity(alloc, LINES.len())?, writes);
@@ -129,27 +141,28 @@ fn printed(alloc: Global, reads: usize, writes: usize) -> Result<(Vec<u8>, bool)
 }
 
 /// Tests whether the first `len` bytes of the lines are written, and there is an error unless these are all.
-fn are_printed(alloc: Global, reads: usize, writes: usize, len: usize) -> Result<bool> {
-    let (written, is_refused) = printed(alloc, reads, writes)?;
+fn are_first_lines_printed(alloc: Global, reads: usize, writes: usize, len: usize) -> Result<bool> {
+    let (written, is_refused) = print_with_failures(alloc, reads, writes)?;
     Ok(LINES.as_bytes().get(..len) == Some(written.as_slice()) && is_refused == (len < LINES.len()))
 }
 
 /// Tests that nothing is written where a read fails, and that what earlier writes took is written where a write fails.
-fn failures_are_handed_on(alloc: Global) -> Result<bool> {
+fn are_all_failures_returned(alloc: Global) -> Result<bool> {
     for reads in 0..4 {
-        if !are_printed(alloc, reads, 8, 0)? {
+        if !are_first_lines_printed(alloc, reads, 8, 0)? {
             return Ok(false);
         }
     }
     for writes in 0..9 {
-        if !are_printed(alloc, 4, writes, LINES.len().min(writes.saturating_mul(3)))? {
+        if !are_first_lines_printed(alloc, 4, writes, LINES.len().min(writes.saturating_mul(3)))? {
             return Ok(false);
         }
     }
     Ok(true)
 }
 
+/// Tests that printing returns the error of a reader or a writer that fails, after each number of calls.
 #[test]
-fn each_failing_read_and_write_is_handed_on(rt: HostRuntime) {
-    assert!(rt; matches!(again!(failures_are_handed_on(rt.alloc())), Ok(true)));
+fn each_failing_read_and_write_is_returned(rt: HostRuntime) {
+    assert!(rt; matches!(again!(are_all_failures_returned(rt.alloc())), Ok(true)));
 }

@@ -1,6 +1,6 @@
 //! Tests batches that are read in place of one another, whole and damaged.
 
-use crate::file_parts::{FILE, part};
+use crate::file_parts::{FILE, part_with_bytes};
 use raft_records::{
     Error, FileBlockHandle, FilePart, LogFileContext, ReadBatch, ReadContent, Result, next_batch,
 };
@@ -52,7 +52,7 @@ fn has_items_at(
 }
 
 /// Tests whether a batch is the second one of `BATCHES`.
-fn is_second(batch: &ReadBatch<'_>) -> bool {
+fn is_second_batch(batch: &ReadBatch<'_>) -> bool {
     let (place, items, spans) = batch.parts();
     let own_place = FileBlockHandle {
         id: FILE,
@@ -81,14 +81,15 @@ fn is_second(batch: &ReadBatch<'_>) -> bool {
         && is_put
 }
 
+/// Tests that batches are read in any order into the memory of the one before.
 #[test]
-fn read_batches(rt: HostRuntime) {
-    assert!(rt; again!(batches_are_read_in_place_of_one_another(&rt, rt.alloc())).is_ok());
+fn batches_are_read_in_place_of_one_another(rt: HostRuntime) {
+    assert!(rt; again!(check_batches_read_in_turn(&rt, rt.alloc())).is_ok());
 }
 
 /// Tests that each batch is read into the memory of the one before it, in any order.
-fn batches_are_read_in_place_of_one_another(rt: &impl Abort, alloc: Global) -> Result<()> {
-    let part = part(alloc, BATCHES)?;
+fn check_batches_read_in_turn(rt: &impl Abort, alloc: Global) -> Result<()> {
+    let part = part_with_bytes(alloc, BATCHES)?;
     let mut batch = ReadBatch::new(alloc, FILE);
     for &(at, end, items) in &[
         (FIRST, Some(138), 2),
@@ -98,33 +99,34 @@ fn batches_are_read_in_place_of_one_another(rt: &impl Abort, alloc: Global) -> R
     ] {
         assert!(rt; read_at(&mut batch, &part, at)? == end, "at {at}");
         assert!(rt; has_items_at(alloc, &batch, &part, at, items)?, "at {at}");
-        assert!(rt; is_second(&batch) == (at == FIRST), "at {at}");
+        assert!(rt; is_second_batch(&batch) == (at == FIRST), "at {at}");
     }
     Ok(())
 }
 
+/// Tests that a damaged batch, read in place of another one, leaves no items.
 #[test]
-fn damaged_read_batches(rt: HostRuntime) {
-    assert!(rt; again!(damaged_batches_hold_no_items(&rt, rt.alloc())).is_ok());
+fn damaged_batches_hold_no_items(rt: HostRuntime) {
+    assert!(rt; again!(check_damaged_batches_in_turn(&rt, rt.alloc())).is_ok());
 }
 
 /// Tests that a batch with a flipped bit, anywhere but in its entry block, leaves no items when it is read in place of
 /// another one.
-fn damaged_batches_hold_no_items(rt: &impl Abort, alloc: Global) -> Result<()> {
+fn check_damaged_batches_in_turn(rt: &impl Abort, alloc: Global) -> Result<()> {
     for at in (FIRST..FIRST + 16).chain(FIRST + 22..138) {
-        assert!(rt; is_flip_refused(alloc, at)?, "at {at}");
+        assert!(rt; is_flipped_bit_refused(alloc, at)?, "at {at}");
     }
     Ok(())
 }
 
 /// Flips the lowest bit of the byte at `at`, and tests whether the second batch is refused and leaves no items, and the
 /// first one is read before and again.
-fn is_flip_refused(alloc: Global, at: usize) -> Result<bool> {
+fn is_flipped_bit_refused(alloc: Global, at: usize) -> Result<bool> {
     let mut bytes = *BATCHES;
     if let Some(byte) = bytes.get_mut(at) {
         *byte ^= 1;
     }
-    let part = part(alloc, bytes.as_slice())?;
+    let part = part_with_bytes(alloc, bytes.as_slice())?;
     let mut batch = ReadBatch::new(alloc, FILE);
     let before = read_at(&mut batch, &part, 0)?;
     match read_at(&mut batch, &part, FIRST) {

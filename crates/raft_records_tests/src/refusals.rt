@@ -266,12 +266,12 @@ static ROWS: [Row; 50] = [
 ];
 
 /// Returns the rows of bytes.
-fn rows() -> &'static [Row] {
+fn refusal_rows() -> &'static [Row] {
     &ROWS
 }
 
 /// Tests whether a result is `Corruption` with this text, or `Codec` if the text is empty.
-pub(crate) fn is_refused_for<T: Drop>(answer: Result<T>, text: &str) -> Result<bool> {
+pub(crate) fn is_corruption_with_text<T: Drop>(answer: Result<T>, text: &str) -> Result<bool> {
     match answer {
         Ok(_read) => Ok(false),
         Err(Error::Corruption(found)) => Ok(!text.is_empty() && found.as_str() == text),
@@ -281,7 +281,7 @@ pub(crate) fn is_refused_for<T: Drop>(answer: Result<T>, text: &str) -> Result<b
 }
 
 /// Reads the start of `buf` in a form, and returns the entry bytes; none for a header.
-fn decode(alloc: Global, form: Form, buf: &mut &[u8]) -> Result<Vec<u8>> {
+fn decode_in_form(alloc: Global, form: Form, buf: &mut &[u8]) -> Result<Vec<u8>> {
     match form {
         Form::Header => {
             LogBatch::decode_header(alloc, buf)?;
@@ -291,12 +291,17 @@ fn decode(alloc: Global, form: Form, buf: &mut &[u8]) -> Result<Vec<u8>> {
             let place = FileBlockHandle { len, ..PLACE };
             LogBatch::decode_entries_block(alloc, *buf, place, CompressionType::None)
         }
-        Form::Items(version, seq) => decode_no_items(alloc, buf, version, seq),
+        Form::Items(version, seq) => decode_batch_without_items(alloc, buf, version, seq),
     }
 }
 
 /// Reads an item batch, and returns no bytes; `Failed` where it has items.
-fn decode_no_items(alloc: Global, buf: &mut &[u8], version: Version, seq: u64) -> Result<Vec<u8>> {
+fn decode_batch_without_items(
+    alloc: Global,
+    buf: &mut &[u8],
+    version: Version,
+    seq: u64,
+) -> Result<Vec<u8>> {
     let file = LogFileContext::new(FileId::new(LogQueue::Append, seq), version);
     let batch = LogItemBatch::decode(alloc, buf, PLACE, CompressionType::None, &file)?;
     if !batch.into_items().is_empty() {
@@ -306,25 +311,26 @@ fn decode_no_items(alloc: Global, buf: &mut &[u8], version: Version, seq: u64) -
 }
 
 /// Tests whether the bytes of a row are read as it says, or refused as it says, and nothing is read.
-fn is_row(alloc: Global, row: &Row) -> Result<bool> {
+fn row_holds(alloc: Global, row: &Row) -> Result<bool> {
     let (form, bytes, owed) = *row;
     let mut buf = bytes;
-    let read = decode(alloc, form, &mut buf);
+    let read = decode_in_form(alloc, form, &mut buf);
     match owed {
         Ok(entry_bytes) => Ok(read?.as_slice() == entry_bytes),
-        Err(text) => Ok(is_refused_for(read, text)? && buf == bytes),
+        Err(text) => Ok(is_corruption_with_text(read, text)? && buf == bytes),
     }
 }
 
+/// Tests that the bytes of each row are read, or are refused with its text and left unread.
 #[test]
-fn refusals(rt: HostRuntime) {
-    assert!(rt; again!(bytes_are_read_or_refused_and_left(&rt, rt.alloc())).is_ok());
+fn bytes_are_read_or_refused_and_left(rt: HostRuntime) {
+    assert!(rt; again!(check_each_refusal_row(&rt, rt.alloc())).is_ok());
 }
 
 /// Tests each row.
-fn bytes_are_read_or_refused_and_left(rt: &impl Abort, alloc: Global) -> Result<()> {
-    for row in rows() {
-        assert!(rt; is_row(alloc, row)?, "at {:?}", row.1);
+fn check_each_refusal_row(rt: &impl Abort, alloc: Global) -> Result<()> {
+    for row in refusal_rows() {
+        assert!(rt; row_holds(alloc, row)?, "at {:?}", row.1);
     }
     Ok(())
 }

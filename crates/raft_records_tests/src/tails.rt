@@ -197,17 +197,17 @@ static ROWS: [Row; 20] = [
 ];
 
 /// Returns the rows of tails.
-fn rows() -> &'static [Row] {
+fn tail_rows() -> &'static [Row] {
     &ROWS
 }
 
 /// Returns these bytes as the part of file 12 from offset 100 on.
-fn part(alloc: Global, version: Version, bytes: &[u8]) -> Result<FilePart> {
+fn part_with_bytes(alloc: Global, version: Version, bytes: &[u8]) -> Result<FilePart> {
     FilePart::new(FILE, version, 100, Vec::from_slice(alloc, bytes)?)
 }
 
 /// Tests whether the bytes from `at` on can be what is left of a single batch.
-fn is_broken(part: &FilePart, at: usize) -> Result<bool> {
+fn is_rest_of_one_batch(part: &FilePart, at: usize) -> Result<bool> {
     if at > part.bytes().len() {
         return Ok(false);
     }
@@ -216,44 +216,47 @@ fn is_broken(part: &FilePart, at: usize) -> Result<bool> {
 
 /// Tests whether the next sound batch, the next one that is signed for another file, and whether the tail can be a
 /// part of one batch, are as in a row.
-fn is_row(alloc: Global, row: &Row) -> Result<bool> {
-    let part = part(alloc, row.version, row.bytes)?;
+fn row_holds(alloc: Global, row: &Row) -> Result<bool> {
+    let part = part_with_bytes(alloc, row.version, row.bytes)?;
     let found = (
         next_sound(&part, row.from)?,
         signed_elsewhere(&part, row.from)?,
     );
-    Ok(found == (row.sound, row.elsewhere) && is_broken(&part, row.from)? == row.broken)
+    Ok(found == (row.sound, row.elsewhere) && is_rest_of_one_batch(&part, row.from)? == row.broken)
 }
 
+/// Tests for each tail where the next sound batch is, where one signed for another file, and whether it is the rest
+/// of one batch.
 #[test]
-fn stops(rt: HostRuntime) {
-    assert!(rt; again!(stops_are_told_apart(&rt, rt.alloc())).is_ok());
+fn stops_are_told_apart(rt: HostRuntime) {
+    assert!(rt; again!(check_each_tail_row(&rt, rt.alloc())).is_ok());
 }
 
 /// Tests each row.
-fn stops_are_told_apart(rt: &impl Abort, alloc: Global) -> Result<()> {
-    for row in rows() {
+fn check_each_tail_row(rt: &impl Abort, alloc: Global) -> Result<()> {
+    for row in tail_rows() {
         let from = row.from;
-        assert!(rt; is_row(alloc, row)?, "from {from}");
+        assert!(rt; row_holds(alloc, row)?, "from {from}");
     }
     Ok(())
 }
 
+/// Tests that each shorter prefix of a batch can be what is left of one batch, and that the whole batch can't.
 #[test]
-fn parts_of_batches(rt: HostRuntime) {
-    assert!(rt; again!(parts_are_broken_off(&rt, rt.alloc())).is_ok());
+fn prefixes_of_a_batch_can_be_its_rest(rt: HostRuntime) {
+    assert!(rt; again!(check_prefixes_of_a_batch(&rt, rt.alloc())).is_ok());
 }
 
 /// Tests that each shorter prefix of a batch with items of all kinds can be what is left of one batch, and that the
 /// whole batch can't, also where its header gives a length that passes the end.
-fn parts_are_broken_off(rt: &impl Abort, alloc: Global) -> Result<()> {
+fn check_prefixes_of_a_batch(rt: &impl Abort, alloc: Global) -> Result<()> {
     for len in 0..=FIRST {
         assert!(rt;
-            is_broken_front(alloc, len, 0)? == (len < FIRST),
+            is_prefix_rest_of_one_batch(alloc, len, 0)? == (len < FIRST),
             "{len} bytes"
         );
         assert!(rt;
-            is_broken_front(alloc, len, 0x80)? == (len < FIRST),
+            is_prefix_rest_of_one_batch(alloc, len, 0x80)? == (len < FIRST),
             "{len} bytes"
         );
     }
@@ -262,11 +265,11 @@ fn parts_are_broken_off(rt: &impl Abort, alloc: Global) -> Result<()> {
 
 /// Tests whether the first `len` bytes of `BATCHES`, with some bits of the first length flipped, can be what is left of
 /// a single batch.
-fn is_broken_front(alloc: Global, len: usize, bits: u8) -> Result<bool> {
+fn is_prefix_rest_of_one_batch(alloc: Global, len: usize, bits: u8) -> Result<bool> {
     let mut bytes = Vec::from_slice(alloc, BATCHES)?;
     if let Some(byte) = bytes.get_mut(6) {
         *byte ^= bits;
     }
     bytes.truncate(len);
-    is_broken(&part(alloc, Version::V1, &bytes)?, 0)
+    is_rest_of_one_batch(&part_with_bytes(alloc, Version::V1, &bytes)?, 0)
 }

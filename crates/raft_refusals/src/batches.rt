@@ -1,8 +1,8 @@
 //! Batches that are filled, merged, marked as a group, made into bytes and signed.
 
 use crate::calls::Call;
-use crate::found::{Found, call_twice, is_refused};
-use crate::steps::{Step, add_step, batch_of};
+use crate::found::{Found, call_twice, is_lack_of_memory};
+use crate::steps::{Step, add_step, batch_with_steps};
 use raft_records::{
     AtomicGroupBuilder, AtomicGroupStatus, Error, FileId, FileSeq, LogBatch, LogFileContext,
     LogQueue, Result, Version,
@@ -104,8 +104,8 @@ fn finish_batch(batch: &mut LogBatch) -> Result<usize> {
 ///
 /// That of the first call that fails.
 pub(crate) fn merge_two_batches(found: &mut Found) -> Result<()> {
-    let mut batch = batch_of(found.alloc, &[Step::Run(7, 1, 3), Step::Clean(2)])?;
-    let mut behind = batch_of(
+    let mut batch = batch_with_steps(found.alloc, &[Step::Run(7, 1, 3), Step::Clean(2)])?;
+    let mut behind = batch_with_steps(
         found.alloc,
         &[Step::Run(8, 1, 30), Step::Put(3, b"k", b"v")],
     )?;
@@ -132,7 +132,9 @@ fn merge_batch_behind(
         return Err(Error::Failed);
     }
     let answer = batch.merge(behind);
-    found.note_state(!is_refused(&answer) || *batch == before && *behind == behind_before);
+    found.note_what_refusal_left(
+        !is_lack_of_memory(&answer) || *batch == before && *behind == behind_before,
+    );
     answer
 }
 
@@ -141,7 +143,7 @@ fn merge_batch_behind(
 /// # Errors
 ///
 /// That of the first call that fails.
-pub(crate) fn mark_group(found: &mut Found) -> Result<()> {
+pub(crate) fn print_group_batches(found: &mut Found) -> Result<()> {
     let mut builder = AtomicGroupBuilder::with_id(9);
     for _ in 0..3 {
         let mut batch = LogBatch::default(found.alloc);
@@ -174,6 +176,8 @@ fn add_next_marker(
         Some(AtomicGroupStatus::Middle) => builder.end(batch),
         Some(AtomicGroupStatus::End) => Err(Error::Failed),
     };
-    found.note_state(!is_refused(&answer) || *batch == before && builder.state() == state);
+    found.note_what_refusal_left(
+        !is_lack_of_memory(&answer) || *batch == before && builder.state() == state,
+    );
     answer
 }

@@ -64,7 +64,7 @@ pub(crate) enum Call {
 
 /// Returns the calls of the row named `row`, such as `items` or `batches`. Returns none if no row of this
 /// file has that name.
-fn calls_of(row: &str) -> &'static [Call] {
+fn calls_of_row(row: &str) -> &'static [Call] {
     match row {
         "items" => &ITEMS,
         "item-batch-bytes" => &ITEM_BATCHES,
@@ -101,13 +101,13 @@ pub(crate) fn make_all_calls<R: Threads + Sync>(
     found: &mut Found,
     row: &str,
 ) -> Result<()> {
-    let calls = calls_of(row);
+    let calls = calls_of_row(row);
     if calls.is_empty() {
         return found.append_line("there is no such row");
     }
     for call in calls {
         if let Err(error) = make_call(rt, found, *call) {
-            found.add_refusal(error)?;
+            found.append_error_word(error)?;
         }
     }
     Ok(())
@@ -141,12 +141,12 @@ fn make_call<R: Threads + Sync>(rt: &R, found: &mut Found, call: Call) -> Result
         Call::Overlay(rewritten, appended) => contexts::overlay_histories(
             found, rewritten, appended,
         ),
-        Call::CountPuts => contexts::count_puts(found),
-        Call::Count(history) => contexts::count_kept(found, history),
+        Call::CountPuts => contexts::print_kept_of_many_puts(found),
+        Call::Count(history) => contexts::print_kept_of_history(found, history),
         Call::Tickets => recoveries::draw_tickets(found),
         Call::CountPieces(segments, draws) => recoveries::count_pieces(found, segments, draws),
         Call::Recover(history, how) => recoveries::recover_history(rt, found, history, how),
-        Call::PrintBatch(bytes) => recoveries::print_bytes(found, bytes),
-        Call::PrintFile(bytes) => recoveries::print_file(rt, found, bytes),
+        Call::PrintBatch(bytes) => recoveries::print_item_batch(found, bytes),
+        Call::PrintFile(bytes) => recoveries::recover_and_print_file(rt, found, bytes),
     }
 }

@@ -1,7 +1,7 @@
 //! Contexts that read batches, are merged, and are put over one another.
 
 use crate::found::Found;
-use crate::histories::{Batch, History, batch_segments, part_of};
+use crate::histories::{Batch, History, batch_segments, part_with_batch};
 use crate::steps::Step;
 use crate::writes::print_tables;
 use raft_memtable::{Error, FileId, LogItemBatch, LogQueue, MemTableRecoverContext, Result};
@@ -16,7 +16,7 @@ use raft_recover::Segment;
 /// That of the first call that fails.
 pub(crate) fn merge_history(found: &mut Found, history: History) -> Result<()> {
     let context = merge_batches(found, history.queue, history.batches)?;
-    print_context(found, context)
+    finish_and_print_context(found, context)
 }
 
 /// Finishes `context`, and adds the lines of its tables, as [`print_tables`] does.
@@ -24,7 +24,7 @@ pub(crate) fn merge_history(found: &mut Found, history: History) -> Result<()> {
 /// # Errors
 ///
 /// `Failed` for a failed context; `Memory`.
-fn print_context(found: &mut Found, context: MemTableRecoverContext) -> Result<()> {
+fn finish_and_print_context(found: &mut Found, context: MemTableRecoverContext) -> Result<()> {
     let tables = context.finish()?;
     print_tables(found, &tables)
 }
@@ -109,7 +109,9 @@ fn note_failed_context(
     let file = FileId::new(LogQueue::Append, u64::MAX);
     let again = context.replay(LogItemBatch::default(found.alloc), file);
     let kept = context.kept();
-    found.note_state(matches!(again, Err(Error::Failed)) && matches!(kept, Err(Error::Failed)));
+    found.note_what_refusal_left(
+        matches!(again, Err(Error::Failed)) && matches!(kept, Err(Error::Failed)),
+    );
 }
 
 /// Reads the batches `rewritten` of the rewrite queue and `appended` of the append queue, puts the context of
@@ -129,7 +131,7 @@ pub(crate) fn overlay_histories(
     let answer = context.merge_append_context(append);
     note_failed_context(found, &mut context, &answer);
     answer?;
-    print_context(found, context)
+    finish_and_print_context(found, context)
 }
 
 /// Adds a line with what a context holds after 20 batches that put the same key.
@@ -137,11 +139,11 @@ pub(crate) fn overlay_histories(
 /// # Errors
 ///
 /// That of the first call that fails.
-pub(crate) fn count_puts(found: &mut Found) -> Result<()> {
+pub(crate) fn print_kept_of_many_puts(found: &mut Found) -> Result<()> {
     let mut context = MemTableRecoverContext::new(found.alloc)?;
     for seq in 1..21u64 {
         let file = FileId::new(LogQueue::Append, seq);
-        let part = part_of(found.alloc, file, 0, &[Step::Put(1, b"k", b"v")])?;
+        let part = part_with_batch(found.alloc, file, 0, &[Step::Put(1, b"k", b"v")])?;
         replay_first_batch(found, &mut context, &part)?;
     }
     print_kept(found, &context)
@@ -152,7 +154,7 @@ pub(crate) fn count_puts(found: &mut Found) -> Result<()> {
 /// # Errors
 ///
 /// That of the first call that fails.
-pub(crate) fn count_kept(found: &mut Found, history: History) -> Result<()> {
+pub(crate) fn print_kept_of_history(found: &mut Found, history: History) -> Result<()> {
     let context = merge_batches(found, history.queue, history.batches)?;
     print_kept(found, &context)
 }

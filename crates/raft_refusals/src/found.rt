@@ -56,7 +56,7 @@ impl Found {
 
     /// Notes whether a refused call has left what it must leave, which `stands` says. One `false` counts for
     /// the whole row.
-    pub(crate) fn note_state(&mut self, stands: bool) {
+    pub(crate) fn note_what_refusal_left(&mut self, stands: bool) {
         if !stands {
             self.stands = false;
         }
@@ -67,7 +67,7 @@ impl Found {
     /// # Errors
     ///
     /// `Memory` if `error` is that, which ends the row without a line; or if there is none for the line.
-    pub(crate) fn add_refusal(&mut self, error: Error) -> Result<()> {
+    pub(crate) fn append_error_word(&mut self, error: Error) -> Result<()> {
         if matches!(error, Error::Memory) {
             return Err(error);
         }
@@ -83,7 +83,7 @@ impl Found {
     pub(crate) fn note_second_try<T>(&mut self, answer: Result<T>) -> Result<T>
         ensures { result ≡ answer }
     {
-        if is_refused(&answer) {
+        if is_lack_of_memory(&answer) {
             self.is_in_vain = true;
         }
         answer
@@ -94,8 +94,8 @@ impl Found {
 macro_rules! call_twice {
     ($found:ident; $call:expr; $stands:expr) => {{
         let mut answer = $call;
-        if crate::found::is_refused(&answer) {
-            $found.note_state($stands);
+        if crate::found::is_lack_of_memory(&answer) {
+            $found.note_what_refusal_left($stands);
             answer = $call;
             answer = $found.note_second_try(answer);
         }
@@ -106,7 +106,7 @@ macro_rules! call_twice {
 pub(crate) use call_twice;
 
 /// Tests whether `answer`, the result of a call, is `Memory`.
-pub(crate) fn is_refused<T>(answer: &Result<T>) -> bool {
+pub(crate) fn is_lack_of_memory<T>(answer: &Result<T>) -> bool {
     matches!(answer, Err(Error::Memory))
 }
 

@@ -215,7 +215,7 @@ pub(crate) static KEPT: [Call; 2] = [Call::CountPuts, Call::Count(REWRITTEN)];
 ///
 /// # Errors
 ///
-/// Those of [`part_of`]; `Memory`.
+/// Those of [`part_with_batch`]; `Memory`.
 pub(crate) fn batch_segments(
     alloc: Global,
     queue: LogQueue,
@@ -226,7 +226,7 @@ pub(crate) fn batch_segments(
     for &(seq, steps) in batches {
         let mut segment = Vec::new(alloc);
         if seq != 0 {
-            segment.push(part_of(alloc, FileId::new(queue, seq), offset, steps)?)?;
+            segment.push(part_with_batch(alloc, FileId::new(queue, seq), offset, steps)?)?;
         }
         segments.push(segment)?;
         offset = offset.saturating_add(1000);
@@ -239,7 +239,7 @@ pub(crate) fn batch_segments(
 /// # Errors
 ///
 /// Those of [`sealed_batch`]; `InvalidArgument` if the bytes would end after offset 2^64 - 1; `Memory`.
-pub(crate) fn part_of(
+pub(crate) fn part_with_batch(
     alloc: Global,
     file: FileId,
     offset: u64,

@@ -3,8 +3,8 @@
 ghost use Rattle.std.specs.Prelude.{◌≡◌};
 
 use crate::calls::Call;
-use crate::found::{Found, call_twice, is_refused};
-use crate::steps::message;
+use crate::found::{Found, call_twice, is_lack_of_memory};
+use crate::steps::proposal_with_text;
 use raft_records::{
     Command, CompressionType, EntryIndex, Error, FileBlockHandle, FileId, LogFileContext,
     LogItemBatch, LogQueue, Result, Version,
@@ -68,7 +68,7 @@ pub(crate) fn encode_both_batches(found: &mut Found) -> Result<()> {
 /// # Errors
 ///
 /// That of the first call that fails.
-pub(crate) fn add_entries(found: &mut Found) -> Result<()> {
+pub(crate) fn encode_five_entry_items(found: &mut Found) -> Result<()> {
     let mut batch = LogItemBatch::default(found.alloc);
     for change in &ENTRIES {
         change_and_retry(found, &mut batch, *change)?;
@@ -98,11 +98,11 @@ fn change_batch(alloc: Global, batch: &mut LogItemBatch, change: Change) -> Resu
         Change::Command(index) => batch.add_command(1, Command::Compact { index }),
         Change::Put(key, value) => put_value(alloc, batch, key, value),
         Change::PutMessage(key, text) => {
-            let value = message(alloc, text)?;
+            let value = proposal_with_text(alloc, text)?;
             batch.put_message(1, Vec::from_slice(alloc, key)?, &value)
         }
         Change::Delete(key) => batch.delete(1, Vec::from_slice(alloc, key)?),
-        Change::Merge => merge_commands(alloc, batch),
+        Change::Merge => merge_two_commands(alloc, batch),
         Change::Entries(region, first, lengths) => add_two_entries(
             alloc, batch, region, first, lengths,
         ),
@@ -162,7 +162,7 @@ fn put_value(alloc: Global, batch: &mut LogItemBatch, key: &[u8], value: &[u8]) 
 /// # Errors
 ///
 /// `Memory` alone. The batch is unchanged then.
-fn merge_commands(alloc: Global, batch: &mut LogItemBatch) -> Result<()> {
+fn merge_two_commands(alloc: Global, batch: &mut LogItemBatch) -> Result<()> {
     let mut behind = LogItemBatch::default(alloc);
     behind.add_command(2, Command::Clean)?;
     behind.add_command(3, Command::Truncate { index: 300 })?;
@@ -221,7 +221,7 @@ pub(crate) fn read_batch(
     let alloc = found.alloc;
     let mut buf = bytes;
     let answer = LogItemBatch::decode(alloc, &mut buf, place, CompressionType::None, &context);
-    found.note_state(!is_refused(&answer) || buf == bytes);
+    found.note_what_refusal_left(!is_lack_of_memory(&answer) || buf == bytes);
     let batch = answer?;
     let items = batch.iter().as_slice().len();
     found.append_line(format!(in alloc; "items {items} rest {}", buf.len())?.as_str())

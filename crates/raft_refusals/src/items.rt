@@ -1,7 +1,7 @@
 //! Items, and parts of items, that are read and written again.
 
 use crate::calls::Call;
-use crate::found::{Found, is_refused};
+use crate::found::{Found, is_lack_of_memory};
 use raft_records::{Command, EntryIndexes, KeyValue, LogItem, Result};
 use std::alloc::Global;
 
@@ -75,7 +75,7 @@ fn decode_form(alloc: Global, form: Form, buf: &mut &[u8], size: &mut u32) -> Re
 /// # Errors
 ///
 /// Those of its `encode`. `out` is unchanged then.
-fn encode_item(content: &Content, out: &mut Vec<u8>) -> Result<()> {
+fn encode_content(content: &Content, out: &mut Vec<u8>) -> Result<()> {
     match content {
         Content::Command(command) => command.encode(out),
         Content::KeyValue(pair) => pair.encode(out),
@@ -90,16 +90,18 @@ fn encode_item(content: &Content, out: &mut Vec<u8>) -> Result<()> {
 ///
 /// # Errors
 ///
-/// Those of [`decode_form`] and [`encode_item`].
+/// Those of [`decode_form`] and [`encode_content`].
 pub(crate) fn read_item(found: &mut Found, form: Form, bytes: &[u8]) -> Result<()> {
     let mut buf = bytes;
     let mut size = 0u32;
     let read = decode_form(found.alloc, form, &mut buf, &mut size);
-    found.note_state(!is_refused(&read) || buf == bytes && size == 0);
+    found.note_what_refusal_left(!is_lack_of_memory(&read) || buf == bytes && size == 0);
     let content = read?;
     let mut out = Vec::from_slice(found.alloc, b"!")?;
-    let answer = encode_item(&content, &mut out);
-    found.note_state(!is_refused(&answer) || out.as_slice() == [b'!'].as_slice());
+    let answer = encode_content(&content, &mut out);
+    found.note_what_refusal_left(
+        !is_lack_of_memory(&answer) || out.as_slice() == [b'!'].as_slice(),
+    );
     answer?;
     found.append_hex_line(out.as_slice())
 }

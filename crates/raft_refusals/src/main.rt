@@ -21,7 +21,7 @@ mod steps;
 mod tables;
 mod writes;
 
-use found::{Found, is_refused};
+use found::{Found, is_lack_of_memory};
 use raft_records::{Error, Result};
 use raft_recover::command_words;
 use std::io;
@@ -104,7 +104,7 @@ fn print_row<R: Threads + Wait + Print + AllocGlobal + Sync>(rt: &R, row: &str) 
     let mut found = Found::new(rt.alloc());
     println!(rt; "{row}:")?;
     let mut answer = call_row(rt, row, &mut found);
-    if is_refused(&answer) && !found.is_in_vain {
+    if is_lack_of_memory(&answer) && !found.is_in_vain {
         found.lines.clear();
         answer = call_row(rt, row, &mut found);
     }
@@ -127,15 +127,15 @@ fn call_row<R: Threads + Wait + Sync>(rt: &R, row: &str, found: &mut Found) -> R
     match row {
         "numbers" => numbers::encode_numbers(found),
         "item-batches" => item_batches::encode_both_batches(found),
-        "item-batch-entries" => item_batches::add_entries(found),
+        "item-batch-entries" => item_batches::encode_five_entry_items(found),
         "batch-merge" => batches::merge_two_batches(found),
-        "groups" => batches::mark_group(found),
-        "fetches" => tables::fetch_all(found),
+        "groups" => batches::print_group_batches(found),
+        "fetches" => tables::make_all_fetches(found),
         "regions" => writes::call_at_regions(found),
-        "take" => writes::take_cleaned(found),
+        "take" => writes::take_and_print_cleaned(found),
         "shared" => shared::make_shared_calls(rt, found),
-        "shared-take" => shared::take_cleaned(rt, found),
-        "slot-take" => shared::take_from_slot(found),
+        "shared-take" => shared::take_and_print_cleaned(rt, found),
+        "slot-take" => shared::take_twice_listed_region(found),
         _ => calls::make_all_calls(rt, found, row),
     }
 }

@@ -3,9 +3,9 @@
 ghost use Rattle.raft_memtable.specs.Table.{IsCounted};
 
 use crate::calls::Call;
-use crate::found::{Found, answer_word, is_refused};
+use crate::found::{Found, answer_word, is_lack_of_memory};
 use crate::seen::hash_of_table;
-use crate::tables::{Change, REGION, change_of, ends_and_files};
+use crate::tables::{Change, REGION, ends_and_files, to_table_change};
 use raft_memtable::{Error, GlobalStats, LogQueue, MemTable, Result};
 use std::alloc::Global;
 
@@ -158,7 +158,7 @@ impl Counted {
             stats: GlobalStats::default(),
         };
         for change in changes {
-            counted.change(alloc, *change)?;
+            counted.make_change(alloc, *change)?;
         }
         Ok(counted)
     }
@@ -168,8 +168,8 @@ impl Counted {
     /// # Errors
     ///
     /// Those of [`MemTable::change`]; `Memory`. The table is unchanged then.
-    fn change(&mut self, alloc: Global, change: Change) -> Result<()> {
-        let change = change_of(alloc, change)?;
+    fn make_change(&mut self, alloc: Global, change: Change) -> Result<()> {
+        let change = to_table_change(alloc, change)?;
         self.table.change(change, &mut self.stats)?;
         Ok(())
     }
@@ -180,7 +180,7 @@ impl Counted {
     ///
     /// `Failed` for a table of another region; those of [`MemTable::merge_append_table`] or
     /// [`MemTable::merge_newer_neighbor`].
-    fn merge(&mut self, newer: &mut MemTable, is_append: bool) -> Result<()> {
+    fn merge_newer(&mut self, newer: &mut MemTable, is_append: bool) -> Result<()> {
         if self.table.region_id() != newer.region_id() {
             return Err(Error::Failed);
         }
@@ -193,7 +193,7 @@ impl Counted {
 
     /// Returns three counts: of the records that are live in the append queue, of those that were written to
     /// the rewrite queue, and of those that were deleted from it.
-    fn counts(&self) -> (usize, usize, usize) {
+    fn record_counts(&self) -> (usize, usize, usize) {
         (
             self.stats.live_entries(LogQueue::Append),
             self.stats.rewrite_entries(),
@@ -225,21 +225,23 @@ pub(crate) fn merge_tables(
     let mut newer = Counted::with_changes(found.alloc, newer)?.table;
     let before = (
         hash_of_table(&older.table),
-        older.counts(),
+        older.record_counts(),
         hash_of_table(&newer),
     );
-    let answer = older.merge(&mut newer, is_append);
-    found.note_state(older.is_counted(LogQueue::Append) && older.is_counted(LogQueue::Rewrite));
-    found.note_state(older.table.region_id() == REGION && newer.region_id() == REGION);
-    if is_refused(&answer) {
+    let answer = older.merge_newer(&mut newer, is_append);
+    found.note_what_refusal_left(
+        older.is_counted(LogQueue::Append) && older.is_counted(LogQueue::Rewrite),
+    );
+    found.note_what_refusal_left(older.table.region_id() == REGION && newer.region_id() == REGION);
+    if is_lack_of_memory(&answer) {
         return answer;
     }
     let after = (
         hash_of_table(&older.table),
-        older.counts(),
+        older.record_counts(),
         hash_of_table(&newer),
     );
-    found.note_state(answer.is_ok() || after == before);
+    found.note_what_refusal_left(answer.is_ok() || after == before);
     print_merged(found, answer_word(&answer), &older, &newer)
 }
 
@@ -253,7 +255,7 @@ fn print_merged(found: &mut Found, is: &str, older: &Counted, newer: &MemTable) 
     let alloc = found.alloc;
     let (first, end, blocks, append, rewrite) = ends_and_files(&older.table);
     let keys = older.table.key_count();
-    let (live, written, deleted) = older.counts();
+    let (live, written, deleted) = older.record_counts();
     let (newer_first, newer_end, ..) = ends_and_files(newer);
     let newer_keys = newer.key_count();
     found.append_line(format!(in alloc;

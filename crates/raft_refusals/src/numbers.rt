@@ -45,7 +45,7 @@ static NUMBERS: [Number; 17] = [
 ];
 
 /// Returns the numbers that the row writes, each with its form.
-fn numbers() -> &'static [Number] {
+fn written_numbers() -> &'static [Number] {
     &NUMBERS
 }
 
@@ -56,7 +56,7 @@ fn numbers() -> &'static [Number] {
 /// That of the first number that can't be written, also when it is tried again.
 pub(crate) fn encode_numbers(found: &mut Found) -> Result<()> {
     let mut bytes = Vec::new(found.alloc);
-    for number in numbers() {
+    for number in written_numbers() {
         encode_and_retry(found, &mut bytes, *number)?;
     }
     found.append_hex_line(bytes.as_slice())
@@ -80,7 +80,7 @@ fn encode_and_retry(found: &mut Found, bytes: &mut Vec<u8>, number: Number) -> R
 ///
 /// `Memory` if the vector can't grow; else the error of the codec.
 fn write_number(bytes: &mut Vec<u8>, number: Number) -> Result<()> {
-    match encode_one(bytes, number) {
+    match encode_in_form(bytes, number) {
         Err(codec::Error::Io(error)) if error.kind() == ErrorKind::OutOfMemory => {
             Err(Error::Memory)
         }
@@ -93,7 +93,7 @@ fn write_number(bytes: &mut Vec<u8>, number: Number) -> Result<()> {
 /// # Errors
 ///
 /// `Io` of the kind `OutOfMemory` if the vector can't grow.
-fn encode_one(bytes: &mut Vec<u8>, number: Number) -> codec::Result<()> {
+fn encode_in_form(bytes: &mut Vec<u8>, number: Number) -> codec::Result<()> {
     match number {
         Number::U64(n) => bytes.encode_u64(n),
         Number::U32(n) => bytes.encode_u32(n),

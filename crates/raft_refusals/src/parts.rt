@@ -1,7 +1,7 @@
 //! Parts of files, and the batches that are read of them.
 
 use crate::calls::Call;
-use crate::found::{Found, is_refused};
+use crate::found::{Found, is_lack_of_memory};
 use raft_records::{
     CompressionType, Error, FileBlockHandle, FileId, FilePart, LogBatch, LogQueue, Result, Version,
     next_batch,
@@ -49,7 +49,7 @@ fn split_bytes(len: usize) -> (&'static [u8], &'static [u8]) {
 /// # Errors
 ///
 /// `Memory` alone.
-fn part_of_first(alloc: Global, version: Version, len: usize) -> Result<FilePart> {
+fn part_with_first_bytes(alloc: Global, version: Version, len: usize) -> Result<FilePart> {
     let (front, _) = split_bytes(len);
     let bytes = Vec::from_slice(alloc, front)?;
     FilePart::new(FileId::new(LogQueue::Append, 12), version, 0, bytes)
@@ -63,7 +63,7 @@ fn part_of_first(alloc: Global, version: Version, len: usize) -> Result<FilePart
 /// `Failed` if `at` is after the end of the part; those of [`next_batch`].
 pub(crate) fn read_next_batch(found: &mut Found, len: usize, at: usize) -> Result<()> {
     let alloc = found.alloc;
-    let part = part_of_first(alloc, Version::V1, len)?;
+    let part = part_with_first_bytes(alloc, Version::V1, len)?;
     if at > part.bytes().len() {
         return Err(Error::Failed);
     }
@@ -87,7 +87,7 @@ pub(crate) fn read_header(found: &mut Found, len: usize) -> Result<()> {
     let (bytes, _) = split_bytes(len);
     let mut buf = bytes;
     let answer = LogBatch::decode_header(alloc, &mut buf);
-    found.note_state(!is_refused(&answer) || buf == bytes);
+    found.note_what_refusal_left(!is_lack_of_memory(&answer) || buf == bytes);
     let (offset, _, len) = answer?;
     found.append_line(format!(in alloc; "offset {offset} length {len}")?.as_str())
 }
@@ -119,10 +119,10 @@ pub(crate) fn read_entry_block(found: &mut Found, len: usize) -> Result<()> {
 /// `Memory` alone.
 pub(crate) fn cut_by_batches(found: &mut Found, version: Version) -> Result<()> {
     let alloc = found.alloc;
-    let mut front = part_of_first(alloc, version, 58)?;
-    let rest = split_part(found, &mut front)?;
+    let mut front = part_with_first_bytes(alloc, version, 58)?;
+    let rest = split_after_first_batch(found, &mut front)?;
     let clone = rest.clone()?;
-    let parts = cut_part(alloc, part_of_first(alloc, version, 58)?, 8)?;
+    let parts = cut_part(alloc, part_with_first_bytes(alloc, version, 58)?, 8)?;
     let (version, offset, len) = (clone.version(), clone.offset(), clone.bytes().len());
     found.append_line(format!(in alloc;
         "version {version} rest at {offset} of {len}, parts {}",
@@ -137,9 +137,11 @@ pub(crate) fn cut_by_batches(found: &mut Found, version: Version) -> Result<()> 
 /// # Errors
 ///
 /// `Memory` alone.
-fn split_part(found: &mut Found, front: &mut FilePart) -> Result<FilePart> {
+fn split_after_first_batch(found: &mut Found, front: &mut FilePart) -> Result<FilePart> {
     let at = front.bytes().len().min(34);
     let answer = front.split_off(at);
-    found.note_state(!is_refused(&answer) || front.bytes() == BYTES && front.offset() == 0);
+    found.note_what_refusal_left(
+        !is_lack_of_memory(&answer) || front.bytes() == BYTES && front.offset() == 0,
+    );
     answer
 }

@@ -99,7 +99,7 @@ pub(crate) static PRINTS: [Call; 5] = [
 ///
 /// # Errors
 ///
-/// Those of [`tables_of`]; `Memory`.
+/// Those of [`recover_tables_of_queue`]; `Memory`.
 pub(crate) fn recover_history<R: Threads + Sync>(
     rt: &R,
     found: &mut Found,
@@ -107,7 +107,7 @@ pub(crate) fn recover_history<R: Threads + Sync>(
     how: How,
 ) -> Result<()> {
     let segments = batch_segments(found.alloc, history.queue, history.batches)?;
-    let tables = tables_of(rt, found.alloc, segments.as_slice(), history.queue, how)?;
+    let tables = recover_tables_of_queue(rt, found.alloc, segments.as_slice(), history.queue, how)?;
     print_tables(found, &tables)
 }
 
@@ -116,7 +116,7 @@ pub(crate) fn recover_history<R: Threads + Sync>(
 /// # Errors
 ///
 /// Those of the recovery; `Failed` for draws or pieces without segments.
-fn tables_of<R: Threads + Sync>(
+fn recover_tables_of_queue<R: Threads + Sync>(
     rt: &R,
     alloc: Global,
     segments: &[Segment],
@@ -218,7 +218,7 @@ pub(crate) fn count_pieces(found: &mut Found, segments: usize, draws: &[usize]) 
 
 /// Tests whether `answer` says that a call found no memory: it is `Memory`, or, of a reader or writer, an
 /// `Io` of the kind `OutOfMemory`.
-fn is_want_of_memory(answer: &Result<()>) -> bool {
+fn is_lack_of_memory_in_io(answer: &Result<()>) -> bool {
     match answer {
         Err(Error::Memory) => true,
         Err(Error::Io(error)) => error.kind() == ErrorKind::OutOfMemory,
@@ -233,8 +233,8 @@ fn is_want_of_memory(answer: &Result<()>) -> bool {
 ///
 /// That of the call, as `Memory` if its reader or writer found none; `Memory`.
 fn append_printed_lines(found: &mut Found, answer: Result<()>, out: &[u8]) -> Result<()> {
-    found.note_state(answer.is_ok() || out.is_empty());
-    if is_want_of_memory(&answer) {
+    found.note_what_refusal_left(answer.is_ok() || out.is_empty());
+    if is_lack_of_memory_in_io(&answer) {
         return Err(Error::Memory);
     }
     answer?;
@@ -247,7 +247,7 @@ fn append_printed_lines(found: &mut Found, answer: Result<()>, out: &[u8]) -> Re
 /// # Errors
 ///
 /// Those of [`print_batch`]; `Memory`.
-pub(crate) fn print_bytes(found: &mut Found, bytes: &[u8]) -> Result<()> {
+pub(crate) fn print_item_batch(found: &mut Found, bytes: &[u8]) -> Result<()> {
     let context = LogFileContext::new(FileId::new(LogQueue::Append, 12), Version::V1);
     let mut out = Vec::new(found.alloc);
     let answer = print_batch(found.alloc, &mut &bytes[..], &mut out, &context);
@@ -260,7 +260,11 @@ pub(crate) fn print_bytes(found: &mut Found, bytes: &[u8]) -> Result<()> {
 /// # Errors
 ///
 /// Those of [`recover_bytes`]; `Memory`.
-pub(crate) fn print_file<R: Threads + Sync>(rt: &R, found: &mut Found, bytes: &[u8]) -> Result<()> {
+pub(crate) fn recover_and_print_file<R: Threads + Sync>(
+    rt: &R,
+    found: &mut Found,
+    bytes: &[u8],
+) -> Result<()> {
     let alloc = found.alloc;
     let bytes = Vec::from_slice(alloc, bytes)?;
     let files = vec![in alloc; (12, bytes)]?;

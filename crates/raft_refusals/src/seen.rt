@@ -18,7 +18,7 @@ pub(crate) struct Seen {
 }
 
 /// Returns what `tables` have now.
-pub(crate) fn show_tables(tables: &MemTableAccessor) -> Seen {
+pub(crate) fn summarize_tables(tables: &MemTableAccessor) -> Seen {
     let stats = tables.stats();
     Seen {
         records: tables.fold(
@@ -116,7 +116,7 @@ fn hash_with_pairs(before: u64, table: &MemTable) -> u64 {
 }
 
 /// Tests whether the live counts of `tables` are those of all tables together, in both queues.
-pub(crate) fn are_counted(tables: &MemTableAccessor) -> bool {
+pub(crate) fn are_live_counts_right(tables: &MemTableAccessor) -> bool {
     let append = tables.fold(0u128, |sum, table: &MemTable| {
         sum.wrapping_add(table.records(LogQueue::Append))
     });

@@ -3,8 +3,8 @@
 use crate::found::{Found, call_twice};
 use crate::seen::{hash_of_regions, hash_of_table};
 use crate::steps::{Step, written_batch};
-use crate::tables::put_of;
-use crate::writes::{Call, THIRD, Write, print_regions, tables_of};
+use crate::tables::put_change;
+use crate::writes::{Call, THIRD, Write, print_regions, tables_after_calls};
 use raft_memtable::{Error, FileId, FileSeq, LogQueue, MemTable, Result, slot_of};
 use raft_records::LogBatch;
 use raft_recover::{SharedAccessor, Slot};
@@ -37,7 +37,7 @@ static CALLS: [Call; 13] = [
 ];
 
 /// Returns the calls that the row makes of shared tables.
-fn calls() -> &'static [Call] {
+fn shared_calls() -> &'static [Call] {
     &CALLS
 }
 
@@ -46,7 +46,7 @@ type SharedSeen = (u64, u128, u128);
 
 /// Returns what the tables of `shared` have now, reduced to a few numbers. Two results are compared to see
 /// whether a refused call has changed anything.
-fn show_shared<R: Wait>(rt: &R, shared: &SharedAccessor) -> SharedSeen {
+fn summarize_shared_tables<R: Wait>(rt: &R, shared: &SharedAccessor) -> SharedSeen {
     (
         shared.fold(
             rt,
@@ -63,8 +63,8 @@ fn show_shared<R: Wait>(rt: &R, shared: &SharedAccessor) -> SharedSeen {
 /// # Errors
 ///
 /// Those of these calls; `Memory`.
-fn shared_tables(alloc: Global) -> Result<SharedAccessor> {
-    SharedAccessor::from_core(alloc, tables_of(alloc, &FIRST)?)
+fn new_filled_shared_tables(alloc: Global) -> Result<SharedAccessor> {
+    SharedAccessor::from_core(alloc, tables_after_calls(alloc, &FIRST)?)
 }
 
 /// Makes the calls of the row, one after another, of the same shared tables. Adds a line with how many
@@ -75,8 +75,8 @@ fn shared_tables(alloc: Global) -> Result<SharedAccessor> {
 ///
 /// That of the first call that fails, also when it is tried again.
 pub(crate) fn make_shared_calls<R: Wait>(rt: &R, found: &mut Found) -> Result<()> {
-    let shared = shared_tables(found.alloc)?;
-    for call in calls() {
+    let shared = new_filled_shared_tables(found.alloc)?;
+    for call in shared_calls() {
         call_and_retry(rt, found, &shared, *call)?;
     }
     let ids = shared.collect(rt, |_: &MemTable| true)?;
@@ -93,17 +93,17 @@ pub(crate) fn make_shared_calls<R: Wait>(rt: &R, found: &mut Found) -> Result<()
 ///
 /// # Errors
 ///
-/// Those of [`call_tables`]; `Memory`.
+/// Those of [`make_one_call`]; `Memory`.
 fn call_and_retry<R: Wait>(
     rt: &R,
     found: &mut Found,
     shared: &SharedAccessor,
     call: Call,
 ) -> Result<()> {
-    let before = show_shared(rt, shared);
-    call_twice!(found; call_tables(rt, found.alloc, shared, call); show_shared(rt, shared) == before)?;
+    let before = summarize_shared_tables(rt, shared);
+    call_twice!(found; make_one_call(rt, found.alloc, shared, call); summarize_shared_tables(rt, shared) == before)?;
     let alloc = found.alloc;
-    let (_, append, rewrite) = show_shared(rt, shared);
+    let (_, append, rewrite) = summarize_shared_tables(rt, shared);
     found.append_line(format!(in alloc; "live {append} {rewrite}")?.as_str())
 }
 
@@ -112,11 +112,16 @@ fn call_and_retry<R: Wait>(
 /// # Errors
 ///
 /// `Failed` for a group whose first file is above its last one; those of the call.
-fn call_tables<R: Wait>(rt: &R, alloc: Global, shared: &SharedAccessor, call: Call) -> Result<()> {
+fn make_one_call<R: Wait>(
+    rt: &R,
+    alloc: Global,
+    shared: &SharedAccessor,
+    call: Call,
+) -> Result<()> {
     match call {
-        Call::Write(how, seq, step) => write_item(rt, alloc, shared, how, seq, step),
+        Call::Write(how, seq, step) => write_one_step(rt, alloc, shared, how, seq, step),
         Call::Put(id) => {
-            shared.change(rt, id, put_of(alloc, b"k", THIRD)?)?;
+            shared.change(rt, id, put_change(alloc, b"k", THIRD)?)?;
             Ok(())
         }
         Call::Make(id) => shared.get_or_insert(rt, id),
@@ -141,7 +146,7 @@ fn call_tables<R: Wait>(rt: &R, alloc: Global, shared: &SharedAccessor, call: Ca
 /// # Errors
 ///
 /// Those of the write; `Memory`.
-fn write_item<R: Wait>(
+fn write_one_step<R: Wait>(
     rt: &R,
     alloc: Global,
     shared: &SharedAccessor,
@@ -162,8 +167,8 @@ fn write_item<R: Wait>(
 /// # Errors
 ///
 /// `Memory` alone.
-fn cleaned_tables<R: Wait>(rt: &R, alloc: Global) -> Result<SharedAccessor> {
-    let shared = shared_tables(alloc)?;
+fn new_tables_with_cleaned_regions<R: Wait>(rt: &R, alloc: Global) -> Result<SharedAccessor> {
+    let shared = new_filled_shared_tables(alloc)?;
     for &region in &[105, 69, 3] {
         let _removed = shared.remove(rt, region, true)?;
     }
@@ -176,8 +181,8 @@ fn cleaned_tables<R: Wait>(rt: &R, alloc: Global) -> Result<SharedAccessor> {
 /// # Errors
 ///
 /// That of the first call that fails.
-pub(crate) fn take_cleaned<R: Wait>(rt: &R, found: &mut Found) -> Result<()> {
-    let shared = cleaned_tables(rt, found.alloc)?;
+pub(crate) fn take_and_print_cleaned<R: Wait>(rt: &R, found: &mut Found) -> Result<()> {
+    let shared = new_tables_with_cleaned_regions(rt, found.alloc)?;
     let mut logs = LogBatch::default(found.alloc);
     call_twice!(found; take_cleaned_of_all_slots(rt, &shared, &mut logs); true)?;
     print_regions(found, logs)
@@ -205,10 +210,10 @@ fn take_cleaned_of_all_slots<R: Wait>(
 /// # Errors
 ///
 /// That of the first call that fails.
-pub(crate) fn take_from_slot(found: &mut Found) -> Result<()> {
+pub(crate) fn take_twice_listed_region(found: &mut Found) -> Result<()> {
     let mut slot = Slot::new(found.alloc, slot_of(3));
-    list_region(&mut slot)?;
-    list_region(&mut slot)?;
+    remove_region_3(&mut slot)?;
+    remove_region_3(&mut slot)?;
     let mut logs = LogBatch::default(found.alloc);
     take_and_retry(found, &mut slot, &mut logs)?;
     let alloc = found.alloc;
@@ -221,7 +226,7 @@ pub(crate) fn take_from_slot(found: &mut Found) -> Result<()> {
 /// # Errors
 ///
 /// `Failed` for a slot that isn't that of region 3; `Memory`.
-fn list_region(slot: &mut Slot) -> Result<()> {
+fn remove_region_3(slot: &mut Slot) -> Result<()> {
     if slot_of(3) != slot.number() {
         return Err(Error::Failed);
     }

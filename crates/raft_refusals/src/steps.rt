@@ -54,7 +54,7 @@ pub(crate) fn add_step(alloc: Global, batch: &mut LogBatch, step: Step) -> Resul
         Step::Truncate(region, index) => batch.add_command(region, Command::Truncate { index }),
         Step::Put(region, key, value) => put_value(alloc, batch, region, key, value),
         Step::PutMessage(region, key, text) => {
-            let value = message(alloc, text)?;
+            let value = proposal_with_text(alloc, text)?;
             batch.put_message(region, Vec::from_slice(alloc, key)?, &value)
         }
         Step::Delete(region, key) => batch.delete(region, Vec::from_slice(alloc, key)?),
@@ -62,12 +62,12 @@ pub(crate) fn add_step(alloc: Global, batch: &mut LogBatch, step: Step) -> Resul
     }
 }
 
-/// Returns a message with this `text`, and index 0.
+/// Returns a proposal with this `text`, and index 0.
 ///
 /// # Errors
 ///
 /// `Memory` alone.
-pub(crate) fn message(alloc: Global, text: &[u8]) -> Result<Proposal> {
+pub(crate) fn proposal_with_text(alloc: Global, text: &[u8]) -> Result<Proposal> {
     let text = Vec::from_slice(alloc, text)?;
     Ok(Proposal { index: 0, text })
 }
@@ -168,7 +168,7 @@ fn add_marker(
 /// # Errors
 ///
 /// Those of [`add_step`].
-pub(crate) fn batch_of(alloc: Global, steps: &[Step]) -> Result<LogBatch> {
+pub(crate) fn batch_with_steps(alloc: Global, steps: &[Step]) -> Result<LogBatch> {
     let mut batch = LogBatch::default(alloc);
     for step in steps {
         add_step(alloc, &mut batch, *step)?;
@@ -182,7 +182,7 @@ pub(crate) fn batch_of(alloc: Global, steps: &[Step]) -> Result<LogBatch> {
 ///
 /// Those of [`add_step`] and [`LogBatch::finish_populate`].
 pub(crate) fn sealed_batch(alloc: Global, file: FileId, steps: &[Step]) -> Result<LogBatch> {
-    let mut batch = batch_of(alloc, steps)?;
+    let mut batch = batch_with_steps(alloc, steps)?;
     if !batch.is_open() {
         return Err(Error::Failed);
     }

@@ -1,8 +1,8 @@
 //! Changes of one table, and what is fetched of it.
 
 use crate::calls::Call;
-use crate::found::{Found, answer_word, call_twice, is_refused};
-use crate::seen::show_tables;
+use crate::found::{Found, answer_word, call_twice, is_lack_of_memory};
+use crate::seen::summarize_tables;
 use raft_memtable::{
     EntryIndex, Error, FileBlockHandle, FileId, FileSeq, LogQueue, MemTable, MemTableAccessor,
     Result, TableChange,
@@ -104,14 +104,14 @@ fn change_and_retry(
     tables: &mut MemTableAccessor,
     change: Change,
 ) -> Result<()> {
-    let before = show_tables(tables);
+    let before = summarize_tables(tables);
     let answer =
-        call_twice!(found; apply_change(found.alloc, tables, change); show_tables(tables) == before);
-    if is_refused(&answer) {
+        call_twice!(found; apply_change(found.alloc, tables, change); summarize_tables(tables) == before);
+    if is_lack_of_memory(&answer) {
         return Err(Error::Memory);
     }
-    found.note_state(answer.is_ok() || show_tables(tables) == before);
-    print_answer(found, &answer, tables)
+    found.note_what_refusal_left(answer.is_ok() || summarize_tables(tables) == before);
+    print_change_result(found, &answer, tables)
 }
 
 /// Adds a line with `answer`, the result of a change, and what the table has then, as
@@ -122,7 +122,11 @@ fn change_and_retry(
 /// # Errors
 ///
 /// `Memory` alone.
-fn print_answer(found: &mut Found, answer: &Result<u64>, tables: &MemTableAccessor) -> Result<()> {
+fn print_change_result(
+    found: &mut Found,
+    answer: &Result<u64>,
+    tables: &MemTableAccessor,
+) -> Result<()> {
     let alloc = found.alloc;
     let (is, number) = match answer {
         Ok(number) => ("dropped", *number),
@@ -156,7 +160,7 @@ pub(crate) fn ends_and_files(table: &MemTable) -> (u64, u64, usize, FileSeq, Fil
 ///
 /// Those of [`MemTableAccessor::change`]. Tables and counts are unchanged then.
 fn apply_change(alloc: Global, tables: &mut MemTableAccessor, change: Change) -> Result<u64> {
-    let change = change_of(alloc, change)?;
+    let change = to_table_change(alloc, change)?;
     tables.change(REGION, change)
 }
 
@@ -165,7 +169,7 @@ fn apply_change(alloc: Global, tables: &mut MemTableAccessor, change: Change) ->
 /// # Errors
 ///
 /// `Memory` alone.
-pub(crate) fn change_of(alloc: Global, change: Change) -> Result<TableChange> {
+pub(crate) fn to_table_change(alloc: Global, change: Change) -> Result<TableChange> {
     Ok(match change {
         Change::Append(start, end, seq) => {
             TableChange::Append(run_between(alloc, start, end, FileId::new(LogQueue::Append, seq))?)
@@ -174,7 +178,7 @@ pub(crate) fn change_of(alloc: Global, change: Change) -> Result<TableChange> {
             entries: run_between(alloc, start, end, FileId::new(LogQueue::Rewrite, seq))?,
             gate,
         },
-        Change::Put(key, seq) => put_of(alloc, key, FileId::new(LogQueue::Append, seq))?,
+        Change::Put(key, seq) => put_change(alloc, key, FileId::new(LogQueue::Append, seq))?,
         Change::RewriteKey(key, gate, seq) => TableChange::RewriteKey {
             key: Vec::from_slice(alloc, key)?,
             gate,
@@ -193,7 +197,7 @@ pub(crate) fn change_of(alloc: Global, change: Change) -> Result<TableChange> {
 /// # Errors
 ///
 /// `Memory` alone.
-pub(crate) fn put_of(alloc: Global, key: &[u8], file_id: FileId) -> Result<TableChange> {
+pub(crate) fn put_change(alloc: Global, key: &[u8], file_id: FileId) -> Result<TableChange> {
     let value = Vec::from_slice(alloc, b"v")?;
     Ok(TableChange::Put {
         key: Vec::from_slice(alloc, key)?,
@@ -250,7 +254,7 @@ static FETCHES: [Fetch; 9] = [
 ];
 
 /// Returns the fetches of entries that the row makes of one table.
-fn fetches() -> &'static [Fetch] {
+fn rows_of_fetches() -> &'static [Fetch] {
     &FETCHES
 }
 
@@ -272,7 +276,7 @@ static FETCHED: [Change; 8] = [
 /// # Errors
 ///
 /// Those of [`apply_change`]; `Memory`.
-fn fetched_table(alloc: Global) -> Result<MemTableAccessor> {
+fn new_table_to_fetch_from(alloc: Global) -> Result<MemTableAccessor> {
     let mut tables = MemTableAccessor::new(alloc)?;
     for change in &FETCHED {
         apply_change(alloc, &mut tables, *change)?;
@@ -288,7 +292,7 @@ static LENGTHS: [(&[u32], Fetch); 2] = [
 ];
 
 /// Returns lists of entries' lengths in bytes, each with what is fetched of a table with such entries.
-fn lengths() -> &'static [(&'static [u32], Fetch)] {
+fn rows_of_lengths() -> &'static [(&'static [u32], Fetch)] {
     &LENGTHS
 }
 
@@ -298,7 +302,7 @@ fn lengths() -> &'static [(&'static [u32], Fetch)] {
 /// # Errors
 ///
 /// `Memory`; those of the append.
-fn table_of_lengths(alloc: Global, lengths: &[u32]) -> Result<MemTableAccessor> {
+fn new_table_with_entry_lengths(alloc: Global, lengths: &[u32]) -> Result<MemTableAccessor> {
     let mut tables = MemTableAccessor::new(alloc)?;
     let end = 10u64.saturating_add(lengths.len() as u64);
     let mut run = run_between(alloc, 10, end, FileId::new(LogQueue::Append, 1))?;
@@ -315,19 +319,19 @@ fn table_of_lengths(alloc: Global, lengths: &[u32]) -> Result<MemTableAccessor> 
 ///
 /// `Memory`; `Failed` if a table that was made isn't there. Any other error of a fetch of entries is the
 /// result in its line.
-pub(crate) fn fetch_all(found: &mut Found) -> Result<()> {
-    let tables = fetched_table(found.alloc)?;
+pub(crate) fn make_all_fetches(found: &mut Found) -> Result<()> {
+    let tables = new_table_to_fetch_from(found.alloc)?;
     let Some(table) = tables.get(REGION) else {
         return Err(Error::Failed);
     };
-    for fetch in fetches() {
+    for fetch in rows_of_fetches() {
         fetch_entries(found, table, *fetch)?;
     }
     for &gate in &[Some(1), Some(2), None] {
         fetch_pairs(found, table, gate)?;
     }
-    for (lengths, fetch) in lengths() {
-        fetch_of_lengths(found, lengths, *fetch)?;
+    for (lengths, fetch) in rows_of_lengths() {
+        fetch_from_entry_lengths(found, lengths, *fetch)?;
     }
     Ok(())
 }
@@ -336,9 +340,9 @@ pub(crate) fn fetch_all(found: &mut Found) -> Result<()> {
 ///
 /// # Errors
 ///
-/// Those of [`table_of_lengths`] and [`fetch_entries`]; `Failed` if the table isn't there.
-fn fetch_of_lengths(found: &mut Found, lengths: &[u32], fetch: Fetch) -> Result<()> {
-    let tables = table_of_lengths(found.alloc, lengths)?;
+/// Those of [`new_table_with_entry_lengths`] and [`fetch_entries`]; `Failed` if the table isn't there.
+fn fetch_from_entry_lengths(found: &mut Found, lengths: &[u32], fetch: Fetch) -> Result<()> {
+    let tables = new_table_with_entry_lengths(found.alloc, lengths)?;
     match tables.get(REGION) {
         Some(table) => fetch_entries(found, table, fetch),
         None => Err(Error::Failed),
@@ -359,8 +363,10 @@ fn fetch_entries(found: &mut Found, table: &MemTable, fetch: Fetch) -> Result<()
         Fetch::Before(gate) => table.fetch_entry_indexes_before(gate, &mut vec),
         Fetch::Rewritten => table.fetch_rewritten_entry_indexes(&mut vec),
     };
-    found.note_state(answer.is_ok() || vec.as_slice() == [EntryIndex::default()].as_slice());
-    if is_refused(&answer) {
+    found.note_what_refusal_left(
+        answer.is_ok() || vec.as_slice() == [EntryIndex::default()].as_slice(),
+    );
+    if is_lack_of_memory(&answer) {
         return answer;
     }
     let alloc = found.alloc;
@@ -385,7 +391,7 @@ fn fetch_pairs(found: &mut Found, table: &MemTable, gate: Option<FileSeq>) -> Re
         Some(gate) => table.fetch_kvs_before(gate, &mut vec),
         None => table.fetch_rewritten_kvs(&mut vec),
     };
-    found.note_state(answer.is_ok() || vec.is_empty());
+    found.note_what_refusal_left(answer.is_ok() || vec.is_empty());
     answer?;
     let alloc = found.alloc;
     found.append_line(format!(in alloc; "pairs {}", vec.len())?.as_str())

@@ -1,10 +1,10 @@
 //! Items that are written to the tables of several regions, calls for one region, and tables that are merged.
 
 use crate::calls;
-use crate::found::{Found, answer_word, call_twice, is_refused};
-use crate::seen::{are_counted, show_tables};
+use crate::found::{Found, answer_word, call_twice, is_lack_of_memory};
+use crate::seen::{are_live_counts_right, summarize_tables};
 use crate::steps::{Step, written_batch};
-use crate::tables::put_of;
+use crate::tables::put_change;
 use raft_memtable::{
     Error, FileId, FileSeq, LogBatch, LogQueue, MemTable, MemTableAccessor, Result,
 };
@@ -109,7 +109,7 @@ pub(crate) fn make_write_calls(found: &mut Found, calls: &[Call]) -> Result<()> 
     let mut tables = MemTableAccessor::new(found.alloc)?;
     for call in calls {
         let answer = call_and_retry(found, &mut tables, *call);
-        if is_refused(&answer) {
+        if is_lack_of_memory(&answer) {
             return answer;
         }
         found.append_line(answer_word(&answer))?;
@@ -123,11 +123,11 @@ pub(crate) fn make_write_calls(found: &mut Found, calls: &[Call]) -> Result<()> 
 ///
 /// # Errors
 ///
-/// Those of [`call_tables`].
+/// Those of [`make_one_call`].
 fn call_and_retry(found: &mut Found, tables: &mut MemTableAccessor, call: Call) -> Result<()> {
-    let before = show_tables(tables);
-    call_twice!(found; call_tables(found.alloc, tables, call); {
-        let mut after = show_tables(tables);
+    let before = summarize_tables(tables);
+    call_twice!(found; make_one_call(found.alloc, tables, call); {
+        let mut after = summarize_tables(tables);
         if matches!(call, Call::Write(..)) {
             after.tables = before.tables;
         }
@@ -140,11 +140,11 @@ fn call_and_retry(found: &mut Found, tables: &mut MemTableAccessor, call: Call) 
 /// # Errors
 ///
 /// `Failed` for a group whose first file is above its last one; those of the call.
-fn call_tables(alloc: Global, tables: &mut MemTableAccessor, call: Call) -> Result<()> {
+fn make_one_call(alloc: Global, tables: &mut MemTableAccessor, call: Call) -> Result<()> {
     match call {
         Call::Write(how, seq, step) => write_step(alloc, tables, how, seq, step),
         Call::Put(id) => {
-            tables.change(id, put_of(alloc, b"k", THIRD)?)?;
+            tables.change(id, put_change(alloc, b"k", THIRD)?)?;
             Ok(())
         }
         Call::Make(id) => {
@@ -202,11 +202,11 @@ pub(crate) fn print_tables(found: &mut Found, tables: &MemTableAccessor) -> Resu
 ///
 /// # Errors
 ///
-/// That of the first call that fails, as [`call_tables`] has them.
-pub(crate) fn tables_of(alloc: Global, calls: &[Call]) -> Result<MemTableAccessor> {
+/// That of the first call that fails, as [`make_one_call`] has them.
+pub(crate) fn tables_after_calls(alloc: Global, calls: &[Call]) -> Result<MemTableAccessor> {
     let mut tables = MemTableAccessor::new(alloc)?;
     for call in calls {
-        call_tables(alloc, &mut tables, *call)?;
+        make_one_call(alloc, &mut tables, *call)?;
     }
     Ok(tables)
 }
@@ -218,11 +218,11 @@ pub(crate) fn tables_of(alloc: Global, calls: &[Call]) -> Result<MemTableAccesso
 /// # Errors
 ///
 /// That of the first call that fails.
-pub(crate) fn take_cleaned(found: &mut Found) -> Result<()> {
-    let mut tables = tables_of(found.alloc, CLEANED)?;
-    let before = show_tables(&tables);
+pub(crate) fn take_and_print_cleaned(found: &mut Found) -> Result<()> {
+    let mut tables = tables_after_calls(found.alloc, CLEANED)?;
+    let before = summarize_tables(&tables);
     let logs =
-        call_twice!(found; tables.take_cleaned_region_logs(); show_tables(&tables) == before)?;
+        call_twice!(found; tables.take_cleaned_region_logs(); summarize_tables(&tables) == before)?;
     print_regions(found, logs)?;
     print_tables(found, &tables)
 }
@@ -256,7 +256,7 @@ static CALLS: [Call; 6] = [
 ///
 /// That of the first call that fails, also when it is tried again.
 pub(crate) fn call_at_regions(found: &mut Found) -> Result<()> {
-    let mut tables = tables_of(found.alloc, REWRITTEN)?;
+    let mut tables = tables_after_calls(found.alloc, REWRITTEN)?;
     for call in &CALLS {
         call_and_retry(found, &mut tables, *call)?;
     }
@@ -326,15 +326,15 @@ pub(crate) fn merge_accessors(
     newer: &[Call],
     is_append: bool,
 ) -> Result<()> {
-    let mut tables = tables_of(found.alloc, older)?;
-    let newer = tables_of(found.alloc, newer)?;
+    let mut tables = tables_after_calls(found.alloc, older)?;
+    let newer = tables_after_calls(found.alloc, newer)?;
     let answer = if is_append {
         tables.merge_append_table(newer)
     } else {
         tables.merge_newer_neighbor(newer)
     };
-    found.note_state(are_counted(&tables));
-    if is_refused(&answer) {
+    found.note_what_refusal_left(are_live_counts_right(&tables));
+    if is_lack_of_memory(&answer) {
         return answer;
     }
     found.append_line(answer_word(&answer))?;

@@ -1,9 +1,9 @@
 //! Tests calls of a table through the log store of a Raft node: what they return, and what the store has then.
 
-use crate::rows::{Row, lists};
+use crate::rows::{Row, lists_of_rows};
 use crate::store::Answer::{Corruption, Done, Full, InvalidArgument};
 use crate::store::Call::{Append, Compact, Count, Group, Put, Replay};
-use crate::store::{Answer, Call, LogStore, Run, Shape, answered};
+use crate::store::{Answer, Call, LogStore, Run, Shape, to_answer};
 use raft_memtable::{Error, FileSeq, LogQueue, MemTable, Result};
 use raft_trials::again;
 use std::alloc::Global;
@@ -21,22 +21,26 @@ fn has_blocks(table: &MemTable, want: &[(FileSeq, usize)]) -> bool {
 
 /// Makes the calls of rows on an empty store, and tests each row: once by the calls themselves, and once by changes
 /// that are values.
-fn follow(rt: &impl Abort, alloc: Global, rows: &[Row]) -> Result<()> {
+fn make_and_check_rows(rt: &impl Abort, alloc: Global, rows: &[Row]) -> Result<()> {
     for &by_value in &[false, true] {
         let mut store = LogStore::new(alloc);
         for (call, answer, shape, blocks) in rows {
-            assert!(rt; store.apply(*call, by_value)? == *answer, "{call:?}");
-            assert!(rt; store.shape() == *shape, "{call:?}");
+            assert!(rt;
+                store.call_and_retry(*call, by_value)? == *answer,
+                "{call:?}"
+            );
+            assert!(rt; store.indexes_and_counts() == *shape, "{call:?}");
             assert!(rt; has_blocks(&store.table, blocks), "{call:?}");
         }
     }
     Ok(())
 }
 
+/// Tests that the calls of the rows, one after another, give their answers and leave what the rows say.
 #[test]
-fn calls_change_the_store(rt: HostRuntime) -> Result<()> {
-    for rows in lists() {
-        follow(&rt, rt.alloc(), rows)?;
+fn calls_change_the_store_as_the_rows_say(rt: HostRuntime) -> Result<()> {
+    for rows in lists_of_rows() {
+        make_and_check_rows(&rt, rt.alloc(), rows)?;
     }
     Ok(())
 }
@@ -115,21 +119,22 @@ static TRIED: [TriedRow; 9] = [
 ];
 
 /// Returns the rows of runs that are tried.
-fn tried() -> &'static [TriedRow] {
+fn rows_of_tried_runs() -> &'static [TriedRow] {
     &TRIED
 }
 
 /// Makes a call on an empty store, and tries a run. Returns whether the run was put, and the store after it.
 fn try_run(alloc: Global, call: Call, queue: LogQueue, run: Run) -> Result<(bool, Shape)> {
     let mut store = LogStore::new(alloc);
-    store.direct(call)?;
+    store.call_by_method(call)?;
     let put = store.try_replay(queue, run)?;
-    Ok((put, store.shape()))
+    Ok((put, store.indexes_and_counts()))
 }
 
+/// Tests which runs a store takes when they are tried, and what it has then.
 #[test]
-fn runs_are_put_where_they_may(rt: HostRuntime) -> Result<()> {
-    for (call, queue, run, put, shape) in tried() {
+fn runs_are_put_only_where_they_leave_no_hole(rt: HostRuntime) -> Result<()> {
+    for (call, queue, run, put, shape) in rows_of_tried_runs() {
         let found = again!(try_run(rt.alloc(), *call, *queue, *run))?;
         assert!(rt; found == (*put, *shape), "{call:?} {queue:?} {run:?}");
     }
@@ -278,7 +283,7 @@ static MERGES: [MergeRow; 19] = [
 ];
 
 /// Returns the rows of merges.
-fn merges() -> &'static [MergeRow] {
+fn rows_of_merges() -> &'static [MergeRow] {
     &MERGES
 }
 
@@ -289,7 +294,7 @@ type Seen = (Option<u64>, Option<u64>, usize, Option<(FileSeq, FileSeq)>);
 const EMPTY: Seen = (None, None, 0, None);
 
 /// Returns what a table has.
-fn seen(table: &MemTable) -> Seen {
+fn indexes_and_counts(table: &MemTable) -> Seen {
     (
         table.first_index(),
         table.last_index(),
@@ -300,25 +305,30 @@ fn seen(table: &MemTable) -> Seen {
 
 /// Makes a call on each of two empty stores, and merges the second table into the first. Returns the answer, the first
 /// store, and whether the second table is then empty, or, where the merge was refused, as it was.
-fn merged(
+fn merge_two_stores(
     alloc: Global,
     older: Call,
     newer: Call,
     is_append: bool,
 ) -> Result<(Answer, Shape, bool)> {
-    let mut store = LogStore::after(alloc, &[older])?;
-    let mut table = LogStore::after(alloc, &[newer])?.table;
-    let before = seen(&table);
+    let mut store = LogStore::after_calls(alloc, &[older])?;
+    let mut table = LogStore::after_calls(alloc, &[newer])?.table;
+    let before = indexes_and_counts(&table);
     let given = store.merge(&mut table, is_append);
     let left = if given.is_ok() { EMPTY } else { before };
-    let is_left = seen(&table) == left;
-    Ok((answered(given.map(|()| 0))?, store.shape(), is_left))
+    let is_left = indexes_and_counts(&table) == left;
+    Ok((
+        to_answer(given.map(|()| 0))?,
+        store.indexes_and_counts(),
+        is_left,
+    ))
 }
 
+/// Tests what a table has after a merge, and that the other table is left without records.
 #[test]
-fn tables_merge(rt: HostRuntime) -> Result<()> {
-    for (older, newer, is_append, answer, shape) in merges() {
-        let given = again!(merged(rt.alloc(), *older, *newer, *is_append))?;
+fn tables_merge_as_the_rows_say(rt: HostRuntime) -> Result<()> {
+    for (older, newer, is_append, answer, shape) in rows_of_merges() {
+        let given = again!(merge_two_stores(rt.alloc(), *older, *newer, *is_append))?;
         assert!(rt; given == (*answer, *shape, true), "{older:?} {newer:?}");
     }
     Ok(())
@@ -329,7 +339,7 @@ const HOLE: &str =
     "region 7: a run from index 25 on leaves a hole behind the entries, which end before index 20";
 
 /// Tests whether a call was refused as `Corruption` with this text.
-fn is_refused_as(given: Result<u64>, text: &str) -> bool {
+fn is_corruption_with_text(given: Result<u64>, text: &str) -> bool {
     match given {
         Err(Error::Corruption(found)) => found.as_str() == text,
         _ => false,
@@ -338,18 +348,22 @@ fn is_refused_as(given: Result<u64>, text: &str) -> bool {
 
 /// Tests whether a hole is refused with its text: one that an append leaves, a replayed run, and a table that is
 /// merged.
-fn names_holes(alloc: Global) -> Result<bool> {
+fn are_holes_named(alloc: Global) -> Result<bool> {
     let (older, newer) = ((10, 20, 1), (25, 30, 2));
-    let mut store = LogStore::after(alloc, &[Append(older)])?;
-    let appended = is_refused_as(store.direct(Append(newer)), HOLE);
-    let replayed = is_refused_as(store.direct(Replay(LogQueue::Append, newer)), HOLE);
-    let mut table = LogStore::after(alloc, &[Append(newer)])?.table;
-    let merged = is_refused_as(store.merge(&mut table, false).map(|()| 0), HOLE);
+    let mut store = LogStore::after_calls(alloc, &[Append(older)])?;
+    let appended = is_corruption_with_text(store.call_by_method(Append(newer)), HOLE);
+    let replayed = is_corruption_with_text(
+        store.call_by_method(Replay(LogQueue::Append, newer)),
+        HOLE,
+    );
+    let mut table = LogStore::after_calls(alloc, &[Append(newer)])?.table;
+    let merged = is_corruption_with_text(store.merge(&mut table, false).map(|()| 0), HOLE);
     Ok(appended && replayed && merged)
 }
 
+/// Tests that a hole is refused with its text, by whatever call it would be left.
 #[test]
-fn holes_are_named(rt: HostRuntime) -> Result<()> {
-    assert!(rt; names_holes(rt.alloc())?);
+fn refused_holes_are_named(rt: HostRuntime) -> Result<()> {
+    assert!(rt; are_holes_named(rt.alloc())?);
     Ok(())
 }

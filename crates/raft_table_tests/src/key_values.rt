@@ -7,7 +7,7 @@ use std::alloc::Global;
 use std::process::Abort;
 
 /// Returns a store with the keys 1, 2 and 3, the second of which is rewritten.
-fn store_of_keys(alloc: Global) -> Result<LogStore> {
+fn store_with_three_keys(alloc: Global) -> Result<LogStore> {
     let mut store = LogStore::new(alloc);
     for &(key, queue, seq) in &[
         (b"2", LogQueue::Rewrite, 2),
@@ -55,13 +55,19 @@ static WALKS: [Walk; 10] = [
 ];
 
 /// Returns the rows of walks.
-fn walks() -> &'static [Walk] {
+fn rows_of_walks() -> &'static [Walk] {
     &WALKS
 }
 
 /// Walks over the keys of a table, and returns those that it meets as the digits of a number. It ends early once that
 /// number isn't below `limit`.
-fn seen(table: &MemTable, start: Bound, end: Bound, reverse: bool, limit: u64) -> Result<u64> {
+fn walk_keys_as_digits(
+    table: &MemTable,
+    start: Bound,
+    end: Bound,
+    reverse: bool,
+    limit: u64,
+) -> Result<u64> {
     let mut seen = 0u64;
     table.scan(start, end, reverse, |key, _| {
         let digit = key.first().map_or(0, |b| u64::from(*b & 15));
@@ -72,25 +78,29 @@ fn seen(table: &MemTable, start: Bound, end: Bound, reverse: bool, limit: u64) -
 }
 
 /// Tests what a table returns for its keys.
-fn ask(rt: &impl Abort, alloc: Global) -> Result<()> {
-    let store = store_of_keys(alloc)?;
+fn check_queries_of_keys(rt: &impl Abort, alloc: Global) -> Result<()> {
+    let store = store_with_three_keys(alloc)?;
     let table = &store.table;
     assert!(rt; table.get(b"2") == Some(b"value".as_slice()));
     assert!(rt; table.get(b"4").is_none());
     assert!(rt; fetch_pairs(alloc, table)? == (2, true));
-    for (start, end, reverse, limit, want) in walks() {
-        assert_eq!(rt; seen(table, *start, *end, *reverse, *limit)?, *want);
+    for (start, end, reverse, limit, want) in rows_of_walks() {
+        assert_eq!(rt;
+            walk_keys_as_digits(table, *start, *end, *reverse, *limit)?,
+            *want
+        );
     }
     Ok(())
 }
 
+/// Tests that keys are walked within bounds, in both directions, and that pairs are fetched.
 #[test]
-fn keys_are_walked_and_pairs_handed_out(rt: HostRuntime) -> Result<()> {
-    again!(ask(&rt, rt.alloc()))
+fn keys_are_walked_in_order_and_pairs_fetched(rt: HostRuntime) -> Result<()> {
+    again!(check_queries_of_keys(&rt, rt.alloc()))
 }
 
 /// Returns a store with these keys and values in a file.
-fn store_of_pairs(alloc: Global, file: FileId, pairs: &[(&[u8], &[u8])]) -> Result<LogStore> {
+fn store_with_pairs(alloc: Global, file: FileId, pairs: &[(&[u8], &[u8])]) -> Result<LogStore> {
     let mut store = LogStore::new(alloc);
     for (key, value) in pairs {
         store.put(*key, *value, file)?;
@@ -99,11 +109,11 @@ fn store_of_pairs(alloc: Global, file: FileId, pairs: &[(&[u8], &[u8])]) -> Resu
 }
 
 /// Returns a store with two rewritten keys, into which two appended ones were merged. One key is in both.
-fn joined(alloc: Global) -> Result<LogStore> {
+fn store_after_merge(alloc: Global) -> Result<LogStore> {
     let rewritten = FileId::new(LogQueue::Rewrite, 7);
-    let mut store = store_of_pairs(alloc, rewritten, &[(b"j", b"1"), (b"k", b"2")])?;
+    let mut store = store_with_pairs(alloc, rewritten, &[(b"j", b"1"), (b"k", b"2")])?;
     let appended = FileId::new(LogQueue::Append, 9);
-    let newer = store_of_pairs(alloc, appended, &[(b"k", b"3"), (b"l", b"4")])?;
+    let newer = store_with_pairs(alloc, appended, &[(b"k", b"3"), (b"l", b"4")])?;
     let mut table = newer.table;
     store.merge(&mut table, true)?;
     Ok(store)
@@ -123,7 +133,7 @@ fn count_before(alloc: Global, table: &MemTable, gate: FileSeq) -> Result<usize>
 }
 
 /// Returns how many keys a table has, how many of them are rewritten, and the oldest append file that it needs.
-fn counts(table: &MemTable) -> (usize, u128, Option<FileSeq>) {
+fn key_counts(table: &MemTable) -> (usize, u128, Option<FileSeq>) {
     (
         table.key_count(),
         table.records(LogQueue::Rewrite),
@@ -150,20 +160,21 @@ fn delete_key(alloc: Global, store: &mut LogStore, key: &[u8]) -> Result<()> {
 }
 
 /// Tests a merged table, and again after each of a rewriting and a deletion.
-fn join(rt: &impl Abort, alloc: Global) -> Result<()> {
-    let mut store = joined(alloc)?;
+fn check_merged_keys(rt: &impl Abort, alloc: Global) -> Result<()> {
+    let mut store = store_after_merge(alloc)?;
     assert!(rt; has_values(&store, [Some(b"1"), Some(b"3"), Some(b"4")]));
-    assert!(rt; counts(&store.table) == (3, 1, Some(9)));
+    assert!(rt; key_counts(&store.table) == (3, 1, Some(9)));
     assert!(rt; count_before(alloc, &store.table, 9)? == 2);
     rewrite_key(alloc, &mut store, b"l")?;
-    assert!(rt; counts(&store.table) == (3, 2, Some(9)));
+    assert!(rt; key_counts(&store.table) == (3, 2, Some(9)));
     delete_key(alloc, &mut store, b"j")?;
-    assert!(rt; counts(&store.table) == (2, 1, Some(9)));
+    assert!(rt; key_counts(&store.table) == (2, 1, Some(9)));
     assert!(rt; has_values(&store, [None, Some(b"3"), Some(b"4")]));
     Ok(())
 }
 
+/// Tests which values a merged table has, and what a rewriting and a deletion leave of them.
 #[test]
 fn newer_pairs_replace_older_ones(rt: HostRuntime) -> Result<()> {
-    again!(join(&rt, rt.alloc()))
+    again!(check_merged_keys(&rt, rt.alloc()))
 }

@@ -11,7 +11,7 @@ use std::alloc::Global;
 type Shape = (Option<u64>, Option<u64>, usize, usize, usize);
 
 /// Returns the indexes and the counts of a table, and how many entries it returns.
-fn shape(alloc: Global, table: &MemTable) -> Result<Shape> {
+fn indexes_and_counts(alloc: Global, table: &MemTable) -> Result<Shape> {
     let (first, last) = (table.first_index(), table.last_index());
     let mut fetched = Vec::new(alloc);
     if let (Some(first), Some(last)) = (first, last) {
@@ -22,14 +22,15 @@ fn shape(alloc: Global, table: &MemTable) -> Result<Shape> {
 }
 
 /// Tests whether 5,000 entries in 100 blocks are appended, and their older half is rewritten, each by a single change.
-fn is_rewritten(alloc: Global) -> Result<bool> {
+fn is_older_half_rewritten(alloc: Global) -> Result<bool> {
     let mut store = LogStore::new(alloc);
-    let _appended = store.apply(Append((0, 5_000, 1)), true)?;
-    let appended = shape(alloc, &store.table)?;
-    let _rewritten = store.apply(Rewrite((0, 2_525, 1), Some(1)), true)?;
+    let _appended = store.call_and_retry(Append((0, 5_000, 1)), true)?;
+    let appended = indexes_and_counts(alloc, &store.table)?;
+    let _rewritten = store.call_and_retry(Rewrite((0, 2_525, 1), Some(1)), true)?;
     Ok(
         appended == (Some(0), Some(4_999), 0, 100, 5_000)
-            && shape(alloc, &store.table)? == (Some(0), Some(4_999), 2_525, 101, 5_000),
+            && indexes_and_counts(alloc, &store.table)?
+                == (Some(0), Some(4_999), 2_525, 101, 5_000),
     )
 }
 
@@ -59,21 +60,21 @@ static MERGES: [MergeRow; 3] = [
 ];
 
 /// Returns the rows of merges.
-fn merges() -> &'static [MergeRow] {
+fn rows_of_merges() -> &'static [MergeRow] {
     &MERGES
 }
 
 /// Tests whether the tables of a row are merged into the table that it has.
-fn is_merged(alloc: Global, row: &MergeRow) -> Result<bool> {
+fn is_row_merged(alloc: Global, row: &MergeRow) -> Result<bool> {
     let (older, newer, is_append, merged) = *row;
-    let mut store = LogStore::after(alloc, &[older])?;
-    let mut table = LogStore::after(alloc, &[newer])?.table;
+    let mut store = LogStore::after_calls(alloc, &[older])?;
+    let mut table = LogStore::after_calls(alloc, &[newer])?.table;
     store.merge(&mut table, is_append)?;
-    Ok(shape(alloc, &store.table)? == merged)
+    Ok(indexes_and_counts(alloc, &store.table)? == merged)
 }
 
 /// Tests whether the empty key gets a value of 64 KiB, and has none once it is deleted.
-fn is_deleted(alloc: Global) -> Result<bool> {
+fn is_long_value_deleted(alloc: Global) -> Result<bool> {
     let mut store = LogStore::new(alloc);
     let mut value = Vec::new(alloc);
     value.resize(1 << 16, 0xab)?;
@@ -85,16 +86,17 @@ fn is_deleted(alloc: Global) -> Result<bool> {
 }
 
 /// Tests each row, a rewriting and a long value.
-fn all_are_large(alloc: Global) -> Result<bool> {
-    for row in merges() {
-        if !is_merged(alloc, row)? {
+fn are_all_large_changes_made(alloc: Global) -> Result<bool> {
+    for row in rows_of_merges() {
+        if !is_row_merged(alloc, row)? {
             return Ok(false);
         }
     }
-    Ok(is_rewritten(alloc)? && is_deleted(alloc)?)
+    Ok(is_older_half_rewritten(alloc)? && is_long_value_deleted(alloc)?)
 }
 
+/// Tests that tables of thousands of entries are rewritten and merged, and a long value put and deleted.
 #[test]
 fn large_tables_are_changed_and_merged(rt: HostRuntime) {
-    assert!(rt; matches!(again!(all_are_large(rt.alloc())), Ok(true)));
+    assert!(rt; matches!(again!(are_all_large_changes_made(rt.alloc())), Ok(true)));
 }

@@ -2,7 +2,7 @@
 
 use crate::store::Answer::{Compacted, Done, InvalidArgument, NotFound};
 use crate::store::Call::{Append, Group, Rewrite};
-use crate::store::{Answer, LogStore, answered};
+use crate::store::{Answer, LogStore, to_answer};
 use raft_memtable::{
     EntryIndex, FileBlockHandle, FileId, FileSeq, LogQueue, MemTable, Result, TableChange, is_run,
 };
@@ -31,7 +31,7 @@ fn list_rows() -> &'static [(&'static [ListedEntry], Answer)] {
 }
 
 /// Returns the entries of a list, each at a place of its own.
-fn listed(alloc: Global, list: &[ListedEntry]) -> Result<Vec<EntryIndex>> {
+fn entries_of_list(alloc: Global, list: &[ListedEntry]) -> Result<Vec<EntryIndex>> {
     let mut entries = Vec::new(alloc);
     for (index, queue) in list {
         entries.push(EntryIndex {
@@ -48,27 +48,32 @@ fn listed(alloc: Global, list: &[ListedEntry]) -> Result<Vec<EntryIndex>> {
 }
 
 /// Appends a list. Returns whether it is a run of the append queue, and the answer.
-fn append(alloc: Global, store: &mut LogStore, list: &[ListedEntry]) -> Result<(bool, Answer)> {
-    let entries = listed(alloc, list)?;
+fn append_list(
+    alloc: Global,
+    store: &mut LogStore,
+    list: &[ListedEntry],
+) -> Result<(bool, Answer)> {
+    let entries = entries_of_list(alloc, list)?;
     let is_run = is_run(&entries, LogQueue::Append);
-    let answer = answered(store.make(TableChange::Append(entries)))?;
+    let answer = to_answer(store.make(TableChange::Append(entries)))?;
     Ok((is_run, answer))
 }
 
 /// Tests whether the lists of the rows are appended to one table, or refused, one after another.
-fn make_lists(rt: &impl Abort, alloc: Global) -> Result<()> {
+fn check_each_list_row(rt: &impl Abort, alloc: Global) -> Result<()> {
     let mut store = LogStore::new(alloc);
     for (list, want) in list_rows() {
-        assert!(rt; append(alloc, &mut store, list)? == (*want == Done, *want));
+        assert!(rt; append_list(alloc, &mut store, list)? == (*want == Done, *want));
     }
     assert_eq!(rt; store.make(TableChange::Keep)?, 0);
     assert_eq!(rt; store.table.last_index(), Some(u64::MAX - 1));
     Ok(())
 }
 
+/// Tests which lists of entries are runs that a table appends, and how others are refused.
 #[test]
-fn lists_are_runs_or_refused(rt: HostRuntime) -> Result<()> {
-    again!(make_lists(&rt, rt.alloc()))
+fn lists_are_appended_as_runs_or_refused(rt: HostRuntime) -> Result<()> {
+    again!(check_each_list_row(&rt, rt.alloc()))
 }
 
 /// The lengths of entries from index 10 on; the range and the limit of a fetch; its answer, and how many entries it
@@ -95,7 +100,7 @@ fn fetch_rows() -> &'static [Fetch] {
 }
 
 /// Returns entries of these lengths from the index 10 on, each at a place of its own.
-fn entries(alloc: Global, lens: &[u32]) -> Result<Vec<EntryIndex>> {
+fn entries_of_lengths(alloc: Global, lens: &[u32]) -> Result<Vec<EntryIndex>> {
     let mut entries = Vec::new(alloc);
     let mut index = 10u64;
     for len in lens {
@@ -115,7 +120,7 @@ fn entries(alloc: Global, lens: &[u32]) -> Result<Vec<EntryIndex>> {
 }
 
 /// Tests whether entries have the indexes from `first` on.
-fn are_from(entries: &[EntryIndex], first: u64) -> bool {
+fn have_indexes_from(entries: &[EntryIndex], first: u64) -> bool {
     let mut index = first;
     for entry in entries {
         if entry.index != index {
@@ -127,7 +132,7 @@ fn are_from(entries: &[EntryIndex], first: u64) -> bool {
 }
 
 /// Fetches entries. Returns the answer, how many entries it gives, and whether these are the ones from `begin` on.
-fn fetch(
+fn fetch_entries(
     alloc: Global,
     table: &MemTable,
     begin: u64,
@@ -136,29 +141,34 @@ fn fetch(
 ) -> Result<(Answer, usize, bool)> {
     let mut fetched = Vec::new(alloc);
     let given = table.fetch_entries_to(begin, end, limit, &mut fetched);
-    let answer = answered(given.map(|()| 0))?;
-    Ok((answer, fetched.len(), are_from(fetched.as_slice(), begin)))
+    let answer = to_answer(given.map(|()| 0))?;
+    Ok((
+        answer,
+        fetched.len(),
+        have_indexes_from(fetched.as_slice(), begin),
+    ))
 }
 
 /// Tests whether the fetch of a row gives what the row says.
-fn holds(alloc: Global, row: &Fetch) -> Result<bool> {
+fn fetch_row_holds(alloc: Global, row: &Fetch) -> Result<bool> {
     let (lens, begin, end, limit, want, count) = *row;
     let mut store = LogStore::new(alloc);
-    store.make(TableChange::Append(entries(alloc, lens)?))?;
-    Ok(fetch(alloc, &store.table, begin, end, limit)? == (want, count, true))
+    store.make(TableChange::Append(entries_of_lengths(alloc, lens)?))?;
+    Ok(fetch_entries(alloc, &store.table, begin, end, limit)? == (want, count, true))
 }
 
+/// Tests that a fetch gives the entries of its range up to its size limit, or is refused.
 #[test]
-fn fetches_end_at_limits(rt: HostRuntime) -> Result<()> {
+fn fetches_end_at_their_limits(rt: HostRuntime) -> Result<()> {
     for row in fetch_rows() {
-        let held = again!(holds(rt.alloc(), row))?;
+        let held = again!(fetch_row_holds(rt.alloc(), row))?;
         assert!(rt; held, "{} {} {:?}", row.1, row.2, row.3);
     }
     Ok(())
 }
 
 /// Tests whether a table says that it has at least `count` entries in append files up to `seq`.
-fn has_before(table: &MemTable, seq: FileSeq, count: usize) -> bool {
+fn has_at_least_before(table: &MemTable, seq: FileSeq, count: usize) -> bool {
     let gate = FileId::new(LogQueue::Append, seq);
     count > 0 && table.has_at_least_some_entries_before(gate, count)
 }
@@ -166,7 +176,7 @@ fn has_before(table: &MemTable, seq: FileSeq, count: usize) -> bool {
 /// Fetches the appended entries up to file 1, those up to file 2, and the rewritten ones, into one list. Returns how
 /// long the list is after each fetch; and whether the appended entries in it are those from 10 on, and the rewritten
 /// ones those from 0 on.
-fn fetch_queues(alloc: Global, table: &MemTable) -> Result<([usize; 3], bool)> {
+fn fetch_each_queue(alloc: Global, table: &MemTable) -> Result<([usize; 3], bool)> {
     let mut fetched = Vec::new(alloc);
     table.fetch_entry_indexes_before(1, &mut fetched)?;
     let first = fetched.len();
@@ -175,12 +185,12 @@ fn fetch_queues(alloc: Global, table: &MemTable) -> Result<([usize; 3], bool)> {
     table.fetch_rewritten_entry_indexes(&mut fetched)?;
     let appended = fetched.get(..second).unwrap_or(&[]);
     let rewritten = fetched.get(second..).unwrap_or(&[]);
-    let are_theirs = are_from(appended, 10) && are_from(rewritten, 0);
+    let are_theirs = have_indexes_from(appended, 10) && have_indexes_from(rewritten, 0);
     Ok(([first, second, fetched.len()], are_theirs))
 }
 
 /// Returns how many blocks, how many rewritten entries, and how many records of the append queue a table has.
-fn counts(table: &MemTable) -> (usize, usize, u128) {
+fn block_and_entry_counts(table: &MemTable) -> (usize, usize, u128) {
     (
         table.block_count(),
         table.rewrite_count(),
@@ -189,7 +199,7 @@ fn counts(table: &MemTable) -> (usize, usize, u128) {
 }
 
 /// Returns the number of the file that an entry is in; `None` where there is no such entry.
-fn seq_at(table: &MemTable, index: u64) -> Option<FileSeq> {
+fn file_seq_of_entry(table: &MemTable, index: u64) -> Option<FileSeq> {
     table
         .get_entry(index)
         .and_then(|entry| entry.entries)
@@ -197,19 +207,19 @@ fn seq_at(table: &MemTable, index: u64) -> Option<FileSeq> {
 }
 
 /// Tests what a table returns of entries in two append files, those of the first of which are then rewritten.
-fn ask_queues(rt: &impl Abort, alloc: Global) -> Result<()> {
+fn check_queries_of_both_queues(rt: &impl Abort, alloc: Global) -> Result<()> {
     let calls = [
         Append((0, 10, 1)),
         Append((10, 20, 2)),
         Rewrite((0, 15, 50), Some(1)),
         Group(3, 7),
     ];
-    let store = LogStore::after(alloc, &calls)?;
+    let store = LogStore::after_calls(alloc, &calls)?;
     let table = &store.table;
-    assert!(rt; counts(table) == (2, 10, 10));
+    assert!(rt; block_and_entry_counts(table) == (2, 10, 10));
     assert!(rt; table.atomic_group() == Some((3, 7)));
     for &(index, seq) in &[(9, Some(50)), (10, Some(2)), (20, None)] {
-        assert!(rt; seq_at(table, index) == seq, "{index}");
+        assert!(rt; file_seq_of_entry(table, index) == seq, "{index}");
     }
     for &(seq, count, want) in &[
         (50, 10, true),
@@ -217,14 +227,18 @@ fn ask_queues(rt: &impl Abort, alloc: Global) -> Result<()> {
         (2, 11, true),
         (50, 21, false),
     ] {
-        assert!(rt; has_before(table, seq, count) == want, "{seq} {count}");
+        assert!(rt;
+            has_at_least_before(table, seq, count) == want,
+            "{seq} {count}"
+        );
     }
-    let fetched = fetch_queues(alloc, table)?;
+    let fetched = fetch_each_queue(alloc, table)?;
     assert!(rt; fetched == ([0, 10, 20], true));
     Ok(())
 }
 
+/// Tests that queries by queue count and fetch just the entries of that queue.
 #[test]
 fn queries_tell_the_queues_apart(rt: HostRuntime) -> Result<()> {
-    again!(ask_queues(&rt, rt.alloc()))
+    again!(check_queries_of_both_queues(&rt, rt.alloc()))
 }

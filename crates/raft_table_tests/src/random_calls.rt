@@ -2,7 +2,7 @@
 
 ghost use Rattle.std.specs.Prelude.{◌<◌};
 
-use crate::store::{Call, LogStore, Run, entry_of};
+use crate::store::{Call, LogStore, Run, entry_of_run};
 use raft_memtable::{EntryIndex, Error, FileSeq, LogQueue, Mark, MemTable, Result, Step};
 use raft_trials::again;
 use std::alloc::Global;
@@ -15,7 +15,7 @@ struct Numbers {
 
 impl Numbers {
     /// Returns the next number, which is below `end`.
-    fn below(&mut self, end: u64) -> u64
+    fn draw_below(&mut self, end: u64) -> u64
         requires { 0 < end }
         ensures { result < end }
     {
@@ -48,35 +48,42 @@ struct Bounds {
 
 impl Bounds {
     /// Tests whether an entry is within the bounds.
-    fn hold(&self, entry: &EntryIndex) -> bool {
+    fn include(&self, entry: &EntryIndex) -> bool {
         self.floor <= entry.index && entry.index < self.cut
     }
 }
 
 /// Draws a run of up to three entries in one of the files 1 to 3. It starts near the entries of a list, or, more
 /// rarely, anywhere. All indexes are below 27.
-fn random_run(numbers: &mut Numbers, list: &List) -> Run {
+fn draw_run(numbers: &mut Numbers, list: &List) -> Run {
     let near = list
         .start()
-        .saturating_add(numbers.below(list.entries.len() as u64 + 2));
-    let far = numbers.below(24);
-    let first = if numbers.below(16) == 0 {
+        .saturating_add(numbers.draw_below(list.entries.len() as u64 + 2));
+    let far = numbers.draw_below(24);
+    let first = if numbers.draw_below(16) == 0 {
         far
     } else {
         near.min(24)
     };
-    let count = 1 + numbers.below(3);
-    (first, first.saturating_add(count), 1 + numbers.below(3))
+    let count = 1 + numbers.draw_below(3);
+    (
+        first,
+        first.saturating_add(count),
+        1 + numbers.draw_below(3),
+    )
 }
 
 /// Draws a change.
-fn random_change(numbers: &mut Numbers, list: &List) -> Change {
-    let run = random_run(numbers, list);
-    let gate = 1 + numbers.below(3);
-    let floor = list.start().saturating_add(numbers.below(3));
-    let cut = run.0.saturating_add(numbers.below(4)).saturating_sub(2);
+fn draw_change(numbers: &mut Numbers, list: &List) -> Change {
+    let run = draw_run(numbers, list);
+    let gate = 1 + numbers.draw_below(3);
+    let floor = list.start().saturating_add(numbers.draw_below(3));
+    let cut = run
+        .0
+        .saturating_add(numbers.draw_below(4))
+        .saturating_sub(2);
     let bounds = Bounds { floor, cut };
-    match numbers.below(26) {
+    match numbers.draw_below(26) {
         0..=5 => Change::Call(Call::Append(run)),
         6 => Change::Call(Call::Replay(LogQueue::Append, run)),
         7 => Change::Call(Call::Replay(LogQueue::Rewrite, run)),
@@ -93,27 +100,27 @@ fn random_change(numbers: &mut Numbers, list: &List) -> Change {
 }
 
 /// Returns the table of a run.
-fn table_of(alloc: Global, queue: LogQueue, run: Run) -> Result<MemTable> {
-    Ok(LogStore::after(alloc, &[Call::Replay(queue, run)])?.table)
+fn table_of_run(alloc: Global, queue: LogQueue, run: Run) -> Result<MemTable> {
+    Ok(LogStore::after_calls(alloc, &[Call::Replay(queue, run)])?.table)
 }
 
 /// Makes a change of a store.
-fn make(alloc: Global, store: &mut LogStore, change: Change) -> Result<()> {
+fn make_change(alloc: Global, store: &mut LogStore, change: Change) -> Result<()> {
     match change {
         Change::Call(call) => {
-            store.direct(call)?;
+            store.call_by_method(call)?;
             Ok(())
         }
-        Change::MergeNewer(queue, run) => store.merge(&mut table_of(alloc, queue, run)?, false),
+        Change::MergeNewer(queue, run) => store.merge(&mut table_of_run(alloc, queue, run)?, false),
         Change::MergeAppended(run) => {
-            store.merge(&mut table_of(alloc, LogQueue::Append, run)?, true)
+            store.merge(&mut table_of_run(alloc, LogQueue::Append, run)?, true)
         }
-        Change::JoinUnder(queue, bounds, run) => join_under(alloc, store, queue, bounds, run),
+        Change::JoinUnder(queue, bounds, run) => merge_under_mark(alloc, store, queue, bounds, run),
     }
 }
 
 /// Merges the table of a run under its region mark.
-fn join_under(
+fn merge_under_mark(
     alloc: Global,
     store: &mut LogStore,
     queue: LogQueue,
@@ -130,7 +137,7 @@ fn join_under(
     )?;
     mark.add_step(queue, 0, &Step::Truncate { index: bounds.cut })?;
     mark.add_run(queue, 0, run.0);
-    store.join_under(queue, &mut table_of(alloc, queue, run)?, &mark)
+    store.join_under(queue, &mut table_of_run(alloc, queue, run)?, &mark)
 }
 
 /// The entries of a table, by rising index, as a plain list.
@@ -140,13 +147,13 @@ struct List {
 }
 
 /// Tests whether a run has an entry at an index.
-fn holds(run: Run, index: u64) -> bool {
+fn run_has_index(run: Run, index: u64) -> bool {
     let (first, end, _) = run;
     first <= index && index < end
 }
 
 /// Tests whether an entry is in a queue.
-fn is_in(entry: &EntryIndex, queue: LogQueue) -> bool {
+fn is_in_queue(entry: &EntryIndex, queue: LogQueue) -> bool {
     match entry.entries {
         Some(handle) => handle.id.queue == queue,
         None => false,
@@ -154,7 +161,7 @@ fn is_in(entry: &EntryIndex, queue: LogQueue) -> bool {
 }
 
 /// Tests whether a rewriting may move an entry.
-fn may_move(entry: &EntryIndex, gate: Option<FileSeq>) -> bool {
+fn can_move(entry: &EntryIndex, gate: Option<FileSeq>) -> bool {
     match (entry.entries, gate) {
         (Some(handle), Some(gate)) => handle.id.seq <= gate,
         (Some(handle), None) => handle.id.queue == LogQueue::Rewrite,
@@ -181,7 +188,7 @@ impl List {
 
     /// Returns the index past the last entry within bounds, 0 where there is none.
     fn end_within(&self, bounds: Bounds) -> u64 {
-        end_of(self.entries.iter().filter(|e| bounds.hold(e)).last())
+        end_of(self.entries.iter().filter(|e| bounds.include(e)).last())
     }
 
     /// Returns the entry at an index; `None` where there is none.
@@ -196,19 +203,22 @@ impl List {
 
     /// Returns how many entries are in a queue.
     fn count_in(&self, queue: LogQueue) -> usize {
-        self.entries.iter().filter(|e| is_in(e, queue)).count()
+        self.entries
+            .iter()
+            .filter(|e| is_in_queue(e, queue))
+            .count()
     }
 
     /// Tests whether a run leaves no hole if it replaces the entries from its start on.
-    fn meets(&self, run: Run) -> bool {
+    fn meets_without_hole(&self, run: Run) -> bool {
         self.entries.is_empty() || run.0 <= end_of(self.entries.last())
     }
 
     /// Tests whether a rewriting by a run may begin where it does: not behind the first entry that isn't rewritten, and
     /// with a gate exactly there.
-    fn may_rewrite(&self, run: Run, gate: Option<FileSeq>) -> bool {
+    fn can_rewrite(&self, run: Run, gate: Option<FileSeq>) -> bool {
         let (first, _, _) = run;
-        if !self.entries.iter().any(|e| holds(run, e.index)) {
+        if !self.entries.iter().any(|e| run_has_index(run, e.index)) {
             return true;
         }
         let before = self.entries.iter().filter(|e| e.index < first).count();
@@ -221,10 +231,11 @@ impl List {
         let appended = self.count_in(LogQueue::Append) > 0;
         let rewritten = self.count_in(LogQueue::Rewrite) > 0;
         match change {
-            Change::Call(Call::Append(run)) => self.meets(run) && self.start() <= run.0,
-            Change::Call(Call::Replay(LogQueue::Append, run)) => self.meets(run),
-            Change::Call(Call::Rewrite(run, gate)) => self.may_rewrite(run, gate),
-            Change::MergeNewer(LogQueue::Append, run) => !rewritten && self.meets(run),
+            Change::Call(Call::Append(run)) => self.meets_without_hole(run)
+                && self.start() <= run.0,
+            Change::Call(Call::Replay(LogQueue::Append, run)) => self.meets_without_hole(run),
+            Change::Call(Call::Rewrite(run, gate)) => self.can_rewrite(run, gate),
+            Change::MergeNewer(LogQueue::Append, run) => !rewritten && self.meets_without_hole(run),
             Change::JoinUnder(LogQueue::Append, bounds, run) => {
                 let end = self.end_within(bounds);
                 end == 0 || run.0 <= end
@@ -238,17 +249,17 @@ impl List {
     }
 
     /// Makes a change of the list, one that is accepted.
-    fn make(&mut self, change: Change) -> Result<()> {
+    fn make_change(&mut self, change: Change) -> Result<()> {
         match change {
             Change::Call(Call::Append(run)) | Change::MergeAppended(run) => {
-                self.put(LogQueue::Append, run)
+                self.put_run(LogQueue::Append, run)
             }
             Change::Call(Call::Replay(queue, run)) | Change::MergeNewer(queue, run) => {
-                self.put(queue, run)
+                self.put_run(queue, run)
             }
             Change::JoinUnder(queue, bounds, run) => {
-                self.entries.retain(|e| bounds.hold(e));
-                self.put(queue, run)
+                self.entries.retain(|e| bounds.include(e));
+                self.put_run(queue, run)
             }
             Change::Call(Call::Rewrite(run, gate)) => {
                 self.move_places(run, gate);
@@ -267,14 +278,14 @@ impl List {
     }
 
     /// Puts a run in place of the entries from its start on, or of all entries where it would leave a hole.
-    fn put(&mut self, queue: LogQueue, run: Run) -> Result<()> {
-        if !self.meets(run) {
+    fn put_run(&mut self, queue: LogQueue, run: Run) -> Result<()> {
+        if !self.meets_without_hole(run) {
             self.entries.clear();
         }
         let (first, end, _) = run;
         self.entries.retain(|e| e.index < first);
         for index in first..end {
-            self.entries.push(entry_of(queue, run, index))?;
+            self.entries.push(entry_of_run(queue, run, index))?;
         }
         Ok(())
     }
@@ -282,18 +293,18 @@ impl List {
     /// Gives entries the places that a run has for them, up to the first entry that may not move.
     fn move_places(&mut self, run: Run, gate: Option<FileSeq>) {
         for entry in &mut self.entries {
-            if holds(run, entry.index) {
-                if !may_move(entry, gate) {
+            if run_has_index(run, entry.index) {
+                if !can_move(entry, gate) {
                     return;
                 }
-                *entry = entry_of(LogQueue::Rewrite, run, entry.index);
+                *entry = entry_of_run(LogQueue::Rewrite, run, entry.index);
             }
         }
     }
 }
 
 /// Tests whether a table has the entries of a list, and the counts are right.
-fn is_same(store: &LogStore, list: &List) -> bool {
+fn has_same_entries(store: &LogStore, list: &List) -> bool {
     (0..32).all(|index| store.table.get_entry(index) == list.get(index))
         && store.stats.live_entries(LogQueue::Append) == list.count_in(LogQueue::Append)
         && store.stats.live_entries(LogQueue::Rewrite) == list.count_in(LogQueue::Rewrite)
@@ -301,8 +312,13 @@ fn is_same(store: &LogStore, list: &List) -> bool {
 
 /// Makes a change of the table, and of the list where that accepts it. Tests whether both accept it or neither does,
 /// and both have the same entries then.
-fn agree(alloc: Global, store: &mut LogStore, list: &mut List, change: Change) -> Result<bool> {
-    let accepted = match make(alloc, store, change) {
+fn change_both_and_compare(
+    alloc: Global,
+    store: &mut LogStore,
+    list: &mut List,
+    change: Change,
+) -> Result<bool> {
+    let accepted = match make_change(alloc, store, change) {
         Err(Error::Memory) => return Err(Error::Memory),
         made => made.is_ok(),
     };
@@ -310,30 +326,32 @@ fn agree(alloc: Global, store: &mut LogStore, list: &mut List, change: Change) -
         return Ok(false);
     }
     if accepted {
-        list.make(change)?;
+        list.make_change(change)?;
     }
-    Ok(is_same(store, list))
+    Ok(has_same_entries(store, list))
 }
 
 /// Makes `changes` random changes, and returns the first one after which the table and the list differ; `None` where
 /// they never do.
-fn first_fault(alloc: Global, changes: u32) -> Result<Option<Change>> {
+fn find_first_difference(alloc: Global, changes: u32) -> Result<Option<Change>> {
     let mut numbers = Numbers { state: 2024 };
     let mut store = LogStore::new(alloc);
     let mut list = List {
         entries: Vec::new(alloc),
     };
     for _ in 0..changes {
-        let change = random_change(&mut numbers, &list);
-        if !agree(alloc, &mut store, &mut list, change)? {
+        let change = draw_change(&mut numbers, &list);
+        if !change_both_and_compare(alloc, &mut store, &mut list, change)? {
             return Ok(Some(change));
         }
     }
     Ok(None)
 }
 
+/// Tests that a table and a plain list accept the same of ten thousand random changes, and have the same entries
+/// after each.
 #[test]
-fn random_calls_are_those_of_a_list(rt: HostRuntime) {
-    let fault = again!(first_fault(rt.alloc(), 10_000));
+fn a_table_agrees_with_a_plain_list_after_random_calls(rt: HostRuntime) {
+    let fault = again!(find_first_difference(rt.alloc(), 10_000));
     assert!(rt; matches!(fault, Ok(None)), "{fault:?}");
 }

@@ -384,6 +384,6 @@ static ROWS: [&[Row]; 14] = [
 ];
 
 /// Returns the lists of rows, each of which begins with an empty store.
-pub fn lists() -> &'static [&'static [Row]] {
+pub fn lists_of_rows() -> &'static [&'static [Row]] {
     &ROWS
 }

@@ -9,7 +9,7 @@ use std::process::Abort;
 
 /// Returns how many records are live in the append queue, and how many were written to the rewrite queue and deleted
 /// from it.
-fn counts(stats: &GlobalStats) -> [usize; 3] {
+fn live_written_and_deleted(stats: &GlobalStats) -> [usize; 3] {
     [
         stats.live_entries(LogQueue::Append),
         stats.rewrite_entries(),
@@ -19,55 +19,59 @@ fn counts(stats: &GlobalStats) -> [usize; 3] {
 
 /// Tests the counts when a table of ten appended entries and a rewritten key is added, subtracted, and added again
 /// where there is no room.
-fn count_table(rt: &impl Abort, table: &MemTable) -> Result<()> {
+fn check_adding_and_subtracting(rt: &impl Abort, table: &MemTable) -> Result<()> {
     let mut stats = GlobalStats::default();
     stats.add_table(table)?;
-    assert!(rt; counts(&stats) == [10, 1, 0]);
+    assert!(rt; live_written_and_deleted(&stats) == [10, 1, 0]);
     stats.delete_table(table);
-    assert!(rt; counts(&stats) == [0, 1, 1]);
+    assert!(rt; live_written_and_deleted(&stats) == [0, 1, 1]);
     stats.add(LogQueue::Append, usize::MAX - 9)?;
     assert!(rt; matches!(stats.add_table(table), Err(Error::Full)));
-    assert!(rt; counts(&stats) == [usize::MAX - 9, 1, 1]);
+    assert!(rt; live_written_and_deleted(&stats) == [usize::MAX - 9, 1, 1]);
     Ok(())
 }
 
 /// Tests the counts of a table with appended entries and a rewritten key.
-fn count(rt: &impl Abort, alloc: Global) -> Result<()> {
+fn check_counts_of_table(rt: &impl Abort, alloc: Global) -> Result<()> {
     let calls = [Append((0, 10, 1)), Put(LogQueue::Rewrite, 5)];
-    let store = LogStore::after(alloc, &calls)?;
-    count_table(rt, &store.table)
+    let store = LogStore::after_calls(alloc, &calls)?;
+    check_adding_and_subtracting(rt, &store.table)
 }
 
+/// Tests the live counts when a table is added, subtracted, and added where there is no room.
 #[test]
-fn tables_are_counted_on_and_off(rt: HostRuntime) -> Result<()> {
-    again!(count(&rt, rt.alloc()))
+fn tables_are_added_to_the_counts_and_subtracted(rt: HostRuntime) -> Result<()> {
+    again!(check_counts_of_table(&rt, rt.alloc()))
 }
 
+/// Tests that records deleted from the rewrite queue make room for new ones where the count is at its highest number.
 #[test]
 fn deleted_records_make_room_once(rt: HostRuntime) -> Result<()> {
     let mut stats = GlobalStats::default();
     stats.add(LogQueue::Rewrite, usize::MAX)?;
     stats.delete(LogQueue::Rewrite, 10);
-    assert!(rt; counts(&stats) == [0, usize::MAX, 10]);
+    assert!(rt; live_written_and_deleted(&stats) == [0, usize::MAX, 10]);
     assert_eq!(rt; stats.live_entries(LogQueue::Rewrite), usize::MAX - 10);
     stats.add(LogQueue::Rewrite, 4)?;
-    assert!(rt; counts(&stats) == [0, usize::MAX - 6, 0]);
+    assert!(rt; live_written_and_deleted(&stats) == [0, usize::MAX - 6, 0]);
     Ok(())
 }
 
+/// Tests that the count of the append queue refuses to pass its highest number, and goes down with each deletion.
 #[test]
-fn records_of_the_append_queue_are_taken_off(rt: HostRuntime) -> Result<()> {
+fn deleted_records_of_the_append_queue_are_subtracted(rt: HostRuntime) -> Result<()> {
     let mut stats = GlobalStats::default();
     stats.add(LogQueue::Append, usize::MAX)?;
     assert!(rt; matches!(stats.add(LogQueue::Append, 1), Err(Error::Full)));
-    assert!(rt; counts(&stats) == [usize::MAX, 0, 0]);
+    assert!(rt; live_written_and_deleted(&stats) == [usize::MAX, 0, 0]);
     stats.delete(LogQueue::Append, 10);
-    assert!(rt; counts(&stats) == [usize::MAX - 10, 0, 0]);
+    assert!(rt; live_written_and_deleted(&stats) == [usize::MAX - 10, 0, 0]);
     stats.add(LogQueue::Append, 10)?;
-    assert!(rt; counts(&stats) == [usize::MAX, 0, 0]);
+    assert!(rt; live_written_and_deleted(&stats) == [usize::MAX, 0, 0]);
     Ok(())
 }
 
+/// Tests that a reset leaves the number of live records, and sets that of the deleted ones to 0.
 #[test]
 fn counters_of_the_rewrite_queue_are_reset(rt: HostRuntime) -> Result<()> {
     let mut stats = GlobalStats::default();
@@ -75,7 +79,7 @@ fn counters_of_the_rewrite_queue_are_reset(rt: HostRuntime) -> Result<()> {
     stats.add(LogQueue::Rewrite, 10)?;
     stats.delete(LogQueue::Rewrite, 4);
     stats.reset_rewrite_counters();
-    assert!(rt; counts(&stats) == [3, 6, 0]);
+    assert!(rt; live_written_and_deleted(&stats) == [3, 6, 0]);
     assert_eq!(rt; stats.live_entries(LogQueue::Rewrite), 6);
     Ok(())
 }

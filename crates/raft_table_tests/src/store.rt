@@ -60,7 +60,7 @@ pub type Shape = ((u64, u64), (u64, FileSeq), (u64, u64, FileSeq));
 
 /// Returns the result of a call as an answer: a number of dropped entries only if that isn't 0. `Memory` and errors
 /// that no answer stands for are passed on.
-pub fn answered(given: Result<u64>) -> Result<Answer> {
+pub fn to_answer(given: Result<u64>) -> Result<Answer> {
     match given {
         Ok(0) => Ok(Answer::Done),
         Ok(count) => Ok(Answer::Dropped(count)),
@@ -77,7 +77,7 @@ pub fn answered(given: Result<u64>) -> Result<Answer> {
 const BLOCK: u64 = 50;
 
 /// Returns the entry of a run at an index. Its span depends on where the run starts.
-pub fn entry_of(queue: LogQueue, run: Run, index: u64) -> EntryIndex {
+pub fn entry_of_run(queue: LogQueue, run: Run, index: u64) -> EntryIndex {
     let (first, _, seq) = run;
     EntryIndex {
         index,
@@ -103,27 +103,27 @@ impl LogStore {
     }
 
     /// Returns a new store on which these calls were made.
-    pub fn after(alloc: Global, calls: &[Call]) -> Result<LogStore> {
+    pub fn after_calls(alloc: Global, calls: &[Call]) -> Result<LogStore> {
         let mut store = LogStore::new(alloc);
         for call in calls {
-            store.direct(*call)?;
+            store.call_by_method(*call)?;
         }
         Ok(store)
     }
 
     /// Returns a copy of a text.
-    fn bytes(&self, text: &[u8]) -> Result<Vec<u8>> {
+    fn copy_bytes(&self, text: &[u8]) -> Result<Vec<u8>> {
         Ok(Vec::from_slice(self.alloc, text)?)
     }
 
     /// Returns the entries of a run.
-    fn entries(&self, queue: LogQueue, run: Run) -> Result<Vec<EntryIndex>>
+    fn run_entries(&self, queue: LogQueue, run: Run) -> Result<Vec<EntryIndex>>
         ensures { IfOk result (λ entries. IsRunIn queue entries.items) }
     {
         let (first, end, _) = run;
         let mut entries = Vec::new(self.alloc);
         for index in first..end {
-            entries.push(entry_of(queue, run, index))?;
+            entries.push(entry_of_run(queue, run, index))?;
         }
         if is_run(&entries, queue) {
             Ok(entries)
@@ -133,25 +133,28 @@ impl LogStore {
     }
 
     /// Returns a call as a change that is a value; `None` where there is no such change.
-    fn change(&self, call: Call) -> Result<Option<TableChange>> {
+    fn to_change(&self, call: Call) -> Result<Option<TableChange>> {
         Ok(match call {
-            Call::Append(run) => Some(TableChange::Append(self.entries(LogQueue::Append, run)?)),
+            Call::Append(run) => Some(TableChange::Append(self.run_entries(
+                LogQueue::Append,
+                run,
+            )?)),
             Call::Rewrite(run, gate) => Some(TableChange::Rewrite {
-                entries: self.entries(LogQueue::Rewrite, run)?,
+                entries: self.run_entries(LogQueue::Rewrite, run)?,
                 gate,
             }),
             Call::Compact(index) => Some(TableChange::Compact { index }),
             Call::Truncate(index) => Some(TableChange::Truncate { index }),
             Call::Put(queue, seq) => Some(TableChange::Put {
-                key: self.bytes(b"k")?,
-                value: self.bytes(b"v")?,
+                key: self.copy_bytes(b"k")?,
+                value: self.copy_bytes(b"v")?,
                 file_id: FileId::new(queue, seq),
             }),
             Call::Delete => Some(TableChange::Delete {
-                key: self.bytes(b"k")?,
+                key: self.copy_bytes(b"k")?,
             }),
             Call::RewriteKey(gate, seq) => Some(TableChange::RewriteKey {
-                key: self.bytes(b"k")?,
+                key: self.copy_bytes(b"k")?,
                 gate,
                 seq,
             }),
@@ -160,30 +163,30 @@ impl LogStore {
     }
 
     /// Makes a call by the method of the table.
-    pub fn direct(&mut self, call: Call) -> Result<u64> {
+    pub fn call_by_method(&mut self, call: Call) -> Result<u64> {
         match call {
             Call::Append(run) => {
-                let entries = self.entries(LogQueue::Append, run)?;
+                let entries = self.run_entries(LogQueue::Append, run)?;
                 self.table.append(entries, &mut self.stats)?;
             }
             Call::Replay(queue, run) => {
-                let entries = self.entries(queue, run)?;
-                self.replay(queue, entries)?;
+                let entries = self.run_entries(queue, run)?;
+                self.replay_run(queue, entries)?;
             }
             Call::Rewrite(run, gate) => {
-                let entries = self.entries(LogQueue::Rewrite, run)?;
+                let entries = self.run_entries(LogQueue::Rewrite, run)?;
                 self.table.rewrite(entries, gate, &mut self.stats)?;
             }
             Call::Compact(index) => return Ok(self.table.compact_to(index, &mut self.stats)),
             Call::Truncate(index) => return Ok(self.table.truncate_from(index, &mut self.stats)),
             Call::Put(queue, seq) => {
-                let (key, value) = (self.bytes(b"k")?, self.bytes(b"v")?);
+                let (key, value) = (self.copy_bytes(b"k")?, self.copy_bytes(b"v")?);
                 let file = FileId::new(queue, seq);
                 self.table.put(key, value, file, &mut self.stats)?;
             }
             Call::Delete => self.table.delete(b"k", &mut self.stats),
             Call::RewriteKey(gate, seq) => {
-                let key = self.bytes(b"k")?;
+                let key = self.copy_bytes(b"k")?;
                 self.table.rewrite_key(key, gate, seq, &mut self.stats)?;
             }
             Call::Group(first_seq, last_seq) if first_seq <= last_seq => {
@@ -196,7 +199,7 @@ impl LogStore {
     }
 
     /// Replays a run. `Failed` where it is of the rewrite queue, and there are appended records.
-    fn replay(&mut self, queue: LogQueue, run: Vec<EntryIndex>) -> Result<()>
+    fn replay_run(&mut self, queue: LogQueue, run: Vec<EntryIndex>) -> Result<()>
         requires { IsRunIn queue run.items }
     {
         match queue {
@@ -209,7 +212,7 @@ impl LogStore {
     /// Tries to replay a run, and once more where it isn't put, which may be for lack of memory. Returns whether it was
     /// put.
     pub fn try_replay(&mut self, queue: LogQueue, run: Run) -> Result<bool> {
-        let entries = self.entries(queue, run)?;
+        let entries = self.run_entries(queue, run)?;
         let run = raft_memtable::Run::Entries(&entries);
         Ok(
             self.table.try_replay(queue, &run, &mut self.stats)
@@ -219,15 +222,15 @@ impl LogStore {
 
     /// Makes a call, with `by_value` as a change that is a value, where there is one for it.
     fn call(&mut self, call: Call, by_value: bool) -> Result<u64> {
-        if by_value && let Some(change) = self.change(call)? {
+        if by_value && let Some(change) = self.to_change(call)? {
             return self.table.change(change, &mut self.stats);
         }
-        self.direct(call)
+        self.call_by_method(call)
     }
 
     /// Makes a call, and once more where it found no memory, since nothing has changed then.
-    pub fn apply(&mut self, call: Call, by_value: bool) -> Result<Answer> {
-        answered(again!(self.call(call, by_value)))
+    pub fn call_and_retry(&mut self, call: Call, by_value: bool) -> Result<Answer> {
+        to_answer(again!(self.call(call, by_value)))
     }
 
     /// Makes a change of the table.
@@ -238,8 +241,8 @@ impl LogStore {
     /// Puts a key with its value, by a change of the table.
     pub fn put(&mut self, key: &[u8], value: &[u8], file_id: FileId) -> Result<()> {
         let put = TableChange::Put {
-            key: self.bytes(key)?,
-            value: self.bytes(value)?,
+            key: self.copy_bytes(key)?,
+            value: self.copy_bytes(value)?,
             file_id,
         };
         self.make(put)?;
@@ -275,7 +278,7 @@ impl LogStore {
     }
 
     /// Returns the indexes of the store, and its counts and its least file in each queue; 0 where there is none.
-    pub fn shape(&self) -> Shape {
+    pub fn indexes_and_counts(&self) -> Shape {
         let last = self.table.last_index();
         let appended = self.stats.live_entries(LogQueue::Append) as u64;
         let written = self.stats.rewrite_entries() as u64;

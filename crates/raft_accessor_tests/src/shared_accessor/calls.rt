@@ -1,11 +1,11 @@
 //! Tests that each call of shared tables leaves what the accessor's call of the same name leaves.
 
 use crate::calls::{
-    Answer, Call, Change, call_core, compaction, done, handed, numbered, other_table, table_change,
-    tables_of,
+    Answer, Call, Change, answer_of_number, answer_of_table, answer_of_unit, call_core,
+    compaction_change, new_other_table, tables_after_calls, to_table_change,
 };
-use crate::items::{Fault, Item, NEW, NEWER, REWRITTEN, answered, items};
-use crate::seen::{REGION, see_core, see_shared, taken};
+use crate::items::{Fault, Item, NEW, NEWER, REWRITTEN, result_or_fault, to_log_items};
+use crate::seen::{REGION, see_core, see_shared, take_cleaned_of_shared};
 use raft_memtable::{Error, LogQueue, MemTableAccessor, Result};
 use raft_recover::SharedAccessor;
 use raft_trials::again;
@@ -218,7 +218,7 @@ static CALLS: [Row; 36] = [
 ];
 
 /// Returns the rows of calls.
-fn calls() -> &'static [Row] {
+fn rows_of_calls() -> &'static [Row] {
     &CALLS
 }
 
@@ -231,52 +231,66 @@ fn call_shared<R: Wait>(
 ) -> Result<Answer> {
     match call {
         Call::Nothing => Ok((0, None)),
-        Call::WithTableMut(id) => numbered(shared.with_table_mut(rt, id, compaction)),
-        Call::Change(id, change) => numbered(shared.change(rt, id, table_change(alloc, change)?)),
-        Call::GetOrInsert(id) => done(shared.get_or_insert(rt, id)),
+        Call::WithTableMut(id) => answer_of_number(shared.with_table_mut(
+            rt,
+            id,
+            compaction_change,
+        )),
+        Call::Change(id, change) => answer_of_number(shared.change(
+            rt,
+            id,
+            to_table_change(alloc, change)?,
+        )),
+        Call::GetOrInsert(id) => answer_of_unit(shared.get_or_insert(rt, id)),
         Call::Insert(id) => {
-            let other = other_table(alloc, id)?;
-            handed(shared.insert(rt, other.region_id(), other))
+            let other = new_other_table(alloc, id)?;
+            answer_of_table(shared.insert(rt, other.region_id(), other))
         }
-        Call::Remove(id, is_listed) => handed(shared.remove(rt, id, is_listed)),
-        Call::AppendWrites(given) => done(shared.apply_append_writes(rt, items(alloc, given)?)),
+        Call::Remove(id, is_listed) => answer_of_table(shared.remove(rt, id, is_listed)),
+        Call::AppendWrites(given) => answer_of_unit(shared.apply_append_writes(
+            rt,
+            to_log_items(alloc, given)?,
+        )),
         Call::RewriteWrites(given, gate, seq) => {
-            done(shared.apply_rewrite_writes(rt, items(alloc, given)?, gate, seq))
+            answer_of_unit(shared.apply_rewrite_writes(rt, to_log_items(alloc, given)?, gate, seq))
         }
-        Call::AtomicGroup(id) => done(shared.apply_rewrite_atomic_group(rt, id, 49, 50)),
-        Call::TakeCleaned => Ok((taken(rt, alloc, shared)?.len() as u64, None)),
+        Call::AtomicGroup(id) => answer_of_unit(shared.apply_rewrite_atomic_group(rt, id, 49, 50)),
+        Call::TakeCleaned => Ok((
+            take_cleaned_of_shared(rt, alloc, shared)?.len() as u64,
+            None,
+        )),
         _ => Err(Error::Failed),
     }
 }
 
 /// Tests whether cleaned regions of one slot stay listed in order, each as often as it was cleaned.
-fn is_list_kept<R: Wait>(rt: &R, alloc: Global) -> Result<bool> {
+fn is_cleaned_list_kept<R: Wait>(rt: &R, alloc: Global) -> Result<bool> {
     let mut core = MemTableAccessor::new(alloc)?;
     for &region in &[3, 73, 3, 3] {
         core.remove(region, true)?;
     }
     let shared = SharedAccessor::from_core(alloc, core)?;
-    Ok(taken(rt, alloc, &shared)?.as_slice() == [3, 73, 3, 3].as_slice())
+    Ok(take_cleaned_of_shared(rt, alloc, &shared)?.as_slice() == [3, 73, 3, 3].as_slice())
 }
 
 /// Tests whether regions that were cleaned are listed, and one that was written again has its table, also once the
 /// tables were shared and are an accessor's again.
-fn is_written_again(alloc: Global) -> Result<bool> {
-    let shared = SharedAccessor::from_core(alloc, tables_of(alloc, CLEANED_AND_WRITTEN)?)?;
+fn is_rewritten_region_back(alloc: Global) -> Result<bool> {
+    let shared = SharedAccessor::from_core(alloc, tables_after_calls(alloc, CLEANED_AND_WRITTEN)?)?;
     let mut core = shared.into_core()?;
     let seen = see_core(alloc, &mut core)?;
-    let mut expected = tables_of(alloc, CLEANED_AND_WRITTEN)?;
+    let mut expected = tables_after_calls(alloc, CLEANED_AND_WRITTEN)?;
     Ok(seen.has(1, 3, (4, 0)) && seen == see_core(alloc, &mut expected)?)
 }
 
 /// Tests whether the call of a row returns and leaves the same in shared tables and in an accessor, and is refused for
 /// the row's fault, or not at all.
-fn is_alike<R: Wait>(rt: &R, alloc: Global, row: &Row) -> Result<bool> {
+fn is_row_alike<R: Wait>(rt: &R, alloc: Global, row: &Row) -> Result<bool> {
     let (made, call, fault) = *row;
-    let shared = SharedAccessor::from_core(alloc, tables_of(alloc, made)?)?;
-    let answer = answered(call_shared(rt, alloc, &shared, call))?;
-    let mut core = tables_of(alloc, made)?;
-    let expected = answered(call_core(alloc, &mut core, call))?;
+    let shared = SharedAccessor::from_core(alloc, tables_after_calls(alloc, made)?)?;
+    let answer = result_or_fault(call_shared(rt, alloc, &shared, call))?;
+    let mut core = tables_after_calls(alloc, made)?;
+    let expected = result_or_fault(call_core(alloc, &mut core, call))?;
     Ok(
         answer == expected
             && answer.err() == fault
@@ -285,16 +299,17 @@ fn is_alike<R: Wait>(rt: &R, alloc: Global, row: &Row) -> Result<bool> {
 }
 
 /// Tests whether the calls of all rows leave the same in shared tables and in an accessor.
-fn are_alike<R: Wait>(rt: &R, alloc: Global) -> Result<bool> {
-    for row in calls() {
-        if !is_alike(rt, alloc, row)? {
+fn are_all_rows_alike<R: Wait>(rt: &R, alloc: Global) -> Result<bool> {
+    for row in rows_of_calls() {
+        if !is_row_alike(rt, alloc, row)? {
             return Ok(false);
         }
     }
-    Ok(is_list_kept(rt, alloc)? && is_written_again(alloc)?)
+    Ok(is_cleaned_list_kept(rt, alloc)? && is_rewritten_region_back(alloc)?)
 }
 
+/// Tests that each call returns and leaves the same in shared tables as in an accessor.
 #[test]
-fn calls_are_kept(rt: HostRuntime) {
-    assert!(rt; matches!(again!(are_alike(&rt, rt.alloc())), Ok(true)));
+fn shared_tables_answer_as_an_accessor_does(rt: HostRuntime) {
+    assert!(rt; matches!(again!(are_all_rows_alike(&rt, rt.alloc())), Ok(true)));
 }

@@ -196,9 +196,9 @@ static SPELLINGS: [SpellingRow; 43] = rows! {
 
 /// Bytes, what `decode_var_u64` and `decode_var_i64` read at their start, and how many bytes are left then. Some
 /// encodings are longer than they need to be.
-pub(super) type FrontRow = (&'static [u8], u64, i64, usize);
+pub(super) type PrefixRow = (&'static [u8], u64, i64, usize);
 
-static FRONTS: [FrontRow; 6] = [
+static FRONTS: [PrefixRow; 6] = [
     (b"\x80\x80\x80\x00", 0, 0, 0),
     (b"\x80\x00", 0, 0, 0),
     (b"\xff\x00", 127, -64, 0),
@@ -266,16 +266,16 @@ pub(super) fn short_signed_rows() -> &'static [(i32, u32)] {
 }
 
 /// Returns the rows of numbers that take as many bytes as they need.
-pub(super) fn spellings() -> &'static [SpellingRow] {
+pub(super) fn spelling_rows() -> &'static [SpellingRow] {
     &SPELLINGS
 }
 
 /// Returns the rows of bytes that begin with such a number.
-pub(super) fn fronts() -> &'static [FrontRow] {
+pub(super) fn prefix_rows() -> &'static [PrefixRow] {
     &FRONTS
 }
 
 /// Returns the rows of bytes that begin with no number.
-pub(super) fn faults() -> &'static [FaultRow] {
+pub(super) fn fault_rows() -> &'static [FaultRow] {
     &FAULTS
 }

@@ -34,10 +34,10 @@ impl<'a, R: Host + Print> Crashes<'a, R> {
     /// # Errors
     ///
     /// `Io` for the output.
-    pub(crate) fn reopen(&mut self, workers: usize, expected: &str) -> Result<()> {
+    pub(crate) fn reopen_and_compare(&mut self, workers: usize, expected: &str) -> Result<()> {
         self.tried = self.tried.saturating_add(1);
-        match self.recover_text(workers) {
-            Ok(found) => self.compare(found.as_str(), expected),
+        match self.recover_contents_text(workers) {
+            Ok(found) => self.compare_texts(found.as_str(), expected),
             Err(e) => {
                 self.different = self.different.saturating_add(1);
                 Ok(println!(self.rt; "{workers} workers refuse: {e}")?)
@@ -50,7 +50,7 @@ impl<'a, R: Host + Print> Crashes<'a, R> {
     /// # Errors
     ///
     /// `Io` for the output.
-    pub(crate) fn compare(&mut self, found: &str, expected: &str) -> Result<()> {
+    pub(crate) fn compare_texts(&mut self, found: &str, expected: &str) -> Result<()> {
         if found != expected {
             self.different = self.different.saturating_add(1);
             println!(self.rt; "found\n{found}in place of\n{expected}")?;
@@ -64,13 +64,13 @@ impl<'a, R: Host + Print> Crashes<'a, R> {
     /// # Errors
     ///
     /// Those of [`Store::open`]; those of the recovery; those of reading the entries; `Memory`.
-    fn recover_text(&self, workers: usize) -> Result<String> {
+    fn recover_contents_text(&self, workers: usize) -> Result<String> {
         let alloc = self.rt.alloc();
         let mut store = Store::open(self.rt, CRASHED, FILE_SIZE, 1)?;
         if workers > 1 {
-            store.tables = recover_files(self.rt, &store.pipe, workers)?;
+            store.tables = recover_tables(self.rt, &store.pipe, workers)?;
         }
-        describe_contents(alloc, &store.contents()?)
+        describe_contents(alloc, &store.read_contents()?)
     }
 }
 
@@ -80,7 +80,7 @@ impl<'a, R: Host + Print> Crashes<'a, R> {
 /// # Errors
 ///
 /// `Io` for a file; those of [`replay_segments`]; `Memory`.
-fn recover_files<R: Host>(
+fn recover_tables<R: Host>(
     rt: &R,
     pipe: &FolderPipe<'_, R>,
     workers: usize,

@@ -43,7 +43,7 @@ impl DiskNotes {
     }
 
     /// Returns the last file of `queue`, to be changed.
-    fn tail(&mut self, queue: LogQueue) -> &mut Tail {
+    fn tail_mut(&mut self, queue: LogQueue) -> &mut Tail {
         match queue {
             LogQueue::Append => &mut self.append,
             LogQueue::Rewrite => &mut self.rewrite,
@@ -65,10 +65,10 @@ impl DiskNotes {
         new: &str,
     ) -> Result<()> {
         match change {
-            FileChange::Written(id, bytes) => self.write(crashes, dice, id, &bytes, new),
-            FileChange::Synced(queue) => self.sync(queue),
+            FileChange::Written(id, bytes) => self.append_batch(crashes, dice, id, &bytes, new),
+            FileChange::Synced(queue) => self.note_synced(queue),
             FileChange::Begun(id) => self.begin_file(crashes.rt, id),
-            FileChange::DeletedBelow(id) => self.delete_below(crashes, dice, id),
+            FileChange::DeletedBelow(id) => self.delete_files_below(crashes, dice, id),
         }
     }
 
@@ -79,7 +79,7 @@ impl DiskNotes {
     /// # Errors
     ///
     /// `Io` for a file or the output; `Memory`.
-    fn write<R: Host + Print>(
+    fn append_batch<R: Host + Print>(
         &mut self,
         crashes: &mut Crashes<'_, R>,
         dice: &mut Dice,
@@ -87,12 +87,12 @@ impl DiskNotes {
         bytes: &[u8],
         new: &str,
     ) -> Result<()> {
-        let tail = self.tail(id.queue);
+        let tail = self.tail_mut(id.queue);
         if tail.id != id {
-            return crashes.compare("written to another file than the last", "");
+            return crashes.compare_texts("written to another file than the last", "");
         }
         let old = tail.len();
-        tail.write(bytes)?;
+        tail.append_batch(bytes)?;
         if id.queue == LogQueue::Append {
             self.prefix_texts.push(copy_text(self.alloc, new)?)?;
         }
@@ -114,7 +114,7 @@ impl DiskNotes {
         queue: LogQueue,
         old: usize,
     ) -> Result<()> {
-        for len in old..self.tail(queue).len() {
+        for len in old..self.tail_mut(queue).len() {
             match queue {
                 LogQueue::Append => self.try_crash(crashes, 1, len, self.rewrite.len())?,
                 LogQueue::Rewrite => self.try_crash(crashes, 1, self.append.len(), len)?,
@@ -134,7 +134,10 @@ impl DiskNotes {
         crashes: &mut Crashes<'_, R>,
         dice: &mut Dice,
     ) -> Result<()> {
-        let (append, rewrite) = (self.append.draw(dice), self.rewrite.draw(dice));
+        let (append, rewrite) = (
+            self.append.draw_crash_len(dice),
+            self.rewrite.draw_crash_len(dice),
+        );
         let workers = if dice.draw_one_in(8) { 4 } else { 1 };
         self.try_crash(crashes, workers, append, rewrite)
     }
@@ -154,7 +157,7 @@ impl DiskNotes {
     ) -> Result<()> {
         self.write_prefix(crashes.rt, &self.append, append)?;
         self.write_prefix(crashes.rt, &self.rewrite, rewrite)?;
-        crashes.reopen(workers, self.text_of_prefix(append))
+        crashes.reopen_and_compare(workers, self.expected_text_of_prefix(append))
     }
 
     /// Writes the first `len` bytes of `tail`, the last file of a queue, to the folder of crashes.
@@ -164,12 +167,12 @@ impl DiskNotes {
     /// `Io` for the file; `Memory`.
     fn write_prefix<R: Host>(&self, rt: &R, tail: &Tail, len: usize) -> Result<()> {
         let path = file_path(self.alloc, CRASHED, tail.id)?;
-        Ok(fs::write(rt, path.as_str(), tail.prefix(len))?)
+        Ok(fs::write(rt, path.as_str(), tail.prefix_bytes(len))?)
     }
 
     /// Returns the text of what the store must have if the first `append` bytes of the last append file are
     /// left.
-    fn text_of_prefix(&self, append: usize) -> &str {
+    fn expected_text_of_prefix(&self, append: usize) -> &str {
         let lost = self.append.count_batches_lost(append).saturating_add(1);
         match self
             .prefix_texts
@@ -185,10 +188,10 @@ impl DiskNotes {
     /// # Errors
     ///
     /// `Memory` alone.
-    fn sync(&mut self, queue: LogQueue) -> Result<()> {
-        self.tail(queue).sync();
+    fn note_synced(&mut self, queue: LogQueue) -> Result<()> {
+        self.tail_mut(queue).note_synced();
         if queue == LogQueue::Append {
-            let prefix = copy_text(self.alloc, self.text_of_prefix(usize::MAX))?;
+            let prefix = copy_text(self.alloc, self.expected_text_of_prefix(usize::MAX))?;
             self.prefix_texts = vec![in self.alloc; prefix]?;
         }
         Ok(())
@@ -201,9 +204,9 @@ impl DiskNotes {
     ///
     /// `Io` for that file; `Memory`.
     fn begin_file<R: Host>(&mut self, rt: &R, id: FileId) -> Result<()> {
-        self.sync(id.queue)?;
+        self.note_synced(id.queue)?;
         let alloc = self.alloc;
-        let old = mem::replace(self.tail(id.queue), Tail::new(alloc, id));
+        let old = mem::replace(self.tail_mut(id.queue), Tail::new(alloc, id));
         self.write_prefix(rt, &old, old.len())
     }
 
@@ -213,7 +216,7 @@ impl DiskNotes {
     /// # Errors
     ///
     /// `Io` for a file or the output; `Memory`.
-    fn delete_below<R: Host + Print>(
+    fn delete_files_below<R: Host + Print>(
         &mut self,
         crashes: &mut Crashes<'_, R>,
         dice: &mut Dice,
@@ -245,12 +248,15 @@ impl DiskNotes {
     /// # Errors
     ///
     /// `Memory` alone.
-    pub(crate) fn draw_failure(
+    pub(crate) fn draw_crash(
         &mut self,
         dice: &mut Dice,
     ) -> Result<((FileId, usize), (FileId, usize), String)> {
-        let (append, rewrite) = (self.append.draw(dice), self.rewrite.draw(dice));
-        let prefix = copy_text(self.alloc, self.text_of_prefix(append))?;
+        let (append, rewrite) = (
+            self.append.draw_crash_len(dice),
+            self.rewrite.draw_crash_len(dice),
+        );
+        let prefix = copy_text(self.alloc, self.expected_text_of_prefix(append))?;
         self.append.cut_to_whole_batches(append);
         self.rewrite.cut_to_whole_batches(rewrite);
         self.prefix_texts = vec![in self.alloc; copy_text(self.alloc, &prefix)?]?;

@@ -73,28 +73,28 @@ impl<'a, R: Host + Print> History<'a, R> {
     /// # Errors
     ///
     /// `Io` for a file or the output; `Memory`; those of the store's call.
-    pub(crate) fn step(&mut self, crashes: &mut Crashes<'a, R>) -> Result<()> {
-        match self.next_step() {
+    pub(crate) fn run_step(&mut self, crashes: &mut Crashes<'a, R>) -> Result<()> {
+        match self.choose_next_step() {
             0..=9 => self.write()?,
             10 => self.store.rotate(LogQueue::Append)?,
             11 => self.store.rewrite_tombstones()?,
-            12..=14 => self.rewrite()?,
+            12..=14 => self.rewrite_some()?,
             15 | 16 => {
                 let _ = self.store.rewrite_rewrite_queue()?;
             }
-            17..=19 => self.purge()?,
+            17..=19 => self.purge_files()?,
             20 | 21 => self.store = open_store(self.rt, self.file_size)?,
             22 | 23 => self.crash_and_reopen(crashes)?,
-            24 => self.rewrite_all()?,
+            24 => self.rotate_and_rewrite_all()?,
             25 => self.write_replacements()?,
-            _ => self.purge_all()?,
+            _ => self.rotate_and_purge_all()?,
         }
-        self.follow(crashes)
+        self.compare_and_try_crashes(crashes)
     }
 
     /// Returns the number of the next step: the next one of [`REPLACED`] as long as these aren't all taken,
     /// else one that is drawn, which may be the first of them.
-    fn next_step(&mut self) -> u64 {
+    fn choose_next_step(&mut self) -> u64 {
         if let Some(step) = replacing_steps().get(self.taken) {
             self.taken = self.taken.saturating_add(1);
             return *step;
@@ -112,9 +112,9 @@ impl<'a, R: Host + Print> History<'a, R> {
     /// # Errors
     ///
     /// Those of [`Store::rewrite_append_queue`] and [`Store::rotate`].
-    fn rewrite(&mut self) -> Result<()> {
+    fn rewrite_some(&mut self) -> Result<()> {
         if self.dice.draw_one_in(2) {
-            return self.rewrite_all();
+            return self.rotate_and_rewrite_all();
         }
         let _ = self.store.rewrite_append_queue()?;
         Ok(())
@@ -125,7 +125,7 @@ impl<'a, R: Host + Print> History<'a, R> {
     /// # Errors
     ///
     /// Those of [`Store::rotate`] and [`Store::rewrite_append_queue`].
-    fn rewrite_all(&mut self) -> Result<()> {
+    fn rotate_and_rewrite_all(&mut self) -> Result<()> {
         self.store.rotate(LogQueue::Append)?;
         let _ = self.store.rewrite_append_queue()?;
         Ok(())
@@ -136,7 +136,7 @@ impl<'a, R: Host + Print> History<'a, R> {
     /// # Errors
     ///
     /// Those of [`Store::rotate`] and [`Store::purge`].
-    fn purge(&mut self) -> Result<()> {
+    fn purge_files(&mut self) -> Result<()> {
         if self.dice.draw_one_in(2) {
             self.store.rotate(LogQueue::Append)?;
         }
@@ -150,10 +150,10 @@ impl<'a, R: Host + Print> History<'a, R> {
     /// # Errors
     ///
     /// Those of opening the store; those of moving its records; those of [`Store::purge`].
-    fn purge_all(&mut self) -> Result<()> {
+    fn rotate_and_purge_all(&mut self) -> Result<()> {
         if self.dice.draw_one_in(2) {
             self.store = open_store(self.rt, self.file_size)?;
-            self.rewrite_all()?;
+            self.rotate_and_rewrite_all()?;
         }
         self.store.rotate(LogQueue::Append)?;
         let _ = self.store.purge()?;
@@ -167,11 +167,11 @@ impl<'a, R: Host + Print> History<'a, R> {
     /// # Errors
     ///
     /// Those of reading the store's records; `Io` for a file or the output; `Memory`.
-    fn follow(&mut self, crashes: &mut Crashes<'a, R>) -> Result<()> {
+    fn compare_and_try_crashes(&mut self, crashes: &mut Crashes<'a, R>) -> Result<()> {
         let alloc = self.rt.alloc();
         let new = describe_contents(alloc, &self.kept)?;
-        let found = describe_contents(alloc, &self.store.contents()?)?;
-        crashes.compare(found.as_str(), new.as_str())?;
+        let found = describe_contents(alloc, &self.store.read_contents()?)?;
+        crashes.compare_texts(found.as_str(), new.as_str())?;
         if let Some(changes) = self.store.changes.replace(Vec::new(alloc)) {
             for change in changes {
                 self.disk
@@ -189,12 +189,12 @@ impl<'a, R: Host + Print> History<'a, R> {
     /// `Io` for a file or the output; `Memory`; those of [`Store::open`].
     fn crash_and_reopen(&mut self, crashes: &mut Crashes<'a, R>) -> Result<()> {
         let alloc = self.rt.alloc();
-        let (append, rewrite, prefix) = self.disk.draw_failure(&mut self.dice)?;
+        let (append, rewrite, prefix) = self.disk.draw_crash(&mut self.dice)?;
         self.store.pipe.cut_file(append.0, append.1 as u64)?;
         self.store.pipe.cut_file(rewrite.0, rewrite.1 as u64)?;
         self.store = open_store(self.rt, self.file_size)?;
-        self.kept = self.store.contents()?;
-        crashes.compare(
+        self.kept = self.store.read_contents()?;
+        crashes.compare_texts(
             describe_contents(alloc, &self.kept)?.as_str(),
             prefix.as_str(),
         )

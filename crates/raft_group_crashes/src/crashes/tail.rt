@@ -38,24 +38,24 @@ impl Tail {
     /// # Errors
     ///
     /// `Memory` alone.
-    pub(crate) fn write(&mut self, bytes: &[u8]) -> Result<()> {
+    pub(crate) fn append_batch(&mut self, bytes: &[u8]) -> Result<()> {
         self.bytes.extend_from_slice(bytes)?;
         Ok(self.ends.push(self.bytes.len())?)
     }
 
     /// Notes that all bytes survive a crash from now on.
-    pub(crate) fn sync(&mut self) {
+    pub(crate) fn note_synced(&mut self) {
         self.synced = self.bytes.len();
     }
 
     /// Returns the first `len` bytes, or no bytes if there are fewer.
-    pub(crate) fn prefix(&self, len: usize) -> &[u8] {
+    pub(crate) fn prefix_bytes(&self, len: usize) -> &[u8] {
         self.bytes.get(..len).unwrap_or(b"")
     }
 
     /// Draws how many bytes a crash leaves: all, those that were synced, or these and some of the others, up
     /// to any byte or up to the end of a batch.
-    pub(crate) fn draw(&self, dice: &mut Dice) -> usize {
+    pub(crate) fn draw_crash_len(&self, dice: &mut Dice) -> usize {
         let unsynced = self.bytes.len().saturating_sub(self.synced) as u64;
         let drawn = dice.draw_below(unsynced.saturating_add(1)) as usize;
         let len = self.synced.saturating_add(drawn);

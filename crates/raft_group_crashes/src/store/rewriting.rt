@@ -61,7 +61,7 @@ impl<R: Host> Store<'_, R> {
         if first == last {
             return Ok(0);
         }
-        self.rewrite(Some(last - 1))
+        self.move_records(Some(last - 1))
     }
 
     /// Begins a new rewrite file, and moves the records of all rewrite files to it, or to further ones once
@@ -72,7 +72,7 @@ impl<R: Host> Store<'_, R> {
     /// Those of writing a batch and of the tables. Some of the records may have been moved then.
     pub(crate) fn rewrite_rewrite_queue(&mut self) -> Result<usize> {
         self.rotate(LogQueue::Rewrite)?;
-        self.rewrite(None)
+        self.move_records(None)
     }
 
     /// Deletes the oldest files of both queues that no table needs. Returns how many it deleted in the append
@@ -120,11 +120,11 @@ impl<R: Host> Store<'_, R> {
     pub(crate) fn rewrite_tombstones(&mut self) -> Result<()> {
         self.sync(LogQueue::Append)?;
         let cleaned = self.tables.take_cleaned_region_logs()?;
-        self.write_moved(cleaned, None)?;
+        self.write_moved_batch(cleaned, None)?;
         let mut batch = LogBatch::default(self.rt.alloc());
         add_tombstones(&mut batch, self.tombstones.as_slice())?;
         if !batch.is_empty() {
-            self.append(LogQueue::Rewrite, &mut batch)?;
+            self.append_batch(LogQueue::Rewrite, &mut batch)?;
         }
         self.tombstones.clear();
         Ok(())
@@ -136,7 +136,7 @@ impl<R: Host> Store<'_, R> {
     /// # Errors
     ///
     /// Those of writing a batch and of the tables. Some of the records may have been moved then.
-    fn rewrite(&mut self, gate: Option<FileSeq>) -> Result<usize> {
+    fn move_records(&mut self, gate: Option<FileSeq>) -> Result<usize> {
         self.rewrite_tombstones()?;
         let mut regions = Vec::new(self.rt.alloc());
         for table in self.tables.tables()? {
@@ -145,7 +145,7 @@ impl<R: Host> Store<'_, R> {
         regions.sort_unstable();
         let mut moved = 0usize;
         for region in regions {
-            moved = moved.saturating_add(usize::from(self.rewrite_region(region, gate)?));
+            moved = moved.saturating_add(usize::from(self.move_region_records(region, gate)?));
         }
         Ok(moved)
     }
@@ -156,7 +156,7 @@ impl<R: Host> Store<'_, R> {
     /// # Errors
     ///
     /// Those of writing a batch and of the tables. Some of the records may have been moved then.
-    fn rewrite_region(&mut self, region: u64, gate: Option<FileSeq>) -> Result<bool> {
+    fn move_region_records(&mut self, region: u64, gate: Option<FileSeq>) -> Result<bool> {
         let Some(table) = self.tables.get(region) else {
             return Ok(false);
         };
@@ -184,12 +184,12 @@ impl<R: Host> Store<'_, R> {
         gate: Option<FileSeq>,
     ) -> Result<()> {
         for entries in records.entries.chunks(BATCH_ENTRIES) {
-            let batch = self.batch_of(region, entries)?;
-            self.write_moved(batch, gate)?;
+            let batch = self.batch_with_entries(region, entries)?;
+            self.write_moved_batch(batch, gate)?;
         }
         let mut batch = LogBatch::default(self.rt.alloc());
         put_all_pairs(&mut batch, region, records.pairs)?;
-        self.write_moved(batch, gate)?;
+        self.write_moved_batch(batch, gate)?;
         Ok(())
     }
 
@@ -204,13 +204,13 @@ impl<R: Host> Store<'_, R> {
         self.last_group = self.last_group.saturating_add(1);
         let mut group = AtomicGroupBuilder::with_id(self.last_group);
         let (front, rest) = records.entries.split_at(records.entries.len() / 2);
-        let mut begin = self.batch_of(region, front)?;
+        let mut begin = self.batch_with_entries(region, front)?;
         group.begin(&mut begin)?;
-        let first = self.write_moved(begin, None)?;
-        let mut end = self.batch_of(region, rest)?;
+        let first = self.write_moved_batch(begin, None)?;
+        let mut end = self.batch_with_entries(region, rest)?;
         put_all_pairs(&mut end, region, records.pairs)?;
         group.end(&mut end)?;
-        let last = self.write_moved(end, None)?;
+        let last = self.write_moved_batch(end, None)?;
         self.tables
             .apply_rewrite_atomic_group(region, first.min(last), last)
     }
@@ -220,7 +220,7 @@ impl<R: Host> Store<'_, R> {
     /// # Errors
     ///
     /// Those of reading the entry blocks; those of [`LogBatch::add_entries`].
-    fn batch_of(&self, region: u64, entries: &[EntryIndex]) -> Result<LogBatch>
+    fn batch_with_entries(&self, region: u64, entries: &[EntryIndex]) -> Result<LogBatch>
         ensures { IfOk result (λ batch. batch.stage ≡ is_open) }
     {
         let mut batch = LogBatch::default(self.rt.alloc());
@@ -234,13 +234,13 @@ impl<R: Host> Store<'_, R> {
     /// # Errors
     ///
     /// Those of writing a batch and of the tables.
-    fn write_moved(&mut self, mut batch: LogBatch, gate: Option<FileSeq>) -> Result<FileSeq>
+    fn write_moved_batch(&mut self, mut batch: LogBatch, gate: Option<FileSeq>) -> Result<FileSeq>
         requires { batch.stage ≡ is_open }
     {
         if batch.is_empty() {
             return Ok(0);
         }
-        let seq = self.append(LogQueue::Rewrite, &mut batch)?;
+        let seq = self.append_batch(LogQueue::Rewrite, &mut batch)?;
         self.tables.apply_rewrite_writes(batch.drain(), gate, seq)?;
         Ok(seq)
     }

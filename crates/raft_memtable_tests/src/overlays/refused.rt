@@ -1,8 +1,11 @@
 //! Tests batches and contexts that don't fit a context: each call is refused, and so are all later ones.
 
 use super::Word::{Clean, Put, Run, Truncate};
-use super::{NONE, Shape, Word, overlaid, part, read, replay, shape_of};
-use crate::files::{replay_file, replay_read};
+use super::{
+    NONE, Shape, Word, context_of_words, overlay_of_words, part_with_word, replay_words,
+    shape_of_region_1,
+};
+use crate::files::{read_and_replay, replay_file};
 use raft_memtable::{Error, FileId, Kept, LogQueue, MemTableRecoverContext, Result};
 use raft_trials::again;
 use std::alloc::Global;
@@ -16,7 +19,7 @@ enum Refusal {
 }
 
 /// Tests whether a call is refused with this error. `Memory` is passed on.
-fn is_refused(answer: Result<()>, refusal: Refusal) -> Result<bool> {
+fn is_refused_as(answer: Result<()>, refusal: Refusal) -> Result<bool> {
     match (answer, refusal) {
         (Err(Error::Memory), _) => Err(Error::Memory),
         (Err(Error::Corruption(text)), Refusal::Corruption(reason)) => Ok(text.as_str() == reason),
@@ -71,11 +74,11 @@ fn is_batch_refused(
     given: FileId,
     reason: &'static str,
 ) -> Result<bool> {
-    let mut context = read(alloc, first, &[Put, Put])?;
-    let file = part(alloc, 1, Put, own)?;
-    let answer = replay_read(&mut context, &file, given);
-    let refused = is_refused(answer, Refusal::Corruption(reason))?;
-    let again = is_refused(replay_file(&mut context, &file), Refusal::Failed)?;
+    let mut context = context_of_words(alloc, first, &[Put, Put])?;
+    let file = part_with_word(alloc, 1, Put, own)?;
+    let answer = read_and_replay(&mut context, &file, given);
+    let refused = is_refused_as(answer, Refusal::Corruption(reason))?;
+    let again = is_refused_as(replay_file(&mut context, &file), Refusal::Failed)?;
     let failed = matches!(context.finish(), Err(Error::Failed));
     Ok(refused && again && failed)
 }
@@ -152,31 +155,31 @@ const OTHERS: [(Side, Side, bool, Refusal); 9] = [
 
 /// Tests whether a merge of two contexts, or the second put over the first, is refused with this error, and the first
 /// has failed then.
-fn is_other_refused(
+fn is_other_context_refused(
     alloc: Global,
     older: Side,
     newer: Side,
     is_merged: bool,
     refusal: Refusal,
 ) -> Result<bool> {
-    let mut context = read(alloc, older.0, older.1)?;
-    let newer = read(alloc, newer.0, newer.1)?;
+    let mut context = context_of_words(alloc, older.0, older.1)?;
+    let newer = context_of_words(alloc, newer.0, newer.1)?;
     let answer = if is_merged {
         context.merge(newer, LogQueue::Rewrite)
     } else {
         context.merge_append_context(newer)
     };
-    Ok(is_refused(answer, refusal)? && has_failed(alloc, context)?)
+    Ok(is_refused_as(answer, refusal)? && has_failed(alloc, context)?)
 }
 
 /// Tests whether a context refuses a batch, a newer neighbor and a context of the append queue as `Failed`.
 fn refuses_all(alloc: Global, context: &mut MemTableRecoverContext) -> Result<bool> {
-    let answer = replay(alloc, context, LogQueue::Append, 1, &[Put]);
-    let replayed = is_refused(answer, Refusal::Failed)?;
+    let answer = replay_words(alloc, context, LogQueue::Append, 1, &[Put]);
+    let replayed = is_refused_as(answer, Refusal::Failed)?;
     let answer = context.merge(MemTableRecoverContext::new(alloc)?, LogQueue::Append);
-    let merged = is_refused(answer, Refusal::Failed)?;
+    let merged = is_refused_as(answer, Refusal::Failed)?;
     let answer = context.merge_append_context(MemTableRecoverContext::new(alloc)?);
-    Ok(replayed && merged && is_refused(answer, Refusal::Failed)?)
+    Ok(replayed && merged && is_refused_as(answer, Refusal::Failed)?)
 }
 
 /// Tests whether a context has failed: all calls on it are refused, those for what it holds and for its tables too.
@@ -214,23 +217,23 @@ fn is_hole_refused(
     newer: &[Word],
     reason: &'static str,
 ) -> Result<bool> {
-    let mut context = read(alloc, LogQueue::Append, older)?;
-    let newer = read(alloc, LogQueue::Append, newer)?;
+    let mut context = context_of_words(alloc, LogQueue::Append, older)?;
+    let newer = context_of_words(alloc, LogQueue::Append, newer)?;
     let answer = context.merge(newer, LogQueue::Append);
-    Ok(is_refused(answer, Refusal::Corruption(reason))? && has_failed(alloc, context)?)
+    Ok(is_refused_as(answer, Refusal::Corruption(reason))? && has_failed(alloc, context)?)
 }
 
 /// Tests that a context over which one of the append queue was put takes no further context, and can't be put over
 /// another.
-fn overlaid_twice(alloc: Global) -> Result<bool> {
-    let mut context = overlaid(alloc, &[Run(10, 20)], &[Put])?;
+fn takes_no_second_overlay(alloc: Global) -> Result<bool> {
+    let mut context = overlay_of_words(alloc, &[Run(10, 20)], &[Put])?;
     let answer = context.merge_append_context(MemTableRecoverContext::new(alloc)?);
-    let again = is_refused(answer, Refusal::Failed)?;
-    let answer = replay(alloc, &mut context, LogQueue::Rewrite, 1, &[Clean]);
-    let replayed = is_refused(answer, Refusal::Failed)?;
-    let kept = has_kept(&context)?;
+    let again = is_refused_as(answer, Refusal::Failed)?;
+    let answer = replay_words(alloc, &mut context, LogQueue::Rewrite, 1, &[Clean]);
+    let replayed = is_refused_as(answer, Refusal::Failed)?;
+    let kept = holds_expected_records(&context)?;
     let mut older = MemTableRecoverContext::new(alloc)?;
-    let merged = is_refused(older.merge_append_context(context), Refusal::Failed)?;
+    let merged = is_refused_as(older.merge_append_context(context), Refusal::Failed)?;
     Ok(kept && again && replayed && merged)
 }
 
@@ -247,28 +250,31 @@ const TAKEN: Shape = Shape {
 
 /// Tests that a context over which one of the append queue was put still returns its tables, after a replay and a merge
 /// that it refused.
-fn overlaid_finishes(alloc: Global) -> Result<bool> {
-    let mut context = overlaid(alloc, &[Run(10, 20)], &[Put])?;
-    let answer = replay(alloc, &mut context, LogQueue::Rewrite, 1, &[Clean]);
-    let replayed = is_refused(answer, Refusal::Failed)?;
+fn finishes_after_overlay(alloc: Global) -> Result<bool> {
+    let mut context = overlay_of_words(alloc, &[Run(10, 20)], &[Put])?;
+    let answer = replay_words(alloc, &mut context, LogQueue::Rewrite, 1, &[Clean]);
+    let replayed = is_refused_as(answer, Refusal::Failed)?;
     let answer = context.merge(MemTableRecoverContext::new(alloc)?, LogQueue::Rewrite);
-    let merged = is_refused(answer, Refusal::Failed)?;
+    let merged = is_refused_as(answer, Refusal::Failed)?;
     let tables = context.finish()?;
-    Ok(replayed && merged && shape_of(&tables) == TAKEN)
+    Ok(replayed && merged && shape_of_region_1(&tables) == TAKEN)
 }
 
 /// Tests that a newer context over which one of the append queue was put can't be merged into another, which has failed
 /// then.
-fn overlaid_behind(alloc: Global) -> Result<bool> {
-    let mut older = read(alloc, LogQueue::Rewrite, &[Put])?;
-    let answer = older.merge(overlaid(alloc, &[Run(10, 20)], &[Put])?, LogQueue::Rewrite);
-    let merged = is_refused(answer, Refusal::Failed)?;
+fn refuses_overlaid_neighbor(alloc: Global) -> Result<bool> {
+    let mut older = context_of_words(alloc, LogQueue::Rewrite, &[Put])?;
+    let answer = older.merge(
+        overlay_of_words(alloc, &[Run(10, 20)], &[Put])?,
+        LogQueue::Rewrite,
+    );
+    let merged = is_refused_as(answer, Refusal::Failed)?;
     let failed = matches!(older.finish(), Err(Error::Failed));
     Ok(merged && failed)
 }
 
 /// Tests whether a context holds ten entries, those of region 2, and a key, and no item of the group that waited.
-fn has_kept(context: &MemTableRecoverContext) -> Result<bool> {
+fn holds_expected_records(context: &MemTableRecoverContext) -> Result<bool> {
     let stays = Kept {
         entries: 13,
         keys: 1,
@@ -281,14 +287,16 @@ fn has_kept(context: &MemTableRecoverContext) -> Result<bool> {
 }
 
 /// Tests whether batches and contexts that don't fit are refused.
-fn are_refused(alloc: Global) -> Result<bool> {
-    let mut all = overlaid_twice(alloc)? && overlaid_finishes(alloc)? && overlaid_behind(alloc)?;
+fn are_all_misfits_refused(alloc: Global) -> Result<bool> {
+    let mut all = takes_no_second_overlay(alloc)?
+        && finishes_after_overlay(alloc)?
+        && refuses_overlaid_neighbor(alloc)?;
     for &(first, queue, own, given, reason) in &BATCHES {
         let (own, given) = (FileId::new(queue, own), FileId::new(queue, given));
         all &= is_batch_refused(alloc, first, own, given, reason)?;
     }
     for &(older, newer, is_merged, refusal) in &OTHERS {
-        all &= is_other_refused(alloc, older, newer, is_merged, refusal)?;
+        all &= is_other_context_refused(alloc, older, newer, is_merged, refusal)?;
     }
     for &(older, newer, reason) in &HOLES {
         all &= is_hole_refused(alloc, older, newer, reason)?;
@@ -296,7 +304,8 @@ fn are_refused(alloc: Global) -> Result<bool> {
     Ok(all)
 }
 
+/// Tests that batches and contexts that don't fit are refused, and that a context which refused one has failed.
 #[test]
-fn what_does_not_fit_is_refused(rt: HostRuntime) {
-    assert!(rt; matches!(again!(are_refused(rt.alloc())), Ok(true)));
+fn batches_and_contexts_that_do_not_fit_are_refused(rt: HostRuntime) {
+    assert!(rt; matches!(again!(are_all_misfits_refused(rt.alloc())), Ok(true)));
 }

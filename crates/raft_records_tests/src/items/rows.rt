@@ -93,7 +93,7 @@ const LONG_PUT: &[u8] = b"\x01\x01k\x82\x01\
     \xff\xff\xff\xff\xff\xff\xff\xff\xff\xff\xff\xff\xff\xff\xff\xff\xff\xff\xff\xff\xff\xff\xff\xff\xff\xff";
 
 /// Returns the rows of contents.
-pub(super) fn contents() -> &'static [ContentRow] {
+pub(super) fn content_rows() -> &'static [ContentRow] {
     &CONTENTS
 }
 
@@ -328,15 +328,15 @@ static READINGS: [ReadRow; 83] = [
 ];
 
 /// Returns the rows of bytes that are read or refused.
-pub(super) fn readings() -> &'static [ReadRow] {
+pub(super) fn read_rows() -> &'static [ReadRow] {
     &READINGS
 }
 
 /// The form in which bytes are read, the bytes, and what each shorter prefix of them lacks, from the empty one on: `n`
 /// a number, `i` the type of an item, `t` the type of a command or of a change of a key, `k` bytes of a key or a value.
-pub(super) type FrontsRow = (Form, &'static [u8], &'static [u8]);
+pub(super) type PrefixRow = (Form, &'static [u8], &'static [u8]);
 
-static FRONTS: [FrontsRow; 14] = [
+static FRONTS: [PrefixRow; 14] = [
     (Form::Item, b"\x01\x02\x01", b"nit"),
     (Form::Item, b"\x01\x02\x02\x07", b"nitn"),
     (Form::Item, b"\x80\x01\x02\x03\xac\x02", b"nnitnn"),
@@ -366,7 +366,7 @@ static FRONTS: [FrontsRow; 14] = [
 ];
 
 /// Returns the rows of bytes whose shorter prefixes are refused.
-pub(super) fn fronts() -> &'static [FrontsRow] {
+pub(super) fn prefix_rows() -> &'static [PrefixRow] {
     &FRONTS
 }
 
@@ -417,6 +417,6 @@ static MARKERS: [MarkerRow; 11] = [
 ];
 
 /// Returns the rows of group markers.
-pub(super) fn markers() -> &'static [MarkerRow] {
+pub(super) fn marker_rows() -> &'static [MarkerRow] {
     &MARKERS
 }

@@ -18,7 +18,7 @@ pub(super) struct Row {
 }
 
 /// Returns the rows of log batches.
-pub(super) fn rows() -> &'static [Row] {
+pub(super) fn log_batch_rows() -> &'static [Row] {
     &ROWS
 }
 

@@ -1,6 +1,6 @@
 //! Tests batches that are signed for files and written, and the places of their items.
 
-use super::{context, read_back, with_one_of_each};
+use super::{append_file_context, batch_with_each_kind_of_item, read_back};
 use raft_records::{
     Command, CompressionType, Error, FileBlockHandle, FileId, LogItem, LogItemContent, LogQueue,
     ReactiveBytes, Result, Version,
@@ -10,8 +10,12 @@ use std::alloc::Global;
 
 /// Tests whether the items of a log batch with these entry bytes are read from its bytes, as a batch of append file
 /// `seq`.
-fn is_read(alloc: Global, bytes: &[u8], seq: u64, entry_bytes: &[u8]) -> Result<bool> {
-    let Some((_offset, entries, items)) = read_back(alloc, bytes, &context(seq, Version::V2))?
+fn are_items_read(alloc: Global, bytes: &[u8], seq: u64, entry_bytes: &[u8]) -> Result<bool> {
+    let Some((_offset, entries, items)) = read_back(
+        alloc,
+        bytes,
+        &append_file_context(seq, Version::V2),
+    )?
     else {
         return Ok(false);
     };
@@ -25,29 +29,30 @@ fn is_read(alloc: Global, bytes: &[u8], seq: u64, entry_bytes: &[u8]) -> Result<
 /// Tests whether a batch that is signed for three files, one after the other, is read each time as one of that file
 /// alone.
 fn is_read_where_signed(alloc: Global) -> Result<bool> {
-    let mut batch = with_one_of_each(alloc)?;
+    let mut batch = batch_with_each_kind_of_item(alloc)?;
     batch.finish_populate()?;
     let mut same = true;
     for &seq in &[12, 18, 2001] {
         if !batch.ready() {
             return Ok(false);
         }
-        let bytes = batch.as_bytes(&context(seq, Version::V2));
+        let bytes = batch.as_bytes(&append_file_context(seq, Version::V2));
         for &reader in &[12, 18, 2001] {
-            same &= is_read(alloc, bytes, reader, b"abc")? == (seq == reader);
+            same &= are_items_read(alloc, bytes, reader, b"abc")? == (seq == reader);
         }
     }
     Ok(same)
 }
 
+/// Tests that a batch that is signed for three files in turn is read each time in that file alone.
 #[test]
-fn one_batch_signed_for_three_files(rt: HostRuntime) {
+fn a_batch_is_read_in_the_file_of_its_last_signing(rt: HostRuntime) {
     assert!(rt; matches!(again!(is_read_where_signed(rt.alloc())), Ok(true)));
 }
 
 /// Tests whether an item has its place: each of its three entries, which are in the block at `handle`, or its key
 /// value, which is in the file of that block. A command has none.
-fn is_placed(item: &LogItem, handle: FileBlockHandle) -> bool {
+fn has_place_of_write(item: &LogItem, handle: FileBlockHandle) -> bool {
     match &item.content {
         LogItemContent::EntryIndexes(entries) => {
             let compression_type = CompressionType::None;
@@ -80,11 +85,11 @@ struct Drained {
 }
 
 /// Writes a batch to file 12, and takes its items out.
-fn written_and_drained(alloc: Global) -> Result<Drained> {
-    let mut batch = with_one_of_each(alloc)?;
+fn write_and_drain(alloc: Global) -> Result<Drained> {
+    let mut batch = batch_with_each_kind_of_item(alloc)?;
     let len = batch.finish_populate()?;
     let id = FileId::new(LogQueue::Append, 12);
-    batch.prepare_write(&context(12, Version::V2));
+    batch.prepare_write(&append_file_context(12, Version::V2));
     batch.finish_write(FileBlockHandle {
         id,
         offset: 64,
@@ -97,7 +102,7 @@ fn written_and_drained(alloc: Global) -> Result<Drained> {
     };
     let mut placed = 0usize;
     for item in batch.drain() {
-        if is_placed(&item, place) {
+        if has_place_of_write(&item, place) {
             placed = placed.saturating_add(1);
         }
     }
@@ -110,9 +115,10 @@ fn written_and_drained(alloc: Global) -> Result<Drained> {
     })
 }
 
+/// Tests that the items of a written batch have their places, and that the batch is empty once they are taken out.
 #[test]
-fn places_after_a_write(rt: HostRuntime) {
-    let answer = again!(written_and_drained(rt.alloc()));
+fn items_have_places_after_a_write(rt: HostRuntime) {
+    let answer = again!(write_and_drain(rt.alloc()));
     let drained = answer.unwrap_or(Drained {
         placed: 0,
         is_empty: false,

@@ -1,5 +1,5 @@
 use Rattle.std.proofs.Common.{◌-◌, ◌≤◌, length}
-use Rattle.raft_group_crashes.proofs.logs.batches_of.Given as goal
+use Rattle.raft_group_crashes.proofs.logs.read_batches.Given as goal
 
 abbrev pub invariant-loop-batches : goal.invariant-loop-batches
 invariant-loop-batches l = l.at ≤ length l.part.bytes

@@ -26,23 +26,17 @@ impl Deaf {
 impl EngineFiles for Deaf {
     ghost asked = { λ f. f.asked.asks };
 
-<<<<<<< HEAD
-    fn append(&mut self, queue: LogQueue, bytes: &[u8]) -> std::result::Result<(), AppendError> {
-        self.asked.put(queue, bytes);
-        match self.answer() {
-            Ok(()) => Ok(()),
-            Err(error) => Err(AppendError::InPart(error)),
-        }
-=======
     /// Notes the call, and fails if the calls are to fail. The bytes are kept nowhere.
     ///
     /// # Errors
     ///
-    /// `Failed`, if the calls are to fail.
-    fn append(&mut self, queue: LogQueue, bytes: &[u8]) -> Result<()> {
+    /// `InPart` with `Failed`, if the calls are to fail.
+    fn append(&mut self, queue: LogQueue, bytes: &[u8]) -> std::result::Result<(), AppendError> {
         self.asked.put(queue, bytes);
-        self.fail_if_wanted()
->>>>>>> 364ff092c1cba09897d9009f8cd45addd218a3af
+        match self.fail_if_wanted() {
+            Ok(()) => Ok(()),
+            Err(error) => Err(AppendError::InPart(error)),
+        }
     }
 
     /// Notes the call, and fails if the calls are to fail.

@@ -63,7 +63,7 @@ impl NotedFiles {
         ensures { self.new.files ≡ self.old.files }
     {
         let alloc: Global = *self.asks.allocator();
-        self.note(queue, Act::Put(Vec::from_slice(alloc, bytes)?))
+        self.note_act(queue, Act::Put(Vec::from_slice(alloc, bytes)?))
     }
 }
 
@@ -74,7 +74,6 @@ impl EngineFiles for NotedFiles {
     ///
     /// # Errors
     ///
-<<<<<<< HEAD
     /// `Memory`; those of the files in memory, which are unchanged then. The ask isn't noted.
     fn append(&mut self, queue: LogQueue, bytes: &[u8]) -> std::result::Result<(), AppendError> {
         if let Err(error) = self.note_put(queue, bytes) {
@@ -85,13 +84,6 @@ impl EngineFiles for NotedFiles {
             let _undone = self.asks.pop();
         }
         put
-=======
-    /// `Memory`; those of the files in memory, which are unchanged then. The ask may be noted.
-    fn append(&mut self, queue: LogQueue, bytes: &[u8]) -> Result<()> {
-        let alloc: Global = *self.asks.allocator();
-        self.note_act(queue, Act::Put(Vec::from_slice(alloc, bytes)?))?;
-        self.files.append(queue, bytes)
->>>>>>> 364ff092c1cba09897d9009f8cd45addd218a3af
     }
 
     /// Notes that a file is begun, and begins it as the last one of `queue`, numbered `seq`. The bytes of the

@@ -322,6 +322,7 @@ impl<F: Files> Engine<F> {
     /// Those of [`Engine::with_files`], but for those of changes of the files.
     fn read_files(files: F, options: Options) -> Result<(Engine<F>, Vec<Order>)> {
         let opened = Found::read(&files, &options)?.open(&options)?;
+        let opened = opened.without_damaged_tail(&files, &options)?;
         let engine = Engine {
             files,
             options,

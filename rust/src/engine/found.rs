@@ -112,8 +112,7 @@ impl Opened {
             return Ok(self);
         };
         let end = self.recovered.append.as_ref().map_or(len, |cut| cut.offset);
-        let damaged = self.recovered.damaged.clone();
-        let Some(cut) = damaged_tail(files, damaged, end, len)? else {
+        let Some(cut) = damaged_tail(files, &self.recovered.damaged, end, len)? else {
             return Ok(self);
         };
         if options.recovery_mode == RecoveryMode::AbsoluteConsistency {

@@ -5,8 +5,8 @@ use crate::common::hooked::{Call, Hooked};
 use crate::common::model::{Region, region_of};
 use crate::common::{batch_bytes, with_group_marker};
 use raft_recover::{
-    Engine, Error, ErrorKind, FileId, Files, LogFile, MemoryFiles, Options, Queue, RecoveryMode,
-    Version,
+    Ask, Engine, Error, ErrorKind, FileId, Files, LogFile, MemoryFiles, Options, Queue,
+    RecoveryMode, Version,
 };
 use std::collections::BTreeMap;
 use std::io;
@@ -312,6 +312,8 @@ fn batches_with_damaged_entries_are_cut_off_where_no_sound_one_stands_behind_the
             assert_eq!((held.asked(), left), (0, end));
             let engine = Engine::with_files(held.clone(), options.clone()).unwrap();
             assert_eq!(engine.recovered(), &recovered);
+            let asks = [Ask::Cut(last.id, end), Ask::Sync(Queue::Append)];
+            assert_eq!(held.asks()[..2], asks);
             let cut = recovered.append.unwrap();
             assert_eq!((cut.file, cut.offset, cut.len), (last.id, end, len - end));
             let reason = cut.reason.unwrap();

@@ -15,12 +15,12 @@ const HEADER_LEN: usize = 16;
 /// `Io` with file and offset.
 pub(super) fn damaged_tail(
     files: &impl Files,
-    mut damaged: Vec<DamagedBatch>,
+    damaged: &[DamagedBatch],
     mut end: u64,
     len: u64,
 ) -> Result<Option<CutTail>> {
     let mut first = None;
-    while let Some(batch) = damaged.pop() {
+    for batch in damaged.iter().rev() {
         let mut header = [0; HEADER_LEN];
         read_exact_at(files, batch.file, batch.offset, &mut header)?;
         if batch_len(&header).is_none_or(|len| batch.offset + len as u64 != end) {
@@ -33,6 +33,6 @@ pub(super) fn damaged_tail(
         file: batch.file,
         offset: batch.offset,
         len: len - batch.offset,
-        reason: Some(batch.reason),
+        reason: Some(batch.reason.clone()),
     }))
 }

@@ -260,7 +260,9 @@ fn no_crash_brings_batches_back_that_were_cut_off_for_their_entries() {
     let engine = Engine::with_files(files.clone(), Options::new()).unwrap();
     assert_eq!(engine.last_index(7).unwrap(), Some(2));
     let another = entry(8, 300); // longer than what was cut off
-    write(&engine, |batch| batch.add_entries(7, 3, &[another.clone()]));
+    write(&engine, |batch| {
+        batch.add_entries(7, 3, std::slice::from_ref(&another))
+    });
     engine.sync().unwrap();
     let asks = files.asks();
     for asked in 0..=asks.len() {

@@ -179,7 +179,8 @@ impl Engine {
     ///
     /// A crash in the midst of a write leaves a *torn tail* at the end of a queue's last file. It is cut off, and kept in a file
     /// beside. A last batch whose header or items are damaged counts as a torn tail, unless its checksum is right for another
-    /// file. [`Engine::recovered`] says what was cut, and [`Options::recovery_mode`] may change what is.
+    /// file; so do batches at the end of the last append file whose entries are damaged. [`Engine::recovered`] says what was cut,
+    /// and [`Options::recovery_mode`] may change what is.
     ///
     /// ```
     /// use raft_recover::{Engine, Options};
@@ -248,7 +249,7 @@ impl<F: Files> Engine<F> {
     ///   and the [`RecoveryMode`] doesn't allow to cut off what is left; it is of the other version; a file is missing between
     ///   two others; the numbers of the files don't rise; or the entries of a batch of the last rewrite file are damaged. The
     ///   default mode cuts off what can be part of a single batch, or has no batch behind it: neither one that can be read nor
-    ///   one that is signed for another file.
+    ///   one that is signed for another file. With it go the last batches of the append file whose entries are damaged.
     /// - `InvalidArgument` where a file begins with the header of raft-engine, or the batches of an atomic group don't stand in a
     ///   row in one file.
     /// - `Codec` where a number in a batch can't be decoded; `Full` where a count or a length would pass its limit.
@@ -322,6 +323,7 @@ impl<F: Files> Engine<F> {
     /// Those of [`Engine::with_files`], but for those of changes of the files.
     fn read_files(files: F, options: Options) -> Result<(Engine<F>, Vec<Order>)> {
         let opened = Found::read(&files, &options)?.open(&options)?;
+        let opened = opened.without_damaged_tail(&files, &options)?;
         let engine = Engine {
             files,
             options,
@@ -342,7 +344,7 @@ impl<F: Files> Engine<F> {
     }
 
     /// Returns what couldn't be read when the files were opened: the tails that were cut off (in memory alone, if the engine only
-    /// reads), and the batches of the last append file whose entries are damaged, which were kept.
+    /// reads), and the other batches of the last append file whose entries are damaged, which were kept.
     ///
     /// ```
     /// # use raft_recover::{Engine, MemoryFiles, Options};

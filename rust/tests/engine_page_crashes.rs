@@ -1,7 +1,7 @@
 //! Random histories of an engine, with crashes of a machine whose disk writes unsynced pages in any order: in the last file of
 //! each queue any page that wasn't synced may be zeros, and the file ends anywhere behind what was synced. What a crash leaves is
-//! opened, and compared with maps, or refused with the place of the damage. Each entry can be read then, or its batch is named;
-//! and only batches that are damaged are named.
+//! opened, and compared with maps, or refused with the place of the damage. Batches with damaged entries are cut off where no
+//! sound one stands behind them. Each entry can be read then, or its batch is named; and only batches that are damaged are named.
 //!
 //! `HISTORIES=10000 SEED=1 cargo test --release --test engine_page_crashes` runs more of them than by default, from a seed
 //! on. A seed gives the same history each time.
@@ -12,7 +12,7 @@ use common::model::{COUNT, Change, Draw, KEYS, Region};
 use common::seeds::{number, run_each};
 use raft_recover::{
     Ask, Batches, Content, Engine, Error, ErrorKind, FileId, FilePart, LogBatch, LogFile,
-    MemoryFiles, Options, Queue, Result, Unsynced, Version,
+    MemoryFiles, Options, Queue, Result, Unsynced, Version, batch_len,
 };
 use std::collections::BTreeMap;
 use std::sync::atomic::{AtomicU64, Ordering::Relaxed};
@@ -243,14 +243,13 @@ impl Left {
         (files, engine)
     }
 
-    /// Returns the number of the last batch in the append files up to which no header and no items of a batch are lost; `None`
-    /// where there is none.
+    /// Returns the number of the last batch in the append files whose entries are as they were written, and up to which no header
+    /// and no items of a batch are lost; `None` where there is none.
     fn last_whole(&self, version: Version) -> Option<u64> {
         let mut files = self.files[0].clone();
         let last = self.lasts.iter().find(|it| it.id.queue == Queue::Append);
         if let (Some(last), Some((_, left))) = (last, files.last_mut()) {
-            let [batch, _] = broken_places(&last.bytes, left);
-            *left = last.bytes[..batch.unwrap_or(last.bytes.len())].to_vec();
+            *left = last.bytes[..kept_len(&last.bytes, left)].to_vec();
         }
         let numbers = files
             .iter()
@@ -258,15 +257,23 @@ impl Left {
         numbers.last()
     }
 
-    /// Tests that an opening has named just those batches of the last append file whose entries aren't as they were written.
+    /// Tests that an opening has named just those batches of the last append file whose entries aren't as they were written and
+    /// which have a sound batch behind them; and that what stands behind the last sound batch was cut off.
     fn assert_damaged(&self, engine: &Engine<MemoryFiles>) {
         let last = self.lasts.iter().find(|it| it.id.queue == Queue::Append);
-        let expected = last.map_or(Vec::new(), |last| {
-            let left = &self.files[0].last().unwrap().1;
-            let damaged = damaged_blocks(&last.bytes, left).into_iter();
-            damaged.map(|at| (last.id, at)).collect()
-        });
-        assert_eq!(named_places(engine), expected);
+        let Some(last) = last else {
+            return assert_eq!(named_places(engine), []);
+        };
+        let left = &self.files[0].last().unwrap().1;
+        let kept = kept_len(&last.bytes, left);
+        let damaged = damaged_blocks(&last.bytes, left).into_iter();
+        let expected = damaged.filter(|at| *at < kept).map(|at| (last.id, at));
+        assert_eq!(named_places(engine), expected.collect::<Vec<_>>());
+        assert!(kept >= last.synced, "{kept} of {} bytes", last.synced);
+        let cut = engine.recovered().append.as_ref();
+        let cut = cut.map(|cut| (cut.file, cut.offset, cut.len));
+        let behind = (left.len() - kept) as u64;
+        assert_eq!(cut, (behind > 0).then_some((last.id, kept as u64, behind)));
     }
 
     /// Tests that the error of an opening names the first place of a last file that isn't as it was written.
@@ -313,6 +320,21 @@ fn damaged_blocks(written: &[u8], left: &[u8]) -> Vec<usize> {
     let (batch, mut blocks) = broken_batches(written, left);
     blocks.retain(|at| batch.is_none_or(|batch| *at < batch));
     blocks
+}
+
+/// Returns how many bytes of a file an opening keeps: those up to the end of the last batch whose entries are as they were
+/// written, before the first batch of which more than its entries isn't.
+fn kept_len(written: &[u8], left: &[u8]) -> usize {
+    let (batch, blocks) = broken_batches(written, left);
+    let (mut kept, mut at) = (0, 0);
+    while at < batch.unwrap_or(written.len()) {
+        let next = at + batch_len(&written[at..]).unwrap();
+        if !blocks.contains(&at) {
+            kept = next;
+        }
+        at = next;
+    }
+    kept
 }
 
 /// Returns where the first batch begins whose header or items aren't as they were written, or that isn't there as a whole; and
@@ -421,7 +443,7 @@ fn stop_everywhere(history: &History, counts: &Counts) {
                 "{synced} batches were synced, {count} are there"
             );
             assert!(count as usize <= places.partition_point(|place| *place < asked));
-            // no batch is left out whose header and items are there, and which stands in front of all that is lost
+            // no sound batch is left out that stands in front of all headers and items that are lost
             if let Some(last) = left.last_whole(options(history.seed).version) {
                 assert_eq!(count, last);
             }

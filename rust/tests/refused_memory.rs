@@ -335,8 +335,9 @@ fn a_torn_tail_that_is_found_without_memory_is_cut_where_it_begins() {
 fn damaged_batches_that_are_found_without_memory_are_all_named_or_nothing_is_opened() {
     let _turn = TURN.lock();
     let mut one = batch_bytes(file(1), |more| more.merge(&mut batch()).unwrap());
+    let sound = one.clone();
     one[16] ^= 1; // the first byte of its entries
-    let damaged = one.repeat(3);
+    let damaged = [one.repeat(3), sound].concat();
     let places = [0, one.len(), 2 * one.len()].map(|at| at as u64);
     let open = || {
         let files = MemoryFiles::found(vec![(1, damaged.clone())], vec![(1, vec![])]);
@@ -349,6 +350,29 @@ fn damaged_batches_that_are_found_without_memory_are_all_named_or_nothing_is_ope
     };
     let whole: String = shown(open().unwrap());
     assert_eq!(whole.lines().count(), 3);
+    assert!(refuse_in_turn(&whole, open, shown) > 10);
+}
+
+#[test]
+fn damaged_batches_at_the_end_are_cut_off_or_nothing_is_opened_where_memory_lacks() {
+    let _turn = TURN.lock();
+    let mut one = batch_bytes(file(1), |more| more.merge(&mut batch()).unwrap());
+    let sound = one.clone();
+    one[16] ^= 1; // the first byte of its entries
+    let bytes = [sound, one.repeat(3)].concat();
+    let open = || {
+        let files = MemoryFiles::found(vec![(1, bytes.clone())], vec![(1, vec![])]);
+        Engine::with_files(files, Options::new())
+    };
+    let shown = |engine: Engine<MemoryFiles>| {
+        assert_eq!(engine.recovered().damaged, []);
+        engine.recovered().append.as_ref().unwrap().to_string()
+    };
+    let whole = shown(open().unwrap());
+    assert!(
+        whole.contains("the entries of this batch are damaged"),
+        "{whole}"
+    );
     assert!(refuse_in_turn(&whole, open, shown) > 10);
 }
 

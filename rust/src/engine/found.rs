@@ -3,14 +3,16 @@
 use super::Recovered;
 use super::numbers::Numbers;
 use crate::sys::{EngineHandle, Order, ReadFiles, open_engine};
-use crate::{Error, FileId, Files, Options, Queue, Result};
+use crate::{CutTail, Error, FileId, Files, Options, Queue, RecoveryMode, Result};
 
+mod damaged_tail;
 mod file_pieces;
 mod file_reading;
 mod queue_reading;
 mod stretches;
 mod worker;
 
+use damaged_tail::damaged_tail;
 use queue_reading::read_queue;
 
 /// The files of both queues that were found, read to their ends, or up to a batch that can't be read, with the length of each.
@@ -40,14 +42,28 @@ impl Found {
     ///
     /// `Io` where files can't be listed; `Corruption` where one is missing between two others; those of [`read_queue()`].
     pub(super) fn read(files: &impl Files, options: &Options) -> Result<Found> {
+        Found::read_before(files, options, None)
+    }
+
+    /// Lists the files of both queues, and reads them, as [`Found::read`] does. Where there is a `cut`, its file is read as if it
+    /// ended there.
+    ///
+    /// # Errors
+    ///
+    /// Those of [`Found::read`].
+    fn read_before(files: &impl Files, options: &Options, cut: Option<&CutTail>) -> Result<Found> {
         let mut numbers = Numbers::default();
         let mut read = |queue| {
-            let listed = files
+            let mut listed = files
                 .list(queue)
                 .map_err(|e| Error::system(format_args!("the {queue} files can't be listed"), e))?;
             check_none_is_missing(queue, &listed)?;
-            for (seq, len) in &listed {
-                numbers.set_len(FileId::new(queue, *seq), *len);
+            for (seq, len) in &mut listed {
+                let file = FileId::new(queue, *seq);
+                numbers.set_len(file, *len);
+                if let Some(cut) = cut.filter(|cut| cut.file == file) {
+                    *len = cut.offset;
+                }
             }
             read_queue(files, queue, &listed, options)
         };
@@ -76,6 +92,41 @@ impl Found {
             orders,
             recovered,
         })
+    }
+}
+
+impl Opened {
+    /// Cuts off the last append file all batches at its end whose entries are damaged, if no sound batch stands behind them: the
+    /// files are read once more, without these. Nothing is done to the files.
+    ///
+    /// # Errors
+    ///
+    /// `Corruption` for the first of these batches in the mode `AbsoluteConsistency`; those of [`Found::read`] and
+    /// [`Found::open`].
+    pub(super) fn without_damaged_tail(
+        self,
+        files: &impl Files,
+        options: &Options,
+    ) -> Result<Opened> {
+        let Some((_, len)) = self.numbers.last_file(Queue::Append) else {
+            return Ok(self);
+        };
+        let end = self.recovered.append.as_ref().map_or(len, |cut| cut.offset);
+        let Some(cut) = damaged_tail(files, &self.recovered.damaged, end, len)? else {
+            return Ok(self);
+        };
+        if options.recovery_mode == RecoveryMode::AbsoluteConsistency {
+            return Err(cut.reason.unwrap_or_else(Error::failed));
+        }
+        drop(self); // its tables are freed before others are made
+        let mut opened = Found::read_before(files, options, Some(&cut))?.open(options)?;
+        let (cut_off, sync) = (
+            Order::Cut(Queue::Append, cut.offset),
+            Order::Sync(Queue::Append),
+        );
+        opened.orders.splice(0..0, [cut_off, sync]);
+        opened.recovered.append = Some(cut);
+        Ok(opened)
     }
 }
 

@@ -4,7 +4,7 @@ use crate::{Error, FileId};
 use std::fmt;
 
 /// What an opening couldn't read in the files of an engine ([`Engine::recovered`](crate::Engine::recovered)): the tail of each
-/// queue's last file, which was cut off, and the batches of the last append file whose entries are damaged, which were kept.
+/// queue's last file, which was cut off, and the other batches of the last append file whose entries are damaged, which were kept.
 ///
 /// ```
 /// use raft_recover::{Engine, ErrorKind, Files, LogBatch, MemoryFiles, Options, Queue};
@@ -31,16 +31,18 @@ use std::fmt;
 #[derive(Clone, PartialEq, Eq, Hash, Debug, Default)]
 #[non_exhaustive]
 pub struct Recovered {
-    /// What was cut off the last append file; `None` where that file could be read to its end.
+    /// What was cut off the last append file; `None` where that file could be read to its end, and the entries of its last batch
+    /// are sound.
     pub append: Option<CutTail>,
     /// What was cut off the last rewrite file; `None` where that file could be read to its end.
     pub rewrite: Option<CutTail>,
-    /// The batches of the last append file whose entries are damaged, in the order in which they are in the file. All other
-    /// entries of that file are sound.
+    /// The batches of the last append file whose entries are damaged, in the order in which they are in the file. Behind each of
+    /// them stands a batch with sound entries. All other entries of that file are sound.
     pub damaged: Vec<DamagedBatch>,
 }
 
-/// The end of a queue's last file that was cut off, since no batch can be read where it begins.
+/// The end of a queue's last file that was cut off, since no batch can be read where it begins; or, of an append file, since the
+/// entries are damaged of the batch that begins there and no batch with sound entries stands behind it.
 ///
 /// Its `Display` is a line for people:
 ///
@@ -62,13 +64,13 @@ pub struct CutTail {
     pub offset: u64,
     /// How many bytes were cut off.
     pub len: u64,
-    /// Why no batch can be read there, as the error that a read would return.
+    /// Why no batch, or no entry of the batch, can be read there, as the error that a read would return.
     pub reason: Option<Error>,
 }
 
-/// A batch of the last append file whose entries are damaged: on a disk that writes pages in any order, a crash came before all
-/// of its pages were written; or they were damaged later. The batch is kept, with its keys and commands, and so are all batches
-/// behind it. Its entries are refused when they are read. That error has the offset of the entry block, which is 16 bytes, the
+/// A batch of the last append file whose entries are damaged, in front of a batch with sound ones: on a disk that writes pages in
+/// any order, a crash came before all of its pages were written; or they were damaged later. The batch is kept, with its keys and
+/// commands. Its entries are refused when they are read. That error has the offset of the entry block, which is 16 bytes, the
 /// length of the batch's header, behind that of the batch.
 ///
 /// Its `Display` is a line for people:

@@ -1,7 +1,8 @@
 //! Which unreadable tails of files an opening cuts off.
 
 /// What an opening does with the tail of a queue's last file, from the first batch on that can't be read: whether it is cut off,
-/// or the files are refused.
+/// or the files are refused. In the last append file the batches in front of it belong to the tail whose entries are damaged, if
+/// no batch with sound entries stands behind them.
 ///
 /// ```
 /// use raft_recover::{Engine, ErrorKind, MemoryFiles, Options, RecoveryMode};
@@ -20,7 +21,7 @@
 #[derive(Clone, Copy, PartialEq, Eq, Hash, Debug, Default)]
 #[non_exhaustive]
 pub enum RecoveryMode {
-    /// Cuts nothing off: a batch that can't be read is refused, with its file and offset.
+    /// Cuts nothing off: a batch that would be cut is refused, with its file and offset.
     AbsoluteConsistency,
     /// Cuts off what a crash can leave: a tail that can be part of a single batch, or behind whose beginning there is no batch,
     /// neither one that can be read nor one that is signed for another file. Any other tail is damage, and refused.

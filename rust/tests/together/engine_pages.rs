@@ -185,3 +185,101 @@ fn a_page_of_zeros_among_the_entries_of_the_last_append_file_is_named_by_its_bat
     assert_eq!(engine.get(7, b"key").unwrap().unwrap(), [5]);
     assert_eq!(fs::read(&last).unwrap(), bytes);
 }
+
+#[test]
+fn a_page_of_zeros_among_the_entries_of_the_last_batches_is_cut_off_and_kept_beside() {
+    const PAGE: usize = 4096;
+    let room = TempFolder::new();
+    let path = room.path().join("logs");
+    let engine = Engine::open(&path, Options::new()).unwrap();
+    for index in 1..=5 {
+        write(&engine, |batch| {
+            batch.add_entries(7, index, &[entry(7, 3 * PAGE)])?;
+            batch.put(7, b"key", &[index as u8])
+        });
+    }
+    let last = engine.files().path_of(FileId::new(Queue::Append, 1));
+    drop(engine);
+    let mut bytes = fs::read(&last).unwrap();
+    let blocks = blocks_of(&bytes);
+    for block in &blocks[3..] {
+        let page = block.start.next_multiple_of(PAGE);
+        assert!(page + PAGE <= block.end);
+        bytes[page..page + PAGE].fill(0);
+    }
+    fs::write(&last, &bytes).unwrap();
+    let kept = blocks[3].start - 16;
+
+    let read_only = Engine::open_read_only(&path, Options::new()).unwrap();
+    let recovered = read_only.recovered().clone();
+    drop(read_only);
+    assert_eq!(fs::read(&last).unwrap(), bytes);
+    let engine = Engine::open(&path, Options::new()).unwrap();
+    assert_eq!(engine.recovered(), &recovered);
+    assert_eq!(recovered.damaged, []);
+    let cut = recovered.append.unwrap();
+    assert_eq!(
+        (cut.offset, cut.len),
+        (kept as u64, (bytes.len() - kept) as u64)
+    );
+    let reason = format!("append file 1, offset {kept}: the entries of this batch are damaged");
+    assert_eq!(cut.reason.unwrap().text, format!("Corruption: {reason}"));
+    assert_eq!(fs::read(&last).unwrap(), bytes[..kept]);
+    let beside = path.join(format!("0000000000000001.raftlog.{kept}.cut"));
+    assert_eq!(fs::read(beside).unwrap(), bytes[kept..]);
+
+    let ends = |engine: &Engine| {
+        (
+            engine.last_index(7).unwrap(),
+            engine.get(7, b"key").unwrap(),
+        )
+    };
+    assert_eq!(ends(&engine), (Some(3), Some(vec![3])));
+    write(&engine, |batch| batch.add_entries(7, 4, &[b"another"]));
+    engine.sync().unwrap();
+    drop(engine);
+    let engine = Engine::open(&path, Options::new()).unwrap();
+    assert_eq!(engine.recovered().cuts().count(), 0);
+    assert_eq!(ends(&engine), (Some(4), Some(vec![3])));
+    assert_eq!(engine.entry(7, 4).unwrap().unwrap(), b"another");
+}
+
+#[test]
+fn no_crash_brings_batches_back_that_were_cut_off_for_their_entries() {
+    let engine = engine();
+    for index in 1..=4 {
+        write(&engine, |batch| {
+            batch.add_entries(7, index, &[entry(7, 100)])
+        });
+    }
+    let mut append = engine.files().files(Queue::Append);
+    for block in blocks_of(&append[0].1).split_off(2) {
+        append[0].1[block].fill(0);
+    }
+    let files = MemoryFiles::found(append, engine.files().files(Queue::Rewrite));
+    let engine = Engine::with_files(files.clone(), Options::new()).unwrap();
+    assert_eq!(engine.last_index(7).unwrap(), Some(2));
+    let another = entry(8, 300); // longer than what was cut off
+    write(&engine, |batch| {
+        batch.add_entries(7, 3, std::slice::from_ref(&another))
+    });
+    engine.sync().unwrap();
+    let asks = files.asks();
+    for asked in 0..=asks.len() {
+        let is_synced = asked == asks.len();
+        for steps in 0..=files.unsynced(asked, Queue::Append).steps {
+            let unsynced = Unsynced {
+                steps,
+                ..Unsynced::default()
+            };
+            let left = files.left(asked, unsynced, Unsynced::default());
+            let opened = Engine::with_files(left, Options::new()).unwrap();
+            for index in [1, 2] {
+                assert_eq!(opened.entry(7, index).unwrap(), Some(entry(7, 100)));
+            }
+            let third = opened.entry(7, 3).unwrap();
+            assert!(third == Some(another.clone()) || !is_synced && third.is_none());
+            assert_eq!(opened.entry(7, 4).unwrap(), None);
+        }
+    }
+}

@@ -5,8 +5,8 @@ use crate::common::hooked::{Call, Hooked};
 use crate::common::model::{Region, region_of};
 use crate::common::{batch_bytes, with_group_marker};
 use raft_recover::{
-    Engine, Error, ErrorKind, FileId, Files, LogFile, MemoryFiles, Options, Queue, RecoveryMode,
-    Version,
+    Ask, Engine, Error, ErrorKind, FileId, Files, LogFile, MemoryFiles, Options, Queue,
+    RecoveryMode, Version,
 };
 use std::collections::BTreeMap;
 use std::io;
@@ -249,7 +249,7 @@ fn damage_with_sound_batches_behind_is_refused_by_every_number_of_threads() {
 fn damaged_entries_of_the_last_append_file_are_named_whatever_piece_they_stand_in() {
     // of the older file they aren't looked at; more than six batches are a piece
     let older = file_of(Queue::Append, 1, 0, &[ENTRY; 2]);
-    for damaged in [&[][..], &[0], &[5, 6], &[0, 1, 6, 7, 12, 18], &[18]] {
+    for damaged in [&[][..], &[0], &[5, 6], &[0, 1, 6, 7, 12, 17]] {
         let mut files = [older.bytes.clone(), Vec::new()];
         let mut last = file_of(Queue::Append, 2, 2, &[ENTRY; 19]);
         for at in damaged {
@@ -272,6 +272,67 @@ fn damaged_entries_of_the_last_append_file_are_named_whatever_piece_they_stand_i
                 let read = engine.entry(region, index);
                 assert_eq!(read.is_err(), is_damaged, "{number}");
             }
+        }
+    }
+}
+
+#[test]
+fn batches_with_damaged_entries_are_cut_off_where_no_sound_one_stands_behind_them() {
+    let all: Vec<_> = (0..19).collect();
+    let rows = [
+        (&[18][..], 18),
+        (&[0, 6, 17, 18], 17),
+        (&[16, 18], 18),
+        (&all, 0),
+    ];
+    for ((damaged, kept), torn) in rows.into_iter().flat_map(|row| [(row, 0), (row, 9)]) {
+        let mut last = file_of(Queue::Append, 1, 0, &[ENTRY; 19]);
+        for at in damaged {
+            last.bytes[last.places[*at] + 16 + ENTRY / 2] ^= 1;
+        }
+        last.bytes.resize(last.bytes.len() + torn, 7);
+        let (end, len) = (last.places[kept] as u64, last.bytes.len() as u64);
+        for threads in THREADS {
+            let options = Options::new().recovery_threads(threads);
+            let strict = options
+                .clone()
+                .recovery_mode(RecoveryMode::AbsoluteConsistency);
+            let held = found_files(&[&last]);
+            let e = Engine::with_files(held.clone(), strict).unwrap_err();
+            let first = if torn > 0 {
+                last.places[19] as u64
+            } else {
+                end
+            };
+            assert_eq!((e.kind, e.offset), (ErrorKind::Corruption, Some(first)));
+
+            let read_only = Engine::with_files_read_only(held.clone(), options.clone()).unwrap();
+            let recovered = read_only.recovered().clone();
+            let left = read_only.stats().append.bytes;
+            assert_eq!((held.asked(), left), (0, end));
+            let engine = Engine::with_files(held.clone(), options.clone()).unwrap();
+            assert_eq!(engine.recovered(), &recovered);
+            let asks = [Ask::Cut(last.id, end), Ask::Sync(Queue::Append)];
+            assert_eq!(held.asks()[..2], asks);
+            let cut = recovered.append.unwrap();
+            assert_eq!((cut.file, cut.offset, cut.len), (last.id, end, len - end));
+            let reason = cut.reason.unwrap();
+            assert_eq!((reason.file, reason.offset), (Some(last.id), Some(end)));
+            assert!(
+                reason
+                    .text
+                    .ends_with("the entries of this batch are damaged")
+            );
+            let named = recovered.damaged.iter().map(|batch| batch.offset as usize);
+            let named: Vec<_> = named.collect();
+            let expected = damaged.iter().filter(|at| **at < kept);
+            let expected: Vec<_> = expected.map(|at| last.places[*at]).collect();
+            assert_eq!(named, expected);
+            assert_eq!(engine.stats().append.bytes, end);
+            assert_eq!(held.files(Queue::Append)[0].1, last.bytes[..end as usize]);
+            let again = Engine::with_files(held, options).unwrap();
+            assert_eq!(again.recovered().cuts().count(), 0);
+            assert!(again.regions().unwrap() == engine.regions().unwrap());
         }
     }
 }

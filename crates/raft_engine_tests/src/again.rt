@@ -76,6 +76,7 @@ fn does_change_stay<R: Threads + Sync>(
     does_change_stay_in(rt, alloc, &mut engine, parts, left)
 }
 
+/// Writes `parts` to `engine`. Tests whether restarts find `left`, as [`does_change_stay`] says.
 fn does_change_stay_in<R: Threads + Sync>(
     rt: &R,
     alloc: Global,
@@ -91,6 +92,8 @@ fn does_change_stay_in<R: Threads + Sync>(
     )
 }
 
+/// Tests that what each change leaves is found by restarts after the records have moved twice, and older files are
+/// deleted.
 #[test]
 fn what_changes_leave_stays_when_records_move_again(rt: HostRuntime) {
     for (row, (parts, left)) in CHANGES.iter().enumerate() {
@@ -130,31 +133,61 @@ impl Failing {
 impl EngineFiles for Failing {
     ghost asked = { λ f. f.files };
 
+    /// Counts the call, and appends `bytes` to the last file of `queue`.
+    ///
+    /// # Errors
+    ///
+    /// `Failed` once no calls are left; those of the files in memory.
     fn append(&mut self, queue: LogQueue, bytes: &[u8]) -> Result<()> {
         self.count_call()?;
         self.files.append(queue, bytes)
     }
 
+    /// Counts the call, and begins the file `seq` of `queue`.
+    ///
+    /// # Errors
+    ///
+    /// `Failed` once no calls are left; those of the files in memory.
     fn rotate(&mut self, queue: LogQueue, seq: FileSeq) -> Result<()> {
         self.count_call()?;
         self.files.rotate(queue, seq)
     }
 
+    /// Counts the call, and syncs `queue`.
+    ///
+    /// # Errors
+    ///
+    /// `Failed` once no calls are left.
     fn sync(&mut self, queue: LogQueue) -> Result<()> {
         self.count_call()?;
         self.files.sync(queue)
     }
 
+    /// Counts the call, and deletes the oldest file of `queue`.
+    ///
+    /// # Errors
+    ///
+    /// `Failed` once no calls are left; those of the files in memory.
     fn delete_oldest(&mut self, queue: LogQueue) -> Result<()> {
         self.count_call()?;
         self.files.delete_oldest(queue)
     }
 
+    /// Counts the call, and cuts the last file of `queue` to `len` bytes.
+    ///
+    /// # Errors
+    ///
+    /// `Failed` once no calls are left; those of the files in memory.
     fn truncate(&mut self, queue: LogQueue, len: u64) -> Result<()> {
         self.count_call()?;
         self.files.truncate(queue, len)
     }
 
+    /// Counts the call, and returns the bytes at `place`.
+    ///
+    /// # Errors
+    ///
+    /// `Failed` once no calls are left; those of the files in memory.
     fn read(&mut self, place: FileBlockHandle) -> Result<Vec<u8>> {
         self.count_call()?;
         self.files.read(place)
@@ -242,6 +275,8 @@ fn is_found_after_failure<R: Threads + Sync>(
     are_moved_records_found(rt, alloc, &mut engine, moving.text)
 }
 
+/// Moves the records of `engine` twice. Returns whether the files failed, and whether an engine over copies of them
+/// holds `text`.
 fn are_moved_records_found<R: Threads + Sync>(
     rt: &R,
     alloc: Global,
@@ -273,6 +308,7 @@ fn is_text_found_in<R: Threads + Sync>(
     has_text(alloc, &found, text)
 }
 
+/// Opens an engine over copies of `files`, with two workers.
 fn open_over_copies<R: Threads + Sync>(
     rt: &R,
     alloc: Global,
@@ -306,6 +342,7 @@ fn does_move_take_calls<R: Threads + Sync>(rt: &R, alloc: Global, moving: &Movin
     Ok(count_calls_to_move(rt, alloc, moving)? == Some(moving.calls))
 }
 
+/// Tests that moves that are cut short by failing files, at each of their calls, lose no record.
 #[test]
 fn files_that_fail_lose_nothing(rt: HostRuntime) {
     for moving in &MOVING {

@@ -83,6 +83,11 @@ pub fn batch_of_parts(alloc: Global, parts: &[Part]) -> Result<LogBatch>
     Ok(batch)
 }
 
+/// Adds what `part` stands for to `batch`, which must be open.
+///
+/// # Errors
+///
+/// Those of the batch's call. The batch is still open then.
 fn add_part(alloc: Global, batch: &mut LogBatch, part: Part) -> Result<()>
     requires { batch.old.stage ≡ is_open }
     ensures { OnOk result (batch.new.stage ≡ is_open) }
@@ -114,6 +119,11 @@ fn add_part(alloc: Global, batch: &mut LogBatch, part: Part) -> Result<()>
     }
 }
 
+/// Returns an entry with these bytes for each of the indexes `first..end`.
+///
+/// # Errors
+///
+/// `Memory` alone.
 fn proposals_between(alloc: Global, first: u64, end: u64, bytes: &[u8]) -> Result<Vec<Proposal>> {
     let mut entries = Vec::new(alloc);
     for index in first..end {

@@ -58,6 +58,7 @@ static ROWS: [Row; 8] = [
     (Files::ClosedRewrite, 16, Answer::Holds("[1,12)k=v"), &[]),
 ];
 
+/// Returns the rows of damaged files, each with what an opening answers.
 fn rows_of_damage() -> &'static [Row] {
     &ROWS
 }
@@ -105,6 +106,7 @@ fn is_held_and_named(
     )
 }
 
+/// Tests whether an opening of the files of `row` in `mode` gives what the row says.
 fn is_row_answered<R: Threads + Sync>(
     rt: &R,
     alloc: Global,
@@ -119,6 +121,7 @@ fn is_row_answered<R: Threads + Sync>(
     }
 }
 
+/// Tests what openings in three modes answer if entries of the last file are damaged.
 #[test]
 fn damaged_entries_of_last_files_are_refused_or_named_in_each_mode(rt: HostRuntime) {
     for (i, row) in rows_of_damage().iter().enumerate() {

@@ -133,6 +133,11 @@ pub fn recover_tables<R: Threads + Sync>(
     recover_both(rt, alloc, rewrite.as_slice(), append.as_slice(), 2)
 }
 
+/// Returns copies of the files of `queue`.
+///
+/// # Errors
+///
+/// `Memory` alone.
 pub fn copy_files(engine: &Engine<MemoryFiles>, queue: LogQueue) -> Result<LogFiles> {
     engine.files().copies(queue)
 }
@@ -152,6 +157,11 @@ pub fn count_files(engine: &Engine<MemoryFiles>, queue: LogQueue) -> usize {
     engine.files().files(queue).len()
 }
 
+/// Writes a batch of `parts` to `engine`, and syncs it if `sync`.
+///
+/// # Errors
+///
+/// Those of [`Engine::write`]; `Memory`.
 pub fn write_parts<F: EngineFiles>(
     alloc: Global,
     engine: &mut Engine<F>,
@@ -162,6 +172,11 @@ pub fn write_parts<F: EngineFiles>(
     engine.write(&mut batch, sync)
 }
 
+/// Writes `batch` to `engine`, and syncs it if `sync`.
+///
+/// # Errors
+///
+/// Those of [`Engine::write`]; `Failed` if the batch isn't open.
 pub fn write_batch<F: EngineFiles>(
     engine: &mut Engine<F>,
     mut batch: LogBatch,
@@ -173,26 +188,56 @@ pub fn write_batch<F: EngineFiles>(
     engine.write(&mut batch, sync)
 }
 
+/// Begins a new append file of `engine`.
+///
+/// # Errors
+///
+/// Those of [`Engine::rotate`].
 pub fn rotate<F: EngineFiles>(engine: &mut Engine<F>) -> Result<()> {
     engine.rotate()
 }
 
+/// Moves the records in append files numbered at or below `gate` to the rewrite queue.
+///
+/// # Errors
+///
+/// Those of [`Engine::rewrite`].
 pub fn rewrite_up_to<F: EngineFiles>(engine: &mut Engine<F>, gate: FileSeq) -> Result<()> {
     engine.rewrite(gate)
 }
 
+/// Moves the records in rewrite files to a new rewrite file.
+///
+/// # Errors
+///
+/// Those of [`Engine::rewrite_again`].
 pub fn rewrite_again<F: EngineFiles>(engine: &mut Engine<F>) -> Result<()> {
     engine.rewrite_again()
 }
 
+/// Deletes the append files that aren't needed any more. Returns how many it deleted.
+///
+/// # Errors
+///
+/// Those of [`Engine::purge_expired_files`].
 pub fn purge_append_files<F: EngineFiles>(engine: &mut Engine<F>) -> Result<usize> {
     engine.purge_expired_files()
 }
 
+/// Deletes the rewrite files that aren't needed any more. Returns how many it deleted.
+///
+/// # Errors
+///
+/// Those of [`Engine::purge_rewrite_files`].
 pub fn purge_rewrite_files<F: EngineFiles>(engine: &mut Engine<F>) -> Result<usize> {
     engine.purge_rewrite_files()
 }
 
+/// Returns the bytes of the entry `index` of `region`; `None` if there is none.
+///
+/// # Errors
+///
+/// Those of [`Engine::get_entry`].
 pub fn get_entry<F: EngineFiles>(
     engine: &mut Engine<F>,
     region: u64,
@@ -201,6 +246,11 @@ pub fn get_entry<F: EngineFiles>(
     engine.get_entry(region, index)
 }
 
+/// Appends the entries of `region` in `range` to `entries`, up to `max_size` bytes. Returns how many these are.
+///
+/// # Errors
+///
+/// Those of [`Engine::fetch_entries_to`]. `entries` is unchanged then.
 pub fn fetch_entries<F: EngineFiles>(
     engine: &mut Engine<F>,
     region: u64,

@@ -63,6 +63,11 @@ pub struct Engine {
 }
 
 impl Engine {
+    /// Returns an engine without files and records.
+    ///
+    /// # Errors
+    ///
+    /// `Memory` alone.
     pub fn new(alloc: Global) -> Result<Engine> {
         Ok(Engine {
             alloc,
@@ -71,6 +76,11 @@ impl Engine {
         })
     }
 
+    /// Takes one `step` of a history.
+    ///
+    /// # Errors
+    ///
+    /// Those of the tables' calls; `EntryNotFound` if an entry that is read has no file; `Memory`.
     pub fn take_step(&mut self, step: &Step) -> Result<()> {
         match *step {
             Step::Append(seq, parts) => self.append_parts(seq, parts),
@@ -102,6 +112,11 @@ impl Engine {
         }
     }
 
+    /// Writes a batch of `parts` to append file `seq`, and then to the tables.
+    ///
+    /// # Errors
+    ///
+    /// Those of the tables, which the file has before them; `Memory`.
     fn append_parts(&mut self, seq: FileSeq, parts: &[Part]) -> Result<()> {
         let mut batch = self.write_batch(
             LogQueue::Append,
@@ -111,6 +126,12 @@ impl Engine {
         self.tables.apply_append_writes(batch.drain())
     }
 
+    /// Writes a batch of `parts` to rewrite file `seq`, and then to the tables, as rewritten records with this
+    /// `gate`.
+    ///
+    /// # Errors
+    ///
+    /// Those of the tables, which the file has before them; `Memory`.
     fn rewrite_parts(&mut self, seq: FileSeq, gate: Option<FileSeq>, parts: &[Part]) -> Result<()> {
         let mut batch = self.write_batch(
             LogQueue::Rewrite,
@@ -120,22 +141,42 @@ impl Engine {
         self.tables.apply_rewrite_writes(batch.drain(), gate, seq)
     }
 
+    /// Writes a batch of `parts` to rewrite file `seq`, and not to the tables.
+    ///
+    /// # Errors
+    ///
+    /// `Memory` alone.
     fn tell_removals(&mut self, seq: FileSeq, parts: &[Part]) -> Result<()> {
         let _ = self.write_batch(LogQueue::Rewrite, seq, batch_of_parts(self.alloc, parts)?)?;
         Ok(())
     }
 
+    /// Takes the cleaned regions of the tables, and writes them to rewrite file `seq`, as items that clean them.
+    ///
+    /// # Errors
+    ///
+    /// Those of the tables; `Memory`.
     fn tell_cleaned(&mut self, seq: FileSeq) -> Result<()> {
         let cleaned = self.tables.take_cleaned_region_logs()?;
         let mut batch = self.write_batch(LogQueue::Rewrite, seq, cleaned)?;
         self.tables.apply_rewrite_writes(batch.drain(), None, seq)
     }
 
+    /// Takes the tables that the files give in place of those that the engine has.
+    ///
+    /// # Errors
+    ///
+    /// Those of reading the files.
     fn restart(&mut self) -> Result<()> {
         self.tables = self.recover_tables()?;
         Ok(())
     }
 
+    /// Reads the entry `index`, and drops its bytes.
+    ///
+    /// # Errors
+    ///
+    /// Those of [`Engine::read_entry_bytes`].
     fn read_entry(&self, index: u64) -> Result<()> {
         let _ = self.read_entry_bytes(index)?;
         Ok(())
@@ -150,6 +191,7 @@ impl Engine {
         }
     }
 
+    /// Drops the bytes of each file that aren't synced, as a power failure does.
     fn lose_unsynced(&mut self) {
         for file in &mut self.files {
             file.bytes.truncate(file.synced);
@@ -355,6 +397,11 @@ impl Engine {
         context.finish()
     }
 
+    /// Returns a context that has read the files of `queue`.
+    ///
+    /// # Errors
+    ///
+    /// Those of reading them.
     fn recover_context(&self, queue: LogQueue) -> Result<MemTableRecoverContext> {
         let segment = self.copy_segment(queue)?;
         let mut context = MemTableRecoverContext::new(self.alloc)?;
@@ -362,6 +409,11 @@ impl Engine {
         Ok(context)
     }
 
+    /// Returns copies of the files of `queue`, as one segment.
+    ///
+    /// # Errors
+    ///
+    /// `Memory` alone.
     fn copy_segment(&self, queue: LogQueue) -> Result<Vec<FilePart>> {
         let mut segment = Vec::new(self.alloc);
         for file in &self.files {

@@ -20,6 +20,7 @@ pub fn file_of_three_batches(alloc: Global) -> Result<LogFiles> {
     write_file_of_three_batches(alloc, &mut engine)
 }
 
+/// Writes [1,3), `k=v` and [3,9), a batch each, and returns a copy of the append file.
 fn write_file_of_three_batches(
     alloc: Global,
     engine: &mut Engine<MemoryFiles>,
@@ -36,6 +37,7 @@ pub fn four_files_of_a_batch(alloc: Global) -> Result<LogFiles> {
     write_four_batches(alloc, &mut engine)
 }
 
+/// Writes [1,3), `k=v`, [3,9) and [9,12), each to an append file of its own, and returns copies of these.
 fn write_four_batches(alloc: Global, engine: &mut Engine<MemoryFiles>) -> Result<LogFiles> {
     write_parts(alloc, engine, &[Entries(1, 3)], true)?;
     rotate(engine)?;
@@ -61,6 +63,11 @@ enum Change {
     OfEngine,
 }
 
+/// Returns the append files that `change` makes of what an engine wrote.
+///
+/// # Errors
+///
+/// Those of the engine's calls.
 fn make_change(alloc: Global, change: &Change) -> Result<LogFiles> {
     match change {
         Change::Flipped(at) => Ok(flip_bit_of_first_file(file_of_three_batches(alloc)?, *at)),
@@ -75,6 +82,7 @@ fn make_change(alloc: Global, change: &Change) -> Result<LogFiles> {
     }
 }
 
+/// Returns `files`, of which the first one has the number `seq`.
 fn renumber_last_file(mut files: LogFiles, seq: FileSeq) -> LogFiles {
     if let Some(first) = files.first_mut() {
         first.0 = seq;
@@ -82,6 +90,7 @@ fn renumber_last_file(mut files: LogFiles, seq: FileSeq) -> LogFiles {
     files
 }
 
+/// Returns an append file that begins as those of the raft-engine of TiKV do.
 fn of_engine(alloc: Global) -> Result<LogFiles> {
     let mut bytes = Vec::from_slice(
         alloc,
@@ -93,6 +102,7 @@ fn of_engine(alloc: Global) -> Result<LogFiles> {
     Ok(files)
 }
 
+/// Returns `files`, of which the last one is cut to `len` bytes.
 fn cut_last_file(mut files: LogFiles, len: usize) -> LogFiles {
     if let Some(last) = files.last_mut() {
         last.1.truncate(len);
@@ -100,6 +110,7 @@ fn cut_last_file(mut files: LogFiles, len: usize) -> LogFiles {
     files
 }
 
+/// Returns `files` without those that have these `numbers`.
 fn drop_numbered_files(alloc: Global, files: LogFiles, numbers: &[FileSeq]) -> Result<LogFiles> {
     let mut left = Vec::new(alloc);
     for file in files {
@@ -155,6 +166,7 @@ static ROWS: [(Change, Answer); 8] = [
     (Change::Cut(101), Answer::Holds("[1,3)k=v")),
 ];
 
+/// Returns the rows of changed files, each with what an opening answers.
 fn rows_of_changes() -> &'static [(Change, Answer)] {
     &ROWS
 }
@@ -238,6 +250,7 @@ static ROWS_OF_MODES: [(RecoveryMode, Change, Answer); 12] = [
     ),
 ];
 
+/// Returns the rows of changed files, each with what an opening in its mode answers.
 fn rows_of_modes() -> &'static [(RecoveryMode, Change, Answer)] {
     &ROWS_OF_MODES
 }
@@ -260,6 +273,7 @@ pub fn is_invalid_argument_with_text<T: Drop>(opened: Result<T>, text: &str) -> 
     }
 }
 
+/// Tests whether an engine that is opened over `files` holds `text`.
 fn does_open_with_text<R: Threads + Sync>(
     rt: &R,
     alloc: Global,
@@ -270,6 +284,7 @@ fn does_open_with_text<R: Threads + Sync>(
     has_text(alloc, &engine, text)
 }
 
+/// Tests whether an opening of the changed files of `row` gives what the row says.
 fn is_row_answered<R: Threads + Sync>(
     rt: &R,
     alloc: Global,
@@ -289,6 +304,7 @@ fn is_row_answered<R: Threads + Sync>(
     }
 }
 
+/// Tests that found files are opened or refused, as their rows say.
 #[test]
 fn found_files_are_opened_or_refused(rt: HostRuntime) {
     for (i, row) in rows_of_changes().iter().enumerate() {
@@ -296,6 +312,7 @@ fn found_files_are_opened_or_refused(rt: HostRuntime) {
     }
 }
 
+/// Opens an engine over append files in `mode`.
 fn open_engine_in_mode<R: Threads + Sync>(
     rt: &R,
     alloc: Global,
@@ -306,6 +323,7 @@ fn open_engine_in_mode<R: Threads + Sync>(
     Ok(opened.engine)
 }
 
+/// Tests whether an engine that is opened over `files` in `mode` holds `text`.
 fn is_held_in_mode<R: Threads + Sync>(
     rt: &R,
     alloc: Global,
@@ -317,6 +335,7 @@ fn is_held_in_mode<R: Threads + Sync>(
     has_text(alloc, &engine, text)
 }
 
+/// Tests whether an opening of the changed files of `row`, in the row's mode, gives what the row says.
 fn is_row_answered_in_mode<R: Threads + Sync>(
     rt: &R,
     alloc: Global,
@@ -336,6 +355,7 @@ fn is_row_answered_in_mode<R: Threads + Sync>(
     }
 }
 
+/// Tests that found files are opened or refused, as the mode of the opening says.
 #[test]
 fn found_files_are_opened_or_refused_as_the_mode_says(rt: HostRuntime) {
     for (i, row) in rows_of_modes().iter().enumerate() {

@@ -151,6 +151,8 @@ fn are_groups_held<R: Threads + Sync>(
     is_text_held(rt, alloc, &mut engine, left)
 }
 
+/// Tests whether `engine` holds `left`, and restarts find it: at once, after a move and a purge, and after one more
+/// write.
 fn is_text_held<R: Threads + Sync>(
     rt: &R,
     alloc: Global,
@@ -170,6 +172,7 @@ fn is_text_held<R: Threads + Sync>(
     )
 }
 
+/// Tests that groups whose batches follow one another are found, and stay when they move.
 #[test]
 fn groups_in_rows_are_found(rt: HostRuntime) {
     for (row, (files, left)) in ROWS.iter().enumerate() {
@@ -189,6 +192,7 @@ fn are_rewrite_files_refused<R: Threads + Sync>(
     is_invalid_argument(open_rewrite_files(rt, alloc, files))
 }
 
+/// Tests that rewrite files are refused in which the batches of a group don't follow one another.
 #[test]
 fn groups_out_of_rows_are_refused(rt: HostRuntime) {
     for (row, files) in OUT.iter().enumerate() {
@@ -232,6 +236,7 @@ fn open_file_of_bytes<R: Threads + Sync>(
     open_copies(rt, alloc, Vec::new(alloc), vec![in alloc; (1, bytes)]?)
 }
 
+/// Tests whether `engine` holds `left`, moves and purges, and a restart finds `left` then.
 fn does_engine_go_on<R: Threads + Sync>(
     rt: &R,
     alloc: Global,
@@ -287,6 +292,7 @@ fn are_all_prefixes_held<R: Threads + Sync>(rt: &R, alloc: Global) -> Result<boo
     are_prefixes_of_batches_held(rt, alloc, &mut bytes)
 }
 
+/// Tests that each prefix of a rewrite file with groups gives what its whole batches leave.
 #[test]
 fn prefixes_of_groups_are_found(rt: HostRuntime) {
     assert!(rt; holds!(are_all_prefixes_held(&rt, rt.alloc())));

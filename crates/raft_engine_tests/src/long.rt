@@ -35,12 +35,14 @@ fn long_file_lacking(alloc: Global, lacks: usize) -> Result<LogFiles> {
     Ok(append)
 }
 
+/// Writes three batches of 400 long entries each, from index 1 on.
 fn write_long_batches(alloc: Global, engine: &mut Engine<MemoryFiles>) -> Result<()> {
     write_parts(alloc, engine, &[Large(1, 401)], false)?;
     write_parts(alloc, engine, &[Large(401, 801)], false)?;
     write_parts(alloc, engine, &[Large(801, 1201)], false)
 }
 
+/// Tests whether four workers open the long file, without as many bytes as the row says, and find the row's text.
 fn is_row_opened<R: Threads + Sync>(rt: &R, alloc: Global, row: &(usize, &str)) -> Result<bool> {
     let engine = open_in_way(
         rt,
@@ -52,6 +54,7 @@ fn is_row_opened<R: Threads + Sync>(rt: &R, alloc: Global, row: &(usize, &str)) 
     Ok(table_text(alloc, engine.accessor().get(REGION))?.as_str() == row.1)
 }
 
+/// Tests that a last file of several MiB is opened, also with a torn tail.
 #[test]
 fn a_long_last_file_is_opened(rt: HostRuntime) {
     for row in &ROWS {
@@ -80,6 +83,7 @@ fn is_second_batch_named<R: Threads + Sync>(rt: &R, alloc: Global) -> Result<boo
     Ok(are_batches_named(opened.damaged.as_slice(), &[second as u64]))
 }
 
+/// Tests that an opening by two workers names a long batch whose entries are damaged.
 #[test]
 fn damaged_entries_of_a_long_last_file_are_named(rt: HostRuntime) {
     assert!(rt; holds!(is_second_batch_named(&rt, rt.alloc())));

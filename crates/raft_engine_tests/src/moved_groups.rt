@@ -27,6 +27,7 @@ fn engine_with_large_regions(alloc: Global) -> Result<Engine<MemoryFiles>> {
     Ok(engine)
 }
 
+/// Writes entries of more than half a batch each and `k=v`, and moves them to the first rewrite file.
 fn write_and_move_large_regions(alloc: Global, engine: &mut Engine<MemoryFiles>) -> Result<()> {
     write_each(alloc, engine, &[Medium(1, 2), Medium(2, 3), Medium(3, 4)])?;
     write_parts(alloc, engine, &[Put("v")], false)?;
@@ -82,6 +83,8 @@ fn do_records_move_in_groups<R: Threads + Sync>(rt: &R, alloc: Global) -> Result
     do_records_move_in_two_groups(rt, alloc, &mut engine)
 }
 
+/// Tests whether the records of `engine` move in two batches, then in group 2, and then in one more group, and
+/// restarts find them.
 fn do_records_move_in_two_groups<R: Threads + Sync>(
     rt: &R,
     alloc: Global,
@@ -98,6 +101,7 @@ fn do_records_move_in_two_groups<R: Threads + Sync>(
     Ok(is_found_after_moves_and_purges(rt, alloc, engine, TEXT)? && has_group(alloc, engine, 3)?)
 }
 
+/// Tests that the records of a region that takes several batches move again as an atomic group.
 #[test]
 fn large_regions_move_in_groups(rt: HostRuntime) {
     assert!(rt; holds!(do_records_move_in_groups(&rt, rt.alloc())));

@@ -42,6 +42,7 @@ fn torn_file(alloc: Global) -> Result<LogFiles> {
     write_and_tear(alloc, &mut engine)
 }
 
+/// Writes three batches, and returns a copy of the append file without its last byte.
 fn write_and_tear(alloc: Global, engine: &mut Engine<MemoryFiles>) -> Result<LogFiles> {
     write_parts(alloc, engine, &[Entries(1, 3)], true)?;
     write_parts(alloc, engine, &[Put("v")], true)?;
@@ -99,6 +100,7 @@ fn is_wrong_way_refused<R: Threads + Sync>(rt: &R, alloc: Global, way: Way) -> R
     }
 }
 
+/// Tests whether the append file is as it was, and can be opened in the right way.
 fn is_left_and_opened<R: Threads + Sync>(
     rt: &R,
     alloc: Global,
@@ -158,6 +160,7 @@ fn is_cut_tail_told<R: Threads + Sync>(rt: &R, alloc: Global) -> Result<bool> {
     )
 }
 
+/// Tests that an opening tells the offset and the length of the torn tail that it cuts off.
 #[test]
 fn an_opening_tells_which_tail_it_cuts_off(rt: HostRuntime) {
     assert!(rt; holds!(is_cut_tail_told(&rt, rt.alloc())));
@@ -172,6 +175,7 @@ fn is_cut_damage_told<R: Threads + Sync>(rt: &R, alloc: Global) -> Result<bool> 
     Ok(is_tail_of_file_1(cut.append.as_ref(), 0, len) && cut.rewrite.is_none())
 }
 
+/// Tests that an opening in the mode that cuts off damage tells what it cuts off.
 #[test]
 fn an_opening_tells_that_it_cuts_off_damage(rt: HostRuntime) {
     assert!(rt; holds!(is_cut_damage_told(&rt, rt.alloc())));
@@ -206,11 +210,13 @@ fn is_damage_refused_as_no_tail<R: Threads + Sync>(rt: &R, alloc: Global) -> Res
     )
 }
 
+/// Tests that damage which no crash leaves is refused, in place of being cut off.
 #[test]
 fn damage_is_refused_as_no_torn_tail(rt: HostRuntime) {
     assert!(rt; holds!(is_damage_refused_as_no_tail(&rt, rt.alloc())));
 }
 
+/// Tests whether an opening without workers, one in another version, and one of a damaged rewrite file are refused.
 fn are_all_wrong_ways_refused<R: Threads + Sync>(rt: &R, alloc: Global) -> Result<bool> {
     Ok(
         is_wrong_way_refused(rt, alloc, WITHOUT_WORKERS)?
@@ -219,6 +225,7 @@ fn are_all_wrong_ways_refused<R: Threads + Sync>(rt: &R, alloc: Global) -> Resul
     )
 }
 
+/// Tests that a refused opening leaves the files as they are, and hands them back.
 #[test]
 fn a_refused_opening_asks_nothing_of_the_files(rt: HostRuntime) {
     assert!(rt; holds!(are_all_wrong_ways_refused(&rt, rt.alloc())));

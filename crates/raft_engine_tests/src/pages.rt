@@ -31,6 +31,7 @@ struct File {
     offsets: Vec<u64>,
 }
 
+/// Returns the bytes of an append file of many batches, and the offset of each.
 fn write_file_of_pages(alloc: Global) -> Result<File> {
     let id = FileId::new(LogQueue::Append, 1);
     let mut bytes = Vec::new(alloc);
@@ -102,6 +103,8 @@ fn count_opening(opened: OpenedInMode, file: &File, counts: &mut Counts) -> Resu
     }
 }
 
+/// Opens the file with a page of zeros at `place`, and counts the opening. Tests whether it was refused, or each
+/// entry can be read or has its batch named.
 fn is_zeroed_place_fine<R: Threads + Sync>(
     rt: &R,
     alloc: Global,
@@ -115,6 +118,7 @@ fn is_zeroed_place_fine<R: Threads + Sync>(
     count_opening(opened, file, counts)
 }
 
+/// Tests whether a page of zeros at each place is refused, read or named, and all three happen often enough.
 fn are_all_zeroed_places_fine<R: Threads + Sync>(rt: &R, alloc: Global) -> Result<bool> {
     let file = write_file_of_pages(alloc)?;
     let mut counts = Counts {
@@ -134,6 +138,7 @@ fn are_all_zeroed_places_fine<R: Threads + Sync>(rt: &R, alloc: Global) -> Resul
     )
 }
 
+/// Tests that an opening never loses an entry silently if a page of the last file has zeros.
 #[test]
 fn what_a_page_of_zeros_leaves_is_read_or_named(rt: HostRuntime) {
     assert!(rt; holds!(are_all_zeroed_places_fine(&rt, rt.alloc())));

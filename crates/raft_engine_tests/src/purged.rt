@@ -69,6 +69,7 @@ fn engine_with_batches(alloc: Global, row: &Purge) -> Result<Engine<MemoryFiles>
     Ok(engine)
 }
 
+/// Writes each of `batches`, and begins a new append file after each.
 fn write_batches_and_rotate(
     alloc: Global,
     engine: &mut Engine<MemoryFiles>,
@@ -100,6 +101,7 @@ fn is_row_purged<R: Threads + Sync>(rt: &R, alloc: Global, row: &Purge) -> Resul
     is_row_purged_in(rt, alloc, &mut engine, row)
 }
 
+/// Tests whether two purges of `engine` delete what `row` says and nothing more, and what is left can be recovered.
 fn is_row_purged_in<R: Threads + Sync>(
     rt: &R,
     alloc: Global,
@@ -118,6 +120,7 @@ fn is_row_purged_in<R: Threads + Sync>(
     )
 }
 
+/// Tests that a purge deletes just the oldest files that no table needs.
 #[test]
 fn files_that_no_table_needs_are_deleted(rt: HostRuntime) {
     for (row, purge) in PURGES.iter().enumerate() {

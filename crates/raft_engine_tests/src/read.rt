@@ -23,6 +23,7 @@ fn is_entry_read(engine: &mut Engine<MemoryFiles>, index: u64, text: &str) -> Re
     }
 }
 
+/// Tests whether `region` has no entry `index`.
 fn has_no_entry(engine: &mut Engine<MemoryFiles>, region: u64, index: u64) -> Result<bool> {
     Ok(get_entry(engine, region, index)?.is_none())
 }
@@ -60,6 +61,7 @@ fn are_zero_and_texts(entries: &[Vec<u8>]) -> bool {
     true
 }
 
+/// Tests whether each of [`TEXTS`] is read alone, and all together.
 fn are_texts_read(alloc: Global, engine: &mut Engine<MemoryFiles>) -> Result<bool> {
     Ok(are_texts_read_alone(engine)? && are_texts_read_together(alloc, engine)?)
 }
@@ -71,6 +73,7 @@ fn are_texts_read_in_all_states<R: Threads + Sync>(rt: &R, alloc: Global) -> Res
     are_moved_texts_read(rt, alloc, &mut engine)
 }
 
+/// Tests whether all texts are read before and after they move, and by an engine that is opened again.
 fn are_moved_texts_read<R: Threads + Sync>(
     rt: &R,
     alloc: Global,
@@ -86,6 +89,7 @@ fn are_moved_texts_read<R: Threads + Sync>(
     are_reopened_texts_read(rt, alloc, engine)
 }
 
+/// Tests whether an engine that is opened over copies of the files reads all texts.
 fn are_reopened_texts_read<R: Threads + Sync>(
     rt: &R,
     alloc: Global,
@@ -95,6 +99,7 @@ fn are_reopened_texts_read<R: Threads + Sync>(
     are_texts_read(alloc, &mut found)
 }
 
+/// Tests that entries are read with their bytes: from append files, from rewrite files, and after a restart.
 #[test]
 fn entries_are_read_as_they_were_written(rt: HostRuntime) {
     assert!(rt; holds!(are_texts_read_in_all_states(&rt, rt.alloc())));
@@ -127,26 +132,31 @@ fn are_fetches_limited_in(alloc: Global, engine: &mut Engine<MemoryFiles>) -> Re
     )
 }
 
+/// Tests [`are_fetches_limited_in`] with an engine that wrote all texts.
 fn are_fetches_limited(alloc: Global) -> Result<bool> {
     let mut engine = engine_with_texts(alloc)?;
     are_fetches_limited_in(alloc, &mut engine)
 }
 
+/// Tests that a fetch returns entries up to a size, and at least one.
 #[test]
 fn fetches_end_at_a_maximal_size(rt: HostRuntime) {
     assert!(rt; holds!(are_fetches_limited(rt.alloc())));
 }
 
+/// Writes a compaction of region 7 to index 3.
 fn compact_region_7(alloc: Global, engine: &mut Engine<MemoryFiles>) -> Result<()> {
     let mut batch = LogBatch::default(alloc);
     batch.add_command(7, Command::Compact { index: 3 })?;
     write_batch(engine, batch, false)
 }
 
+/// Tests whether a fetch returned `EntryCompacted`.
 fn is_refused_as_compacted(answer: Result<usize>) -> bool {
     matches!(answer, Err(Error::EntryCompacted))
 }
 
+/// Tests whether a fetch returned `EntryNotFound`.
 fn is_refused_as_not_found(answer: Result<usize>) -> bool {
     matches!(answer, Err(Error::EntryNotFound))
 }
@@ -172,6 +182,7 @@ fn are_ranges_refused_in(
     )
 }
 
+/// Compacts region 7, and tests which fetches are refused then.
 fn are_ranges_refused_once_compacted(
     alloc: Global,
     engine: &mut Engine<MemoryFiles>,
@@ -181,11 +192,13 @@ fn are_ranges_refused_once_compacted(
     are_ranges_refused_in(engine, &mut entries)
 }
 
+/// Tests [`are_ranges_refused_once_compacted`] with an engine that wrote all texts.
 fn are_ranges_refused(alloc: Global) -> Result<bool> {
     let mut engine = engine_with_texts(alloc)?;
     are_ranges_refused_once_compacted(alloc, &mut engine)
 }
 
+/// Tests that ranges below the first entry or beyond the last one are refused, each with its error.
 #[test]
 fn ranges_without_entries_are_refused(rt: HostRuntime) {
     assert!(rt; holds!(are_ranges_refused(rt.alloc())));
@@ -198,6 +211,7 @@ fn open_damaged_texts<R: Threads + Sync>(rt: &R, alloc: Global) -> Result<Engine
     open_with_changed_byte(rt, alloc, &engine)
 }
 
+/// Opens an engine over copies of the files, with the byte 16 of the first one changed.
 fn open_with_changed_byte<R: Threads + Sync>(
     rt: &R,
     alloc: Global,
@@ -214,6 +228,7 @@ fn is_fetch_of_all_refused(alloc: Global, engine: &mut Engine<MemoryFiles>) -> R
     Ok(refused && entries.is_empty())
 }
 
+/// Tests whether `engine` refuses the damaged entry, alone and in a fetch, and returns the others.
 fn is_damage_found_in(alloc: Global, engine: &mut Engine<MemoryFiles>) -> Result<bool> {
     let alone = is_corruption(get_entry(engine, 7, 1))?;
     Ok(
@@ -230,6 +245,7 @@ fn is_damage_found<R: Threads + Sync>(rt: &R, alloc: Global) -> Result<bool> {
     is_damage_found_in(alloc, &mut engine)
 }
 
+/// Tests that an entry whose bytes are damaged is refused, and the others are read.
 #[test]
 fn damaged_entries_are_not_read(rt: HostRuntime) {
     assert!(rt; holds!(is_damage_found(&rt, rt.alloc())));
@@ -242,6 +258,8 @@ fn does_engine_go_on_after_damage<R: Threads + Sync>(rt: &R, alloc: Global) -> R
     does_damaged_engine_go_on(rt, alloc, &mut engine)
 }
 
+/// Reads the damaged entry, writes one more, and begins a file. Tests whether a restart finds the five that are
+/// whole.
 fn does_damaged_engine_go_on<R: Threads + Sync>(
     rt: &R,
     alloc: Global,
@@ -265,6 +283,7 @@ fn count_fetched_reopened<R: Threads + Sync>(
     count_fetched(alloc, &mut found, 2, 7, None)
 }
 
+/// Tests that an engine writes on after it refused to read a damaged entry.
 #[test]
 fn an_engine_goes_on_after_a_damaged_read(rt: HostRuntime) {
     assert!(rt; holds!(does_engine_go_on_after_damage(&rt, rt.alloc())));
@@ -282,26 +301,56 @@ pub struct CountedFiles {
 impl EngineFiles for CountedFiles {
     ghost asked = { λ f. f.files };
 
+    /// Appends `bytes` to the last file of `queue`.
+    ///
+    /// # Errors
+    ///
+    /// Those of the files in memory.
     fn append(&mut self, queue: LogQueue, bytes: &[u8]) -> Result<()> {
         self.files.append(queue, bytes)
     }
 
+    /// Begins the file `seq` of `queue`.
+    ///
+    /// # Errors
+    ///
+    /// Those of the files in memory.
     fn rotate(&mut self, queue: LogQueue, seq: FileSeq) -> Result<()> {
         self.files.rotate(queue, seq)
     }
 
+    /// Syncs `queue`.
+    ///
+    /// # Errors
+    ///
+    /// Those of the files in memory.
     fn sync(&mut self, queue: LogQueue) -> Result<()> {
         self.files.sync(queue)
     }
 
+    /// Deletes the oldest file of `queue`.
+    ///
+    /// # Errors
+    ///
+    /// Those of the files in memory.
     fn delete_oldest(&mut self, queue: LogQueue) -> Result<()> {
         self.files.delete_oldest(queue)
     }
 
+    /// Cuts the last file of `queue` to `len` bytes.
+    ///
+    /// # Errors
+    ///
+    /// Those of the files in memory.
     fn truncate(&mut self, queue: LogQueue, len: u64) -> Result<()> {
         self.files.truncate(queue, len)
     }
 
+    /// Returns the bytes at `place`, and counts the read.
+    ///
+    /// # Errors
+    ///
+    /// Those of the files in memory. Such a read isn't counted.
     fn read(&mut self, place: FileBlockHandle) -> Result<Vec<u8>> {
         let bytes = self.files.read(place)?;
         self.reads = self.reads.saturating_add(1);
@@ -340,16 +389,23 @@ fn are_written_and_counted(alloc: Global, engine: &mut Engine<CountedFiles>) -> 
     are_reads_counted(engine, &mut entries)
 }
 
+/// Tests [`are_written_and_counted`] with a new engine.
 fn are_blocks_read_once(alloc: Global) -> Result<bool> {
     let mut engine = new_engine_counting_reads(alloc)?;
     are_written_and_counted(alloc, &mut engine)
 }
 
+/// Tests that entries of one block are read from the files by one read.
 #[test]
 fn blocks_are_read_once(rt: HostRuntime) {
     assert!(rt; holds!(are_blocks_read_once(rt.alloc())));
 }
 
+/// Adds a put of an empty value under `key` of the tests' region.
+///
+/// # Errors
+///
+/// `Failed` if the batch isn't open; `Memory`.
 fn put_key(alloc: Global, batch: &mut LogBatch, key: &[u8]) -> Result<()> {
     if !batch.is_open() {
         return Err(Error::Failed);
@@ -364,6 +420,11 @@ fn batch_of_keys(alloc: Global) -> Result<LogBatch> {
     Ok(batch)
 }
 
+/// Adds puts of the keys `3`, `1` and `2`, in this order.
+///
+/// # Errors
+///
+/// Those of [`put_key`].
 fn put_keys(alloc: Global, batch: &mut LogBatch) -> Result<()> {
     put_key(alloc, batch, b"3")?;
     put_key(alloc, batch, b"1")?;
@@ -377,6 +438,7 @@ fn engine_with_keys(alloc: Global) -> Result<Engine<MemoryFiles>> {
     Ok(engine)
 }
 
+/// Writes the batch of [`batch_of_keys`].
 fn write_keys(alloc: Global, engine: &mut Engine<MemoryFiles>) -> Result<()> {
     write_batch(engine, batch_of_keys(alloc)?, false)
 }
@@ -397,6 +459,7 @@ fn scan_keys_as_digits(
     Ok(seen)
 }
 
+/// Tests whether scans visit the keys of `engine` in both orders and from a key on, and none of another region.
 fn are_keys_scanned_in(engine: &Engine<MemoryFiles>) -> Result<bool> {
     Ok(
         scan_keys_as_digits(engine, REGION, None, false)? == 123
@@ -406,11 +469,13 @@ fn are_keys_scanned_in(engine: &Engine<MemoryFiles>) -> Result<bool> {
     )
 }
 
+/// Tests [`are_keys_scanned_in`] with an engine that wrote three keys.
 fn are_keys_scanned(alloc: Global) -> Result<bool> {
     let engine = engine_with_keys(alloc)?;
     are_keys_scanned_in(&engine)
 }
 
+/// Tests that a scan visits keys in their order, also in reverse and from a key on.
 #[test]
 fn keys_are_scanned_in_order(rt: HostRuntime) {
     assert!(rt; holds!(are_keys_scanned(rt.alloc())));

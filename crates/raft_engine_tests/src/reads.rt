@@ -14,6 +14,7 @@ fn count_reads_of_move(alloc: Global, batches: &[&[Part]]) -> Result<usize> {
     count_reads_in(alloc, &mut engine, batches)
 }
 
+/// Writes `batches`, and moves them to the rewrite queue. Returns how many reads that made.
 fn count_reads_in(
     alloc: Global,
     engine: &mut Engine<CountedFiles>,
@@ -26,6 +27,7 @@ fn count_reads_in(
     Ok(engine.files().reads)
 }
 
+/// Tests whether a move reads one block for one batch, and three for three.
 fn are_reads_few(alloc: Global) -> Result<bool> {
     Ok(
         count_reads_of_move(alloc, &[&[Entries(1, 9)]])? == 1
@@ -36,6 +38,7 @@ fn are_reads_few(alloc: Global) -> Result<bool> {
     )
 }
 
+/// Tests that a move of records reads each entry block once.
 #[test]
 fn a_rewriting_reads_a_block_once(rt: HostRuntime) {
     assert!(rt; holds!(are_reads_few(rt.alloc())));

@@ -91,6 +91,8 @@ fn open_moved_files<R: Threads + Sync>(rt: &R, alloc: Global) -> Result<Engine<M
     open_moved_files_of(rt, alloc, &mut store)
 }
 
+/// Has `store` write [1,10) and `k=v`, move them, and delete their append file. Opens an engine over copies of its
+/// files.
 fn open_moved_files_of<R: Threads + Sync>(
     rt: &R,
     alloc: Global,
@@ -115,6 +117,7 @@ pub fn engine_with_moved_parts(alloc: Global, parts: &[Part]) -> Result<Engine<M
     Ok(engine)
 }
 
+/// Writes a batch of `parts`, moves it to the rewrite queue, and deletes its append file.
 fn write_move_and_purge(
     alloc: Global,
     engine: &mut Engine<MemoryFiles>,
@@ -135,6 +138,7 @@ fn write_change(alloc: Global, engine: &mut Engine<MemoryFiles>, change: &Change
     rotate(engine)
 }
 
+/// Tests whether `engine` has `count` append files.
 fn has_append_files(engine: &Engine<MemoryFiles>, count: usize) -> bool {
     count_files(engine, LogQueue::Append) == count
 }
@@ -176,6 +180,7 @@ fn does_change_stay<R: Threads + Sync>(
     Ok(has_text(alloc, engine, change.left)? && is_found_reopened(rt, alloc, engine, change.left)?)
 }
 
+/// Tests whether `change` stays, made in an engine that found its records in files.
 fn does_change_of_found_stay<R: Threads + Sync>(
     rt: &R,
     alloc: Global,
@@ -185,6 +190,7 @@ fn does_change_of_found_stay<R: Threads + Sync>(
     does_change_stay(rt, alloc, &mut engine, change)
 }
 
+/// Tests whether `change` stays, made in an engine that moved its records.
 fn does_change_of_moved_stay<R: Threads + Sync>(
     rt: &R,
     alloc: Global,
@@ -206,6 +212,7 @@ fn does_change_stay_in_both<R: Threads + Sync>(
     )
 }
 
+/// Tests that what each change takes away stays away, and what it leaves stays, after restarts and a purge.
 #[test]
 fn changes_stay_after_restarts_and_purges(rt: HostRuntime) {
     for (row, change) in CHANGES.iter().enumerate() {
@@ -233,6 +240,7 @@ struct Prefixes {
     ends: Vec<usize>,
 }
 
+/// Returns an engine that wrote the batches of [`WRITES`], and where each of them ends in its file.
 fn write_prefixes(alloc: Global) -> Result<Prefixes> {
     let mut engine = new_engine(alloc)?;
     let ends = write_each_and_measure(alloc, &mut engine)?;
@@ -249,6 +257,7 @@ fn write_each_and_measure(alloc: Global, engine: &mut Engine<MemoryFiles>) -> Re
     Ok(ends)
 }
 
+/// Returns the length of the last of `files` in bytes; 0 without files.
 fn last_file_len(files: &LogFiles) -> usize {
     match files.last() {
         Some((_, bytes)) => bytes.len(),
@@ -329,6 +338,7 @@ fn is_prefix_found<R: Threads + Sync>(
     )
 }
 
+/// Tests whether `engine` holds `left`, replaces it, deletes one append file, and a restart finds what it wrote.
 fn does_engine_go_on<R: Threads + Sync>(
     rt: &R,
     alloc: Global,
@@ -355,11 +365,13 @@ fn are_all_prefixes_found<R: Threads + Sync>(
     Ok(true)
 }
 
+/// Tests [`are_all_prefixes_found`] with a file of the batches of [`WRITES`].
 fn are_prefixes_of_file_found<R: Threads + Sync>(rt: &R, alloc: Global) -> Result<bool> {
     let fronts = write_prefixes(alloc)?;
     are_all_prefixes_found(rt, alloc, &fronts)
 }
 
+/// Tests that each prefix of an append file gives what its whole batches leave.
 #[test]
 fn each_prefix_of_a_file_is_found(rt: HostRuntime) {
     assert!(rt; holds!(are_prefixes_of_file_found(&rt, rt.alloc())));
@@ -382,15 +394,18 @@ fn are_equal_numbers_refused<R: Threads + Sync>(
     is_corruption(open_copies(rt, alloc, append, Vec::new(alloc)))
 }
 
+/// Tests whether a damaged first batch and equal file numbers are refused.
 fn are_both_refused<R: Threads + Sync>(rt: &R, alloc: Global, fronts: &Prefixes) -> Result<bool> {
     Ok(is_damage_refused(rt, alloc, fronts)? && are_equal_numbers_refused(rt, alloc, fronts)?)
 }
 
+/// Tests [`are_both_refused`] with a file of the batches of [`WRITES`].
 fn is_what_no_crash_leaves_refused<R: Threads + Sync>(rt: &R, alloc: Global) -> Result<bool> {
     let fronts = write_prefixes(alloc)?;
     are_both_refused(rt, alloc, &fronts)
 }
 
+/// Tests that an opening refuses files that no crash leaves.
 #[test]
 fn what_no_crash_leaves_is_refused(rt: HostRuntime) {
     assert!(rt; holds!(is_what_no_crash_leaves_refused(&rt, rt.alloc())));

@@ -14,6 +14,7 @@ use raft_records::Result;
 use std::alloc::Global;
 use std::thread::Threads;
 
+/// Cites the law that says what an opening of the files of `engine` gives.
 fn state_that_what_is_left_is_opened(engine: &Engine<MemoryFiles>) {
     engine.what_is_left_is_opened();
 }
@@ -35,6 +36,7 @@ fn do_restarts_find_all<R: Threads + Sync>(rt: &R, alloc: Global) -> Result<bool
     is_all_found_by_first(rt, alloc, &engine)
 }
 
+/// Tests whether `engine` holds what was written before its own opening, and so do the two restarts after it.
 fn is_all_found_by_first<R: Threads + Sync>(
     rt: &R,
     alloc: Global,
@@ -43,6 +45,7 @@ fn is_all_found_by_first<R: Threads + Sync>(
     Ok(is_all_found_by_second(rt, alloc, engine)? && has_text(alloc, engine, "[1,6)k=v")?)
 }
 
+/// Opens the files of `engine` again, writes a batch, and tests whether one more restart finds all.
 fn is_all_found_by_second<R: Threads + Sync>(
     rt: &R,
     alloc: Global,
@@ -53,6 +56,7 @@ fn is_all_found_by_second<R: Threads + Sync>(
     is_all_found_by_third(rt, alloc, &second)
 }
 
+/// Tests whether a restart of the files of `second` finds what both wrote.
 fn is_all_found_by_third<R: Threads + Sync>(
     rt: &R,
     alloc: Global,
@@ -63,6 +67,7 @@ fn is_all_found_by_third<R: Threads + Sync>(
     has_text(alloc, &third, "[3,6)k=w")
 }
 
+/// Tests that each restart finds all that was written before it.
 #[test]
 fn each_restart_finds_all(rt: HostRuntime) {
     assert!(rt; holds!(do_restarts_find_all(&rt, rt.alloc())));
@@ -140,6 +145,7 @@ fn engine_with_removal(alloc: Global, removal: &Removal) -> Result<Engine<Memory
     Ok(engine)
 }
 
+/// Writes each of `batches`, and syncs it.
 fn write_batches(
     alloc: Global,
     engine: &mut Engine<MemoryFiles>,
@@ -168,6 +174,8 @@ fn does_removal_stay<R: Threads + Sync>(rt: &R, alloc: Global, removal: &Removal
     does_removal_stay_in(rt, alloc, &mut engine, removal)
 }
 
+/// Tests whether `engine` holds what `removal` leaves, and a restart finds it after a purge, which deletes as many
+/// files as the removal says.
 fn does_removal_stay_in<R: Threads + Sync>(
     rt: &R,
     alloc: Global,
@@ -191,6 +199,7 @@ fn does_removal_stay_after_move<R: Threads + Sync>(
     does_removal_stay_after_move_in(rt, alloc, &mut engine, removal)
 }
 
+/// Moves what is left, and purges. Tests whether a restart finds what `removal` leaves.
 fn does_removal_stay_after_move_in<R: Threads + Sync>(
     rt: &R,
     alloc: Global,
@@ -200,6 +209,7 @@ fn does_removal_stay_after_move_in<R: Threads + Sync>(
     Ok(move_and_purge_append_files(engine)? && is_found_reopened(rt, alloc, engine, removal.left)?)
 }
 
+/// Tests whether what was taken away stays away, with and without a move before the purge.
 fn does_removal_stay_in_both<R: Threads + Sync>(
     rt: &R,
     alloc: Global,
@@ -208,6 +218,7 @@ fn does_removal_stay_in_both<R: Threads + Sync>(
     Ok(does_removal_stay(rt, alloc, removal)? && does_removal_stay_after_move(rt, alloc, removal)?)
 }
 
+/// Tests that what each removal takes away doesn't come back when files are deleted.
 #[test]
 fn what_was_taken_away_stays_away(rt: HostRuntime) {
     for (row, removal) in REMOVALS.iter().enumerate() {

@@ -69,6 +69,7 @@ fn give_places(mut batch: LogBatch) -> Result<LogBatch> {
     Ok(batch)
 }
 
+/// Tests whether the tables of `accessor` are printed as `lines`.
 pub(crate) fn are_lines_printed(
     alloc: Global,
     accessor: &MemTableAccessor,
@@ -84,16 +85,19 @@ pub(crate) fn engine_with_two_files(alloc: Global) -> Result<Engine<MemoryFiles>
     Ok(engine)
 }
 
+/// Writes two batches, each to an append file of its own.
 fn write_both_files(alloc: Global, engine: &mut Engine<MemoryFiles>) -> Result<()> {
     write_batch(engine, batch_of_entry_and_key(alloc)?, false)?;
     rotate(engine)?;
     write_batch(engine, batch_cleaning_region_8(alloc)?, false)
 }
 
+/// Cites the law that says what a recovery of the files of `engine` gives.
 fn state_that_what_was_written_is_recovered(engine: &Engine<MemoryFiles>) {
     engine.what_was_written_is_recovered();
 }
 
+/// Returns copies of the files of `queue`, each as a segment.
 fn copy_segments(engine: &Engine<MemoryFiles>, queue: LogQueue) -> Result<Vec<Segment>> {
     engine.segments(queue)
 }
@@ -131,6 +135,7 @@ fn recover_both_queues<R: Threads + Sync>(
     recover_both(rt, alloc, rewrite.as_slice(), append.as_slice(), 2)
 }
 
+/// Tests whether a recovery of both queues gives the tables that were written.
 fn is_recovered_from_both<R: Threads + Sync>(
     rt: &R,
     alloc: Global,
@@ -146,6 +151,8 @@ fn are_written_tables_recovered<R: Threads + Sync>(rt: &R, alloc: Global) -> Res
     are_tables_recovered_from(rt, alloc, &engine)
 }
 
+/// Tests whether `engine` has the tables that were written, and recoveries by one and four workers, and of both
+/// queues, give them.
 fn are_tables_recovered_from<R: Threads + Sync>(
     rt: &R,
     alloc: Global,
@@ -171,6 +178,7 @@ pub(crate) fn copy_append_files(alloc: Global, engine: &Engine<MemoryFiles>) -> 
     Ok(files)
 }
 
+/// Appends copies of the parts of `segment` to `files`, each as a file.
 fn push_segment_files(alloc: Global, files: &mut LogFiles, segment: &[FilePart]) -> Result<()> {
     for part in segment {
         files.push((part.id().seq, Vec::from_slice(alloc, part.bytes())?))?;
@@ -199,6 +207,7 @@ fn is_opened_with_written_tables<R: Threads + Sync>(rt: &R, alloc: Global) -> Re
     has_written_tables(rt, alloc, &engine)
 }
 
+/// Tests whether `engine` has the tables that were written, and recoveries of its append files give them.
 fn has_written_tables<R: Threads + Sync>(
     rt: &R,
     alloc: Global,
@@ -219,16 +228,20 @@ fn recover_written_tables<R: Threads + Sync>(rt: &R, alloc: Global) -> Result<Me
     recover_by_workers(rt, alloc, &engine, 1)
 }
 
+/// Moves the records of region 7 in `tables` to file 4 of the rewrite queue.
 fn rewrite_records(alloc: Global, tables: &mut MemTableAccessor) -> Result<()> {
     let mut moved = give_places(batch_of_entry_and_key(alloc)?)?;
     tables.apply_rewrite_writes(moved.drain(), Some(1), 4)
 }
 
+/// Takes the cleaned regions of `tables`. Tests whether there were some.
 fn are_cleaned_regions_handed_out(tables: &mut MemTableAccessor) -> Result<bool> {
     let logs = tables.take_cleaned_region_logs()?;
     Ok(!logs.is_empty())
 }
 
+/// Moves the records in `tables`. Tests whether they hand out the cleaned regions, and print the lines after the
+/// move.
 fn are_records_rewritten(alloc: Global, tables: &mut MemTableAccessor) -> Result<bool> {
     rewrite_records(alloc, tables)?;
     Ok(are_cleaned_regions_handed_out(tables)? && are_lines_printed(alloc, tables, REWRITTEN)?)
@@ -256,6 +269,8 @@ fn open_with_rewrite_file_4<R: Threads + Sync>(
     open_copies(rt, alloc, files, vec![in alloc; (4, Vec::new(alloc))]?)
 }
 
+/// Moves the records of append file 1. Tests whether `engine` has them in the rewrite queue, and its append files
+/// still give them.
 fn do_records_move<R: Threads + Sync>(
     rt: &R,
     alloc: Global,
@@ -269,21 +284,25 @@ fn do_records_move<R: Threads + Sync>(
     )
 }
 
+/// Tests that an engine has the tables that were written, and so have recoveries of its files.
 #[test]
 fn what_was_written_is_recovered(rt: HostRuntime) {
     assert!(rt; holds!(are_written_tables_recovered(&rt, rt.alloc())));
 }
 
+/// Tests that an opening of the append files alone gives the tables that were written.
 #[test]
 fn written_files_are_opened_with_their_tables(rt: HostRuntime) {
     assert!(rt; holds!(is_opened_with_written_tables(&rt, rt.alloc())));
 }
 
+/// Tests that tables of a recovery take a rewriting, and hand out their cleaned regions.
 #[test]
 fn recovered_tables_take_a_rewriting(rt: HostRuntime) {
     assert!(rt; holds!(is_rewriting_taken(&rt, rt.alloc())));
 }
 
+/// Tests that an engine moves records to the rewrite file that it found, and its append files still have them.
 #[test]
 fn an_engine_moves_records_to_the_rewrite_queue(rt: HostRuntime) {
     assert!(rt; holds!(are_records_moved_to_file_4(&rt, rt.alloc())));
@@ -297,6 +316,7 @@ fn is_number_refused(alloc: Global, seq: FileSeq) -> Result<bool> {
     are_files_left(alloc, &mut files, &engine, seq)
 }
 
+/// Tests whether `files` refuse to begin the append file `seq`, and have the same files as before.
 fn are_files_left(
     alloc: Global,
     files: &mut MemoryFiles,
@@ -309,6 +329,7 @@ fn are_files_left(
     Ok(*files.files(LogQueue::Append) == copy_append_files(alloc, engine)?)
 }
 
+/// Tests that a new file needs a number above that of the last one.
 #[test]
 fn a_number_that_is_not_above_the_last_one_is_refused(rt: HostRuntime) {
     for seq in 0..3 {
@@ -344,6 +365,7 @@ fn is_opened_or_refused<R: Threads + Sync>(
     Ok(is_damage != is_opened)
 }
 
+/// Tests which lists of file numbers an opening takes.
 #[test]
 fn files_are_opened_whose_numbers_are_consecutive(rt: HostRuntime) {
     for (numbers, is_opened) in &NUMBERS {
@@ -360,6 +382,7 @@ fn has_many_files(alloc: Global) -> Result<bool> {
     begins_many_files(&mut engine)
 }
 
+/// Begins append files up to number 300. Tests whether all of them are there.
 fn begins_many_files(engine: &mut Engine<MemoryFiles>) -> Result<bool> {
     for _ in 2..=300 {
         rotate(engine)?;
@@ -370,6 +393,7 @@ fn begins_many_files(engine: &mut Engine<MemoryFiles>) -> Result<bool> {
     )
 }
 
+/// Tests that an engine can have hundreds of append files.
 #[test]
 fn an_engine_goes_on_to_300_append_files(rt: HostRuntime) {
     assert!(rt; holds!(has_many_files(rt.alloc())));
@@ -390,6 +414,7 @@ pub(crate) fn engine_with_texts(alloc: Global) -> Result<Engine<MemoryFiles>> {
     Ok(engine)
 }
 
+/// Writes each of [`TEXTS`] as an entry, and begins a new file after each second one.
 fn write_each_text(alloc: Global, engine: &mut Engine<MemoryFiles>) -> Result<()> {
     for (index, text) in (1u64..).zip(&TEXTS) {
         write_batch(engine, batch_with_text(alloc, index, text)?, false)?;
@@ -440,6 +465,7 @@ fn is_text_in_part(
     Ok(entry_bytes(alloc, block, entry)? == text.as_bytes())
 }
 
+/// Tests whether the append files of `engine` have each of [`TEXTS`] at the place of its entry.
 fn are_texts_at_places_of(alloc: Global, engine: &Engine<MemoryFiles>) -> Result<bool> {
     for (index, text) in (1u64..).zip(&TEXTS) {
         if !is_text_at_place(alloc, engine, index, text)? {
@@ -455,6 +481,7 @@ fn are_texts_at_places(alloc: Global) -> Result<bool> {
     are_texts_at_places_of(alloc, &engine)
 }
 
+/// Tests that the append files have the bytes of each entry at the place that the tables name.
 #[test]
 fn the_bytes_of_entries_stand_at_their_places(rt: HostRuntime) {
     assert!(rt; holds!(are_texts_at_places(rt.alloc())));

@@ -18,11 +18,17 @@ fn does_history_end_so(alloc: Global, case: &Case) -> Result<bool> {
     does_history_end_so_in(&mut engine, case)
 }
 
+/// Takes the steps of `case`. Tests whether the tables and the files hold what it says.
 fn does_history_end_so_in(engine: &mut Engine, case: &Case) -> Result<bool> {
     take_steps(engine, case.steps)?;
     Ok(is_text_kept(engine, case.kept)? && is_text_recovered(engine, case.found)?)
 }
 
+/// Takes `steps` one after another.
+///
+/// # Errors
+///
+/// That of the first step that fails; no further one is taken then.
 fn take_steps(engine: &mut Engine, steps: &[Step]) -> Result<()> {
     for step in steps {
         engine.take_step(step)?;
@@ -79,6 +85,7 @@ fn assert_all_end_so(rt: &impl Abort, alloc: Global, table: &str, cases: &[Case]
     }
 }
 
+/// Tests what each history keeps in its tables, and what a restart finds.
 #[test]
 fn histories_end_as_their_cases_say(rt: HostRuntime) {
     assert_all_end_so(&rt, rt.alloc(), "removals", removals::cases());
@@ -87,6 +94,7 @@ fn histories_end_as_their_cases_say(rt: HostRuntime) {
     assert_all_end_so(&rt, rt.alloc(), "failures", failures::cases());
 }
 
+/// Tests that a move is refused of entries that were replaced after they were read.
 #[test]
 fn replaced_entries_are_not_moved(rt: HostRuntime) {
     for (row, steps) in histories_with_refused_last_step().iter().enumerate() {
@@ -97,6 +105,7 @@ fn replaced_entries_are_not_moved(rt: HostRuntime) {
     }
 }
 
+/// Tests that an entry can't be read whose file was deleted too early.
 #[test]
 fn entries_of_deleted_files_are_missed(rt: HostRuntime) {
     for (row, steps) in histories_that_miss_a_file().iter().enumerate() {
@@ -120,6 +129,8 @@ fn does_restart_refuse_untested(alloc: Global) -> Result<bool> {
     does_restart_refuse_untested_in(&mut engine)
 }
 
+/// Writes a hole to `engine`: once tested, which is refused, and once not. Tests whether a restart refuses the files
+/// then.
 fn does_restart_refuse_untested_in(engine: &mut Engine) -> Result<bool> {
     let tested = is_corruption(engine.write_tested(1, &[Entries(4, 6)]))?;
     let found = is_text_recovered(engine, "[1,3)")?;
@@ -133,6 +144,8 @@ fn is_prefix_found_once_cut(alloc: Global) -> Result<bool> {
     is_prefix_found_once_cut_in(&mut engine)
 }
 
+/// Tears the last batch of `engine` off. Tests whether a restart refuses the file, and finds its prefix once the tail
+/// is cut off.
 fn is_prefix_found_once_cut_in(engine: &mut Engine) -> Result<bool> {
     engine.take_step(&Append(1, &[Entries(3, 4)]))?;
     engine.drop_last_byte();
@@ -147,6 +160,7 @@ fn is_changed_byte_found_on_read(alloc: Global) -> Result<bool> {
     is_changed_byte_found_on_read_in(&mut engine)
 }
 
+/// Changes a byte of an entry. Tests whether a restart passes it, and a read of the entry refuses it.
 fn is_changed_byte_found_on_read_in(engine: &mut Engine) -> Result<bool> {
     let read = engine.read_entry_bytes(1)?.as_slice() == b"x".as_slice();
     engine.flip_bit(16);
@@ -160,6 +174,7 @@ fn is_torn_batch_with_batch_in_entry_cut(alloc: Global) -> Result<bool> {
     is_torn_batch_with_batch_in_entry_cut_in(&mut engine)
 }
 
+/// Writes a batch whose entry's bytes are a batch, and tears it. Tests whether it is cut off.
 fn is_torn_batch_with_batch_in_entry_cut_in(engine: &mut Engine) -> Result<bool> {
     engine.append_batch_in_entry(3)?;
     let whole = is_text_recovered(engine, "[1,4)")?;
@@ -175,6 +190,7 @@ fn is_nothing_cut_if_damaged(alloc: Global) -> Result<bool> {
     is_nothing_cut_if_damaged_in(&mut engine)
 }
 
+/// Changes a byte of the first of two batches. Tests whether the file is refused, and nothing cut off.
 fn is_nothing_cut_if_damaged_in(engine: &mut Engine) -> Result<bool> {
     engine.take_step(&Append(1, &[Entries(3, 4)]))?;
     let whole = is_text_recovered(engine, "[1,4)")?;
@@ -196,6 +212,7 @@ fn engine_with_unsynced_batches(alloc: Global) -> Result<(Engine, usize, usize)>
     Ok((engine, first, second))
 }
 
+/// Syncs `engine`, and writes two batches that aren't synced. Returns the offset of each.
 fn write_unsynced_batches(engine: &mut Engine) -> Result<(usize, usize)> {
     engine.take_step(&Sync(LogQueue::Append))?;
     let first = engine.last_file_len();
@@ -213,6 +230,7 @@ fn is_nothing_cut_for_hole(alloc: Global) -> Result<bool> {
     is_cut_refused(&mut engine)
 }
 
+/// Tests whether a cut of the last file is refused, and leaves the file as it was.
 fn is_cut_refused(engine: &mut Engine) -> Result<bool> {
     let len = engine.last_file_len();
     let cut = is_corruption(engine.cut_tail())?;
@@ -264,6 +282,7 @@ fn offsets_of_unsynced_batches(alloc: Global) -> Result<(usize, usize, usize)> {
     Ok((first, second, engine.last_file_len()))
 }
 
+/// Tests whether the first `end` bytes of the file, once their torn tail is cut off, give `found`.
 fn is_prefix_opened(alloc: Global, end: usize, found: &str) -> Result<bool> {
     let (mut engine, _, _) = engine_with_unsynced_batches(alloc)?;
     engine.drop_bytes_from(end);
@@ -278,6 +297,7 @@ fn is_synced_found_without_page(alloc: Global) -> Result<bool> {
     does_cut_leave_text(&mut engine, "[1,4)")
 }
 
+/// Tests that a hole and a torn tail are found by restarts, and a changed byte of an entry by a read.
 #[test]
 fn damage_is_found_by_restarts_and_reads(rt: HostRuntime) {
     let alloc = rt.alloc();
@@ -286,6 +306,7 @@ fn damage_is_found_by_restarts_and_reads(rt: HostRuntime) {
     assert!(rt; holds!(is_changed_byte_found_on_read(alloc)));
 }
 
+/// Tests that a torn batch is cut off, and a damaged one before a whole one isn't.
 #[test]
 fn torn_tails_are_told_from_damage(rt: HostRuntime) {
     let alloc = rt.alloc();
@@ -293,6 +314,7 @@ fn torn_tails_are_told_from_damage(rt: HostRuntime) {
     assert!(rt; holds!(is_nothing_cut_if_damaged(alloc)));
 }
 
+/// Tests what is left of two unsynced batches: prefixes are opened, a lost page between them is refused.
 #[test]
 fn prefixes_are_opened_and_holes_refused(rt: HostRuntime) {
     let alloc = rt.alloc();

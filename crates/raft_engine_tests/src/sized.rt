@@ -25,37 +25,48 @@ struct UnreadFiles {
 impl EngineFiles for UnreadFiles {
     ghost asked = { λ files. files.asked.asks };
 
+    /// Notes the call. The bytes are kept nowhere.
     fn append(&mut self, queue: LogQueue, bytes: &[u8]) -> Result<()> {
         self.asked.put(queue, bytes);
         Ok(())
     }
 
+    /// Notes the call.
     fn rotate(&mut self, queue: LogQueue, seq: FileSeq) -> Result<()> {
         self.asked.begin(queue, seq);
         Ok(())
     }
 
+    /// Notes the call.
     fn sync(&mut self, queue: LogQueue) -> Result<()> {
         self.asked.sync(queue);
         Ok(())
     }
 
+    /// Notes the call.
     fn delete_oldest(&mut self, queue: LogQueue) -> Result<()> {
         self.asked.delete(queue);
         Ok(())
     }
 
+    /// Notes the call.
     fn truncate(&mut self, queue: LogQueue, len: u64) -> Result<()> {
         self.asked.cut(queue, len);
         Ok(())
     }
 
+    /// Reads nothing.
+    ///
+    /// # Errors
+    ///
+    /// `Failed`, always.
     fn read(&mut self, _place: FileBlockHandle) -> Result<Vec<u8>> {
         Err(Error::Failed)
     }
 }
 
 impl NotesFound for UnreadFiles {
+    /// Takes `found` for what was asked of the files so far.
     fn note_found(&mut self, found: Asked) {
         self.asked = found;
     }
@@ -73,6 +84,11 @@ struct TwoFiles {
 }
 
 impl ReadFiles for TwoFiles {
+    /// Appends at most `len` bytes of `file` from `offset` on to `bytes`; fewer if it ends before.
+    ///
+    /// # Errors
+    ///
+    /// `TimedOut` for offsets from which reads fail; lack of memory.
     fn read(&self, file: FileId, offset: u64, len: usize, bytes: &mut Vec<u8>) -> io::Result<()> {
         if offset >= self.fails_from {
             return Err(io::Error::from(ErrorKind::TimedOut));
@@ -156,6 +172,7 @@ fn open_two_files<R: Threads + Sync>(
     open_in_pieces(rt, alloc, mode, Version::V2, files, held, &sizes, &[], 4)
 }
 
+/// Returns the number and the length of a file.
 fn file_size(seq: FileSeq, len: usize) -> FileSize {
     FileSize {
         seq,
@@ -181,6 +198,7 @@ fn is_row_opened<R: Threads + Sync>(
     }
 }
 
+/// Tests whether the two files are opened as each row says.
 fn are_rows_opened<R: Threads + Sync>(rt: &R, alloc: Global) -> Result<bool> {
     let (first, second) = bytes_of_two_files(alloc)?;
     for row in &ROWS {
@@ -192,6 +210,7 @@ fn are_rows_opened<R: Threads + Sync>(rt: &R, alloc: Global) -> Result<bool> {
     Ok(true)
 }
 
+/// Tests openings that read files piece by piece, also of files that are torn or fail to be read.
 #[test]
 fn files_are_opened_in_pieces(rt: HostRuntime) {
     assert!(rt; holds!(are_rows_opened(&rt, rt.alloc())));

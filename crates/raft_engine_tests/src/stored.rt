@@ -20,6 +20,7 @@ fn engine_with_two_batches(alloc: Global) -> Result<Engine<MemoryFiles>> {
     Ok(engine)
 }
 
+/// Writes two batches, each to an append file of its own, and syncs them.
 fn write_two_batches(alloc: Global, engine: &mut Engine<MemoryFiles>) -> Result<()> {
     write_batch(engine, batch_of_entry_and_key(alloc)?, true)?;
     rotate(engine)?;
@@ -61,6 +62,7 @@ fn are_batches_found<R: Threads + Sync>(rt: &R, alloc: Global) -> Result<bool> {
     has_files_and_tables(rt, alloc, &engine)
 }
 
+/// Tests whether `engine` has just the files and the tables that were written, and a recovery gives these.
 fn has_files_and_tables<R: Threads + Sync>(
     rt: &R,
     alloc: Global,
@@ -74,11 +76,13 @@ fn has_files_and_tables<R: Threads + Sync>(
     )
 }
 
+/// Tests whether the append files are just those of [`expected_files`].
 fn has_files(alloc: Global, engine: &Engine<MemoryFiles>) -> Result<bool> {
     let append = copy_queue_files(alloc, engine, LogQueue::Append)?;
     Ok(append == expected_files(alloc)?)
 }
 
+/// Tests whether a recovery of the files of `engine` gives the tables that were written.
 fn are_tables_recovered<R: Threads + Sync>(
     rt: &R,
     alloc: Global,
@@ -94,6 +98,8 @@ fn are_tables_recovered<R: Threads + Sync>(
     are_lines_printed(alloc, &found, WRITTEN)
 }
 
+/// Tests that the append files have just the bytes of the batches, and that a recovery gives the tables of the
+/// engine.
 #[test]
 fn what_an_engine_wrote_is_found(rt: HostRuntime) {
     assert!(rt; holds!(are_batches_found(&rt, rt.alloc())));
@@ -105,11 +111,13 @@ fn are_reads_right(alloc: Global) -> Result<bool> {
     Ok(has_value(&engine) && has_indexes(&engine))
 }
 
+/// Tests whether region 7 has the value `v` of the key `k`, and region 8 none.
 fn has_value(engine: &Engine<MemoryFiles>) -> bool {
     let value = engine.get(7, b"k");
     matches!(value, Some(b"v")) && engine.get(8, b"k").is_none()
 }
 
+/// Tests whether region 7 has the entry 1 alone, and region 8 none.
 fn has_indexes(engine: &Engine<MemoryFiles>) -> bool {
     engine.first_index(7) == Some(1)
         && engine.last_index(7) == Some(1)
@@ -117,6 +125,7 @@ fn has_indexes(engine: &Engine<MemoryFiles>) -> bool {
         && engine.last_index(8).is_none()
 }
 
+/// Tests the value, the indexes and the entries of a region that is there, and of one that isn't.
 #[test]
 fn an_engine_returns_what_it_has_of_a_region(rt: HostRuntime) {
     assert!(rt; holds!(are_reads_right(rt.alloc())));
@@ -128,6 +137,8 @@ fn is_hole_refused(alloc: Global) -> Result<bool> {
     is_hole_refused_in(alloc, &mut engine)
 }
 
+/// Tests whether `engine` refuses an entry that leaves a hole, leaves its files as they were, and takes the next
+/// entry.
 fn is_hole_refused_in(alloc: Global, engine: &mut Engine<MemoryFiles>) -> Result<bool> {
     if !is_corruption(write_batch(engine, batch_with_text(alloc, 3, "three")?, true))? {
         return Ok(false);
@@ -137,6 +148,7 @@ fn is_hole_refused_in(alloc: Global, engine: &mut Engine<MemoryFiles>) -> Result
     Ok(has_same_files && engine.is_intact() && engine.last_index(7) == Some(2))
 }
 
+/// Tests that an engine refuses an entry that would leave a hole, and takes further calls.
 #[test]
 fn an_engine_refuses_a_hole_and_serves_on(rt: HostRuntime) {
     assert!(rt; holds!(is_hole_refused(rt.alloc())));

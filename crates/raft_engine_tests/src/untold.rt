@@ -64,6 +64,7 @@ static REMOVALS: [Removal; 7] = [
     },
 ];
 
+/// Tests whether two lists of files have the same numbers and the same bytes.
 fn have_same_bytes(some: &LogFiles, others: &LogFiles) -> bool {
     if some.len() != others.len() {
         return false;
@@ -76,6 +77,7 @@ fn have_same_bytes(some: &LogFiles, others: &LogFiles) -> bool {
     true
 }
 
+/// Tests whether two engines have the same files of `queue`.
 fn has_same_files_in_queue(
     engine: &Engine<MemoryFiles>,
     other: &Engine<MemoryFiles>,
@@ -115,6 +117,8 @@ fn is_removal_told_by_purge<R: Threads + Sync>(
     is_removal_told_in(rt, alloc, &mut opened, engine, removal)
 }
 
+/// Begins an append file of `opened`, and purges. Tests whether one file is deleted, the rewrite queue has been told,
+/// and a restart finds what `removal` leaves.
 fn is_removal_told_in<R: Threads + Sync>(
     rt: &R,
     alloc: Global,
@@ -132,6 +136,7 @@ fn is_removal_told_in<R: Threads + Sync>(
     )
 }
 
+/// Tests [`is_removal_told_later_in`] with an engine that moved its records.
 fn is_removal_told_later<R: Threads + Sync>(
     rt: &R,
     alloc: Global,
@@ -141,6 +146,7 @@ fn is_removal_told_later<R: Threads + Sync>(
     is_removal_told_later_in(rt, alloc, &mut engine, removal)
 }
 
+/// Writes the batch of `removal`. Tests whether an opening changes nothing, and a purge tells the rewrite queue.
 fn is_removal_told_later_in<R: Threads + Sync>(
     rt: &R,
     alloc: Global,
@@ -154,6 +160,8 @@ fn is_removal_told_later_in<R: Threads + Sync>(
     )
 }
 
+/// Tests that an opening asks for no change of the files, and that a purge tells the rewrite queue what was taken
+/// away.
 #[test]
 fn an_opening_leaves_files_as_they_were(rt: HostRuntime) {
     for (row, removal) in REMOVALS.iter().enumerate() {
@@ -170,6 +178,7 @@ fn is_empty_queue_told_nothing<R: Threads + Sync>(rt: &R, alloc: Global) -> Resu
     is_empty_queue_told_nothing_in(rt, alloc, &mut engine)
 }
 
+/// Writes records and a `Clean` to `engine`. Tests whether a purge of an engine over its files tells nothing.
 fn is_empty_queue_told_nothing_in<R: Threads + Sync>(
     rt: &R,
     alloc: Global,
@@ -181,6 +190,8 @@ fn is_empty_queue_told_nothing_in<R: Threads + Sync>(
     does_purge_tell_nothing(&mut opened, engine)
 }
 
+/// Begins an append file of `opened`, and purges. Tests whether one file is deleted, and the rewrite queue is as that
+/// of `engine`.
 fn does_purge_tell_nothing(
     opened: &mut Engine<MemoryFiles>,
     engine: &Engine<MemoryFiles>,
@@ -192,6 +203,7 @@ fn does_purge_tell_nothing(
     )
 }
 
+/// Tests that a rewrite queue without records isn't told what the append queue takes away.
 #[test]
 fn an_empty_rewrite_queue_is_told_nothing(rt: HostRuntime) {
     assert!(rt; holds!(is_empty_queue_told_nothing(&rt, rt.alloc())));
@@ -208,11 +220,14 @@ fn is_dropped_prefix_told_at_once<R: Threads + Sync>(rt: &R, alloc: Global) -> R
     is_hole_told(rt, alloc, &opened, &rewritten)
 }
 
+/// Writes [10,12), and returns a copy of the append files.
 fn files_appended_behind_hole(alloc: Global, engine: &mut Engine<MemoryFiles>) -> Result<LogFiles> {
     write_parts(alloc, engine, &[Entries(10, 12)], true)?;
     copy_files(engine, LogQueue::Append)
 }
 
+/// Tests whether `opened` has told its rewrite queue more than `rewritten` had, and holds [10,12), and a further
+/// opening changes nothing.
 fn is_hole_told<R: Threads + Sync>(
     rt: &R,
     alloc: Global,
@@ -226,6 +241,7 @@ fn is_hole_told<R: Threads + Sync>(
     )
 }
 
+/// Tests that an opening tells the rewrite queue at once that its entries are dropped by those behind a hole.
 #[test]
 fn dropped_entries_before_a_hole_are_told_at_once(rt: HostRuntime) {
     assert!(rt; holds!(is_dropped_prefix_told_at_once(&rt, rt.alloc())));

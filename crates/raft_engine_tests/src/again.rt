@@ -6,9 +6,10 @@ ghost use Rattle.std.specs.Prelude.{◌≡◌};
 use crate::batches::Part;
 use crate::batches::Part::{Clean, Compact, Delete, Entries, Medium, Put, Truncate};
 use crate::calls::{
-    count_files, holds, open, purge, purge_rewrites, rewrite, rewrite_again, rotate, write,
+    count_files, holds, open_copies, purge_append_files, purge_rewrite_files, rewrite_again,
+    rewrite_up_to, rotate, write_parts,
 };
-use crate::reopened::{holds, is_found, moved};
+use crate::reopened::{engine_with_moved_records, has_text, is_found_reopened};
 use raft_base::{FileBlockHandle, FileSeq, LogQueue, Version};
 use raft_engine::Engine;
 use raft_files::{AppendError, EngineFiles, MemoryFiles};
@@ -29,69 +30,75 @@ static CHANGES: [(&[Part], &str); 8] = [
 ];
 
 /// Tests whether a purge deletes `deleted` rewrite files, and leaves one.
-fn leaves_one(engine: &mut Engine<MemoryFiles>, deleted: usize) -> Result<bool> {
-    Ok(purge_rewrites(engine)? == deleted && count_files(engine, LogQueue::Rewrite) == 1)
+fn does_purge_leave_one_rewrite_file(
+    engine: &mut Engine<MemoryFiles>,
+    deleted: usize,
+) -> Result<bool> {
+    Ok(purge_rewrite_files(engine)? == deleted && count_files(engine, LogQueue::Rewrite) == 1)
 }
 
 /// Moves the rewritten records to a new rewrite file, and purges the older one. Tests whether a restart finds `left` after
 /// each of both.
-pub fn is_found_again<R: Threads + Sync>(
+pub fn is_found_after_moves_and_purges<R: Threads + Sync>(
     rt: &R,
     alloc: Global,
     engine: &mut Engine<MemoryFiles>,
     left: &str,
 ) -> Result<bool> {
     rewrite_again(engine)?;
-    let moved = is_found(rt, alloc, engine, left)?;
+    let moved = is_found_reopened(rt, alloc, engine, left)?;
     Ok(
         moved
-            && leaves_one(engine, 1)?
-            && leaves_one(engine, 0)?
-            && holds(alloc, engine, left)?
-            && is_found(rt, alloc, engine, left)?,
+            && does_purge_leave_one_rewrite_file(engine, 1)?
+            && does_purge_leave_one_rewrite_file(engine, 0)?
+            && has_text(alloc, engine, left)?
+            && is_found_reopened(rt, alloc, engine, left)?,
     )
 }
 
 /// Moves all that the append files have to the rewrite queue, and purges them. Returns whether one append file is left.
-pub fn empty_append_files(engine: &mut Engine<MemoryFiles>) -> Result<bool> {
+pub fn move_and_purge_append_files(engine: &mut Engine<MemoryFiles>) -> Result<bool> {
     rotate(engine)?;
-    rewrite(engine, FileSeq::MAX)?;
-    purge(engine)?;
+    rewrite_up_to(engine, FileSeq::MAX)?;
+    purge_append_files(engine)?;
     Ok(count_files(engine, LogQueue::Append) == 1)
 }
 
 /// Writes `parts` to an engine whose records have moved. Tests whether restarts find `left`: after the rewritten records have
 /// moved again, and once more after all has moved out of the append files.
-fn change_stays<R: Threads + Sync>(
+fn does_change_stay<R: Threads + Sync>(
     rt: &R,
     alloc: Global,
     parts: &[Part],
     left: &str,
 ) -> Result<bool> {
-    let mut engine = moved(alloc)?;
-    change_stays_in(rt, alloc, &mut engine, parts, left)
+    let mut engine = engine_with_moved_records(alloc)?;
+    does_change_stay_in(rt, alloc, &mut engine, parts, left)
 }
 
-fn change_stays_in<R: Threads + Sync>(
+/// Writes `parts` to `engine`. Tests whether restarts find `left`, as [`does_change_stay`] says.
+fn does_change_stay_in<R: Threads + Sync>(
     rt: &R,
     alloc: Global,
     engine: &mut Engine<MemoryFiles>,
     parts: &[Part],
     left: &str,
 ) -> Result<bool> {
-    write(alloc, engine, parts, false)?;
+    write_parts(alloc, engine, parts, false)?;
     Ok(
-        is_found_again(rt, alloc, engine, left)?
-            && empty_append_files(engine)?
-            && is_found_again(rt, alloc, engine, left)?,
+        is_found_after_moves_and_purges(rt, alloc, engine, left)?
+            && move_and_purge_append_files(engine)?
+            && is_found_after_moves_and_purges(rt, alloc, engine, left)?,
     )
 }
 
+/// Tests that what each change leaves is found by restarts after the records have moved twice, and older files are
+/// deleted.
 #[test]
-fn records_move_again(rt: HostRuntime) {
+fn what_changes_leave_stays_when_records_move_again(rt: HostRuntime) {
     for (row, (parts, left)) in CHANGES.iter().enumerate() {
         assert!(rt;
-            holds!(change_stays(&rt, rt.alloc(), parts, left)),
+            holds!(does_change_stay(&rt, rt.alloc(), parts, left)),
             "row {row}"
         );
     }
@@ -112,7 +119,7 @@ impl Failing {
     /// # Errors
     ///
     /// `Failed` if no call is left.
-    fn call(&mut self) -> Result<()>
+    fn count_call(&mut self) -> Result<()>
         ensures { self.new.files ≡ self.old.files }
     {
         if self.left == 0 {
@@ -126,41 +133,71 @@ impl Failing {
 impl EngineFiles for Failing {
     ghost asked = { λ f. f.files };
 
+    /// Counts the call, and appends `bytes` to the last file of `queue`.
+    ///
+    /// # Errors
+    ///
+    /// `InPart` with `Failed` once no calls are left; those of the files in memory.
     fn append(&mut self, queue: LogQueue, bytes: &[u8]) -> std::result::Result<(), AppendError> {
-        match self.call() {
+        match self.count_call() {
             Ok(()) => self.files.append(queue, bytes),
             Err(error) => Err(AppendError::InPart(error)),
         }
     }
 
+    /// Counts the call, and begins the file `seq` of `queue`.
+    ///
+    /// # Errors
+    ///
+    /// `Failed` once no calls are left; those of the files in memory.
     fn rotate(&mut self, queue: LogQueue, seq: FileSeq) -> Result<()> {
-        self.call()?;
+        self.count_call()?;
         self.files.rotate(queue, seq)
     }
 
+    /// Counts the call, and syncs `queue`.
+    ///
+    /// # Errors
+    ///
+    /// `Failed` once no calls are left.
     fn sync(&mut self, queue: LogQueue) -> Result<()> {
-        self.call()?;
+        self.count_call()?;
         self.files.sync(queue)
     }
 
+    /// Counts the call, and deletes the oldest file of `queue`.
+    ///
+    /// # Errors
+    ///
+    /// `Failed` once no calls are left; those of the files in memory.
     fn delete_oldest(&mut self, queue: LogQueue) -> Result<()> {
-        self.call()?;
+        self.count_call()?;
         self.files.delete_oldest(queue)
     }
 
+    /// Counts the call, and cuts the last file of `queue` to `len` bytes.
+    ///
+    /// # Errors
+    ///
+    /// `Failed` once no calls are left; those of the files in memory.
     fn truncate(&mut self, queue: LogQueue, len: u64) -> Result<()> {
-        self.call()?;
+        self.count_call()?;
         self.files.truncate(queue, len)
     }
 
+    /// Counts the call, and returns the bytes at `place`.
+    ///
+    /// # Errors
+    ///
+    /// `Failed` once no calls are left; those of the files in memory.
     fn read(&mut self, place: FileBlockHandle) -> Result<Vec<u8>> {
-        self.call()?;
+        self.count_call()?;
         self.files.read(place)
     }
 }
 
 /// Makes an engine over files of which `left` calls succeed.
-fn new_failing(alloc: Global, left: usize) -> Result<Engine<Failing>> {
+fn new_engine_over_failing(alloc: Global, left: usize) -> Result<Engine<Failing>> {
     let files = Failing {
         files: MemoryFiles::new(alloc),
         left,
@@ -169,11 +206,15 @@ fn new_failing(alloc: Global, left: usize) -> Result<Engine<Failing>> {
 }
 
 /// Makes an engine that wrote the parts `entries`, a batch each, and `k=v`. Of its files `left` further calls succeed.
-fn started(alloc: Global, left: usize, entries: &[Part]) -> Result<Engine<Failing>> {
+fn engine_with_entries_and_key(
+    alloc: Global,
+    left: usize,
+    entries: &[Part],
+) -> Result<Engine<Failing>> {
     let calls = entries.len().saturating_add(4);
-    let mut engine = new_failing(alloc, left.saturating_add(calls))?;
+    let mut engine = new_engine_over_failing(alloc, left.saturating_add(calls))?;
     write_each(alloc, &mut engine, entries)?;
-    write(alloc, &mut engine, &[Put("v")], true)?;
+    write_parts(alloc, &mut engine, &[Put("v")], true)?;
     Ok(engine)
 }
 
@@ -184,19 +225,19 @@ pub fn write_each<F: EngineFiles>(
     parts: &[Part],
 ) -> Result<()> {
     for part in parts {
-        write(alloc, engine, &[*part], false)?;
+        write_parts(alloc, engine, &[*part], false)?;
     }
     Ok(())
 }
 
 /// Moves all records out of the append files, and then to a new rewrite file; purges both queues. Returns how many rewrite
 /// files were deleted.
-fn move_twice(engine: &mut Engine<Failing>) -> Result<usize> {
+fn move_twice_and_purge(engine: &mut Engine<Failing>) -> Result<usize> {
     rotate(engine)?;
-    rewrite(engine, FileSeq::MAX)?;
-    purge(engine)?;
+    rewrite_up_to(engine, FileSeq::MAX)?;
+    purge_append_files(engine)?;
     rewrite_again(engine)?;
-    purge_rewrites(engine)
+    purge_rewrite_files(engine)
 }
 
 /// Records that move while files fail.
@@ -226,29 +267,31 @@ static MOVING: [Moving; 2] = [
 
 /// Moves the records of `moving` over files of which `left` calls succeed. Returns whether the files failed, and whether a
 /// restart finds all records then.
-fn finds_after<R: Threads + Sync>(
+fn is_found_after_failure<R: Threads + Sync>(
     rt: &R,
     alloc: Global,
     left: usize,
     moving: &Moving,
 ) -> Result<(bool, bool)> {
-    let mut engine = started(alloc, left, moving.entries)?;
-    finds_moved(rt, alloc, &mut engine, moving.text)
+    let mut engine = engine_with_entries_and_key(alloc, left, moving.entries)?;
+    are_moved_records_found(rt, alloc, &mut engine, moving.text)
 }
 
-fn finds_moved<R: Threads + Sync>(
+/// Moves the records of `engine` twice. Returns whether the files failed, and whether an engine over copies of them
+/// holds `text`.
+fn are_moved_records_found<R: Threads + Sync>(
     rt: &R,
     alloc: Global,
     engine: &mut Engine<Failing>,
     text: &str,
 ) -> Result<(bool, bool)> {
-    let failed = has_failed(move_twice(engine))?;
-    let found = is_found_in(rt, alloc, &engine.files().files, text)?;
+    let failed = have_files_failed(move_twice_and_purge(engine))?;
+    let found = is_text_found_in(rt, alloc, &engine.files().files, text)?;
     Ok((failed, found))
 }
 
 /// Returns whether the files failed. Any other error is passed on.
-fn has_failed(moved: Result<usize>) -> Result<bool> {
+fn have_files_failed(moved: Result<usize>) -> Result<bool> {
     match moved {
         Ok(_) => Ok(false),
         Err(Error::Failed) => Ok(true),
@@ -257,34 +300,35 @@ fn has_failed(moved: Result<usize>) -> Result<bool> {
 }
 
 /// Tests whether an engine that is opened over copies of `files` holds `text`.
-fn is_found_in<R: Threads + Sync>(
+fn is_text_found_in<R: Threads + Sync>(
     rt: &R,
     alloc: Global,
     files: &MemoryFiles,
     text: &str,
 ) -> Result<bool> {
-    let found = opened(rt, alloc, files)?;
-    holds(alloc, &found, text)
+    let found = open_over_copies(rt, alloc, files)?;
+    has_text(alloc, &found, text)
 }
 
-fn opened<R: Threads + Sync>(
+/// Opens an engine over copies of `files`, with two workers.
+fn open_over_copies<R: Threads + Sync>(
     rt: &R,
     alloc: Global,
     files: &MemoryFiles,
 ) -> Result<Engine<MemoryFiles>> {
     let append = files.copies(LogQueue::Append)?;
-    open(rt, alloc, append, files.copies(LogQueue::Rewrite)?)
+    open_copies(rt, alloc, append, files.copies(LogQueue::Rewrite)?)
 }
 
 /// Returns how many calls of the files the move takes, if after each smaller number of calls a restart finds all records; else
 /// `None`.
-fn calls_to_move<R: Threads + Sync>(
+fn count_calls_to_move<R: Threads + Sync>(
     rt: &R,
     alloc: Global,
     moving: &Moving,
 ) -> Result<Option<usize>> {
     for left in 0usize..40 {
-        let (failed, found) = finds_after(rt, alloc, left, moving)?;
+        let (failed, found) = is_found_after_failure(rt, alloc, left, moving)?;
         if !found {
             return Ok(None);
         }
@@ -296,15 +340,16 @@ fn calls_to_move<R: Threads + Sync>(
 }
 
 /// Tests whether the move takes as many calls as `moving` says, and loses nothing if it is cut short.
-fn moves_in_calls<R: Threads + Sync>(rt: &R, alloc: Global, moving: &Moving) -> Result<bool> {
-    Ok(calls_to_move(rt, alloc, moving)? == Some(moving.calls))
+fn does_move_take_calls<R: Threads + Sync>(rt: &R, alloc: Global, moving: &Moving) -> Result<bool> {
+    Ok(count_calls_to_move(rt, alloc, moving)? == Some(moving.calls))
 }
 
+/// Tests that moves that are cut short by failing files, at each of their calls, lose no record.
 #[test]
 fn files_that_fail_lose_nothing(rt: HostRuntime) {
     for moving in &MOVING {
         assert!(rt;
-            holds!(moves_in_calls(&rt, rt.alloc(), moving)),
+            holds!(does_move_take_calls(&rt, rt.alloc(), moving)),
             "{}",
             moving.text
         );

@@ -45,7 +45,7 @@ static MEDIUM: [u8; 1_500] = [b'x'; 1_500];
 static LARGE: [u8; 3_072] = [b'x'; 3_072];
 
 /// Returns an open batch with one entry of `region`, which has these bytes.
-pub fn batch_with(alloc: Global, region: u64, index: u64, bytes: Vec<u8>) -> Result<LogBatch>
+pub fn batch_with_entry(alloc: Global, region: u64, index: u64, bytes: Vec<u8>) -> Result<LogBatch>
     ensures { IfOk result (λ batch. batch.stage ≡ is_open) }
 {
     let bytes = vec![in alloc; bytes]?;
@@ -63,7 +63,7 @@ pub fn batch_with(alloc: Global, region: u64, index: u64, bytes: Vec<u8>) -> Res
 }
 
 /// Returns the bytes of a batch, signed for `file`.
-pub fn bytes_for(alloc: Global, mut batch: LogBatch, file: FileId) -> Result<Vec<u8>> {
+pub fn bytes_signed_for(alloc: Global, mut batch: LogBatch, file: FileId) -> Result<Vec<u8>> {
     if !batch.is_open() {
         return Err(Error::Failed);
     }
@@ -73,31 +73,36 @@ pub fn bytes_for(alloc: Global, mut batch: LogBatch, file: FileId) -> Result<Vec
 }
 
 /// Returns an open batch of these items, in order.
-pub fn batch_of(alloc: Global, parts: &[Part]) -> Result<LogBatch>
+pub fn batch_of_parts(alloc: Global, parts: &[Part]) -> Result<LogBatch>
     ensures { IfOk result (λ batch. batch.stage ≡ is_open) }
 {
     let mut batch = LogBatch::default(alloc);
     for part in parts {
-        add(alloc, &mut batch, *part)?;
+        add_part(alloc, &mut batch, *part)?;
     }
     Ok(batch)
 }
 
-fn add(alloc: Global, batch: &mut LogBatch, part: Part) -> Result<()>
+/// Adds what `part` stands for to `batch`, which must be open.
+///
+/// # Errors
+///
+/// Those of the batch's call. The batch is still open then.
+fn add_part(alloc: Global, batch: &mut LogBatch, part: Part) -> Result<()>
     requires { batch.old.stage ≡ is_open }
     ensures { OnOk result (batch.new.stage ≡ is_open) }
 {
     match part {
         Part::Entries(first, end) => {
-            let entries = entries_from(alloc, first, end, b"x")?;
+            let entries = proposals_between(alloc, first, end, b"x")?;
             batch.add_entries::<Proposals>(REGION, entries.as_slice())
         }
         Part::Medium(first, end) => {
-            let entries = entries_from(alloc, first, end, &MEDIUM)?;
+            let entries = proposals_between(alloc, first, end, &MEDIUM)?;
             batch.add_entries::<Proposals>(REGION, entries.as_slice())
         }
         Part::Large(first, end) => {
-            let entries = entries_from(alloc, first, end, &LARGE)?;
+            let entries = proposals_between(alloc, first, end, &LARGE)?;
             batch.add_entries::<Proposals>(REGION, entries.as_slice())
         }
         Part::Put(value) => {
@@ -114,7 +119,12 @@ fn add(alloc: Global, batch: &mut LogBatch, part: Part) -> Result<()>
     }
 }
 
-fn entries_from(alloc: Global, first: u64, end: u64, bytes: &[u8]) -> Result<Vec<Proposal>> {
+/// Returns an entry with these bytes for each of the indexes `first..end`.
+///
+/// # Errors
+///
+/// `Memory` alone.
+fn proposals_between(alloc: Global, first: u64, end: u64, bytes: &[u8]) -> Result<Vec<Proposal>> {
     let mut entries = Vec::new(alloc);
     for index in first..end {
         let text = Vec::from_slice(alloc, bytes)?;

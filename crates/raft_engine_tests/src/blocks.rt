@@ -1,9 +1,12 @@
 //! Tests of damaged entries in found files. In the last rewrite file they refuse the opening; in the last append file the
 //! opening names their batches; in any file the read of such an entry is refused.
 
-use crate::calls::{LogFiles, are_named, holds, open_in_mode, with_flipped};
-use crate::found::{Answer, four_files, names, one_file, says};
-use crate::reopened::holds;
+use crate::calls::{LogFiles, are_batches_named, flip_bit_of_first_file, holds, open_in_mode};
+use crate::found::{
+    Answer, file_of_three_batches, four_files_of_a_batch, is_corruption_with_text,
+    is_invalid_argument_with_text,
+};
+use crate::reopened::has_text;
 use raft_engine::{Opened, RecoveryMode};
 use raft_files::MemoryFiles;
 use raft_records::Result;
@@ -55,12 +58,13 @@ static ROWS: [Row; 8] = [
     (Files::ClosedRewrite, 16, Answer::Holds("[1,12)k=v"), &[]),
 ];
 
-fn rows() -> &'static [Row] {
+/// Returns the rows of damaged files, each with what an opening answers.
+fn rows_of_damage() -> &'static [Row] {
     &ROWS
 }
 
 /// Opens an engine over the changed files of a row in a mode.
-fn opened<R: Threads + Sync>(
+fn open_changed_files<R: Threads + Sync>(
     rt: &R,
     alloc: Global,
     mode: RecoveryMode,
@@ -68,48 +72,68 @@ fn opened<R: Threads + Sync>(
 ) -> Result<Opened<MemoryFiles>> {
     let none = Vec::new(alloc);
     let (append, rewrite): (LogFiles, LogFiles) = match row.0 {
-        Files::Append => (with_flipped(one_file(alloc)?, row.1), none),
-        Files::ClosedAppend => (with_flipped(four_files(alloc)?, row.1), none),
-        Files::LastRewrite => (none, with_flipped(one_file(alloc)?, row.1)),
-        Files::ClosedRewrite => (none, with_flipped(four_files(alloc)?, row.1)),
+        Files::Append => (
+            flip_bit_of_first_file(file_of_three_batches(alloc)?, row.1),
+            none,
+        ),
+        Files::ClosedAppend => (
+            flip_bit_of_first_file(four_files_of_a_batch(alloc)?, row.1),
+            none,
+        ),
+        Files::LastRewrite => (
+            none,
+            flip_bit_of_first_file(file_of_three_batches(alloc)?, row.1),
+        ),
+        Files::ClosedRewrite => (
+            none,
+            flip_bit_of_first_file(four_files_of_a_batch(alloc)?, row.1),
+        ),
     };
     Ok(open_in_mode(rt, alloc, mode, append, rewrite)??)
 }
 
 /// Tests whether the opened engine holds `text`, and the opening named the batches at the offsets `named`.
-fn is_held(
+fn is_held_and_named(
     alloc: Global,
     opened: Result<Opened<MemoryFiles>>,
     text: &str,
     named: &[u64],
 ) -> Result<bool> {
     let opened = opened?;
-    Ok(are_named(opened.damaged.as_slice(), named) && holds(alloc, &opened.engine, text)?)
+    Ok(
+        are_batches_named(opened.damaged.as_slice(), named)
+            && has_text(alloc, &opened.engine, text)?,
+    )
 }
 
-fn is_answered<R: Threads + Sync>(
+/// Tests whether an opening of the files of `row` in `mode` gives what the row says.
+fn is_row_answered<R: Threads + Sync>(
     rt: &R,
     alloc: Global,
     mode: RecoveryMode,
     row: &Row,
 ) -> Result<bool> {
-    let opened = opened(rt, alloc, mode, row);
+    let opened = open_changed_files(rt, alloc, mode, row);
     match &row.2 {
-        Answer::Holds(text) => is_held(alloc, opened, text, row.3),
-        Answer::Says(text) => says(opened, text),
-        Answer::Names(text) => names(opened, text),
+        Answer::Holds(text) => is_held_and_named(alloc, opened, text, row.3),
+        Answer::Says(text) => is_corruption_with_text(opened, text),
+        Answer::Names(text) => is_invalid_argument_with_text(opened, text),
     }
 }
 
+/// Tests what openings in three modes answer if entries of the last file are damaged.
 #[test]
 fn damaged_entries_of_last_files_are_refused_or_named_in_each_mode(rt: HostRuntime) {
-    for (i, row) in rows().iter().enumerate() {
+    for (i, row) in rows_of_damage().iter().enumerate() {
         for mode in [
             RecoveryMode::AbsoluteConsistency,
             RecoveryMode::TolerateTornTail,
             RecoveryMode::TolerateTailCorruption,
         ] {
-            assert!(rt; holds!(is_answered(&rt, rt.alloc(), mode, row)), "row {i}");
+            assert!(rt;
+                holds!(is_row_answered(&rt, rt.alloc(), mode, row)),
+                "row {i}"
+            );
         }
     }
 }

@@ -2,7 +2,7 @@
 //! clauses before them, and are cheap to prove. A function that drops an engine or an error is dear for each way out of it, so tests
 //! pass an engine on to a function that borrows it, mostly of the same name and `_in`, and ask here how that ended.
 
-use crate::batches::{Part, batch_of};
+use crate::batches::{Part, batch_of_parts};
 use raft_base::{FileSeq, LogQueue, Version};
 use raft_engine::{DamagedBatch, Engine, Recovered, RecoveryMode, Unopened};
 use raft_files::{EngineFiles, MemoryFiles};
@@ -39,7 +39,7 @@ pub fn new_engine(alloc: Global) -> Result<Engine<MemoryFiles>> {
 }
 
 /// Opens an engine over copies of files in memory, in the given way. The outer error is want of memory for the copies.
-pub fn open_as<R: Threads + Sync>(
+pub fn open_in_way<R: Threads + Sync>(
     rt: &R,
     alloc: Global,
     way: Way,
@@ -53,7 +53,7 @@ pub fn open_as<R: Threads + Sync>(
 }
 
 /// Opens an engine over files in a mode, with two workers. Returns what was cut off them.
-pub fn cut_of<R: Threads + Sync>(
+pub fn open_and_return_cuts<R: Threads + Sync>(
     rt: &R,
     alloc: Global,
     mode: RecoveryMode,
@@ -95,25 +95,25 @@ pub fn open_in_mode<R: Threads + Sync>(
 }
 
 /// Tests whether the batches `damaged` are those of file 1 that begin at `offsets`, in this order.
-pub fn are_named(damaged: &[DamagedBatch], offsets: &[u64]) -> bool {
+pub fn are_batches_named(damaged: &[DamagedBatch], offsets: &[u64]) -> bool {
     damaged.len() == offsets.len()
         && damaged.iter().zip(offsets).all(|(batch, offset)| batch.offset == *offset
             && batch.file == 1)
 }
 
 /// Opens an engine over copies of files in memory, with two workers.
-pub fn open<R: Threads + Sync>(
+pub fn open_copies<R: Threads + Sync>(
     rt: &R,
     alloc: Global,
     append: LogFiles,
     rewrite: LogFiles,
 ) -> Result<Engine<MemoryFiles>> {
-    let engine = open_as(rt, alloc, RIGHT, append, rewrite)??;
+    let engine = open_in_way(rt, alloc, RIGHT, append, rewrite)??;
     Ok(engine)
 }
 
 /// Opens an engine over copies of the files of another one, with two workers.
-pub fn reopened<R: Threads + Sync>(
+pub fn reopen_over_copies<R: Threads + Sync>(
     rt: &R,
     alloc: Global,
     engine: &Engine<MemoryFiles>,
@@ -122,7 +122,7 @@ pub fn reopened<R: Threads + Sync>(
 }
 
 /// Returns the tables that a recovery gives of the files of both queues.
-pub fn recovered<R: Threads + Sync>(
+pub fn recover_tables<R: Threads + Sync>(
     rt: &R,
     alloc: Global,
     append: LogFiles,
@@ -133,12 +133,17 @@ pub fn recovered<R: Threads + Sync>(
     recover_both(rt, alloc, rewrite.as_slice(), append.as_slice(), 2)
 }
 
-pub fn copies(engine: &Engine<MemoryFiles>, queue: LogQueue) -> Result<LogFiles> {
+/// Returns copies of the files of `queue`.
+///
+/// # Errors
+///
+/// `Memory` alone.
+pub fn copy_files(engine: &Engine<MemoryFiles>, queue: LogQueue) -> Result<LogFiles> {
     engine.files().copies(queue)
 }
 
 /// Returns the files with the lowest bit of the byte at position `at` of the first one changed.
-pub fn with_flipped(mut files: LogFiles, at: usize) -> LogFiles {
+pub fn flip_bit_of_first_file(mut files: LogFiles, at: usize) -> LogFiles {
     if let Some(first) = files.first_mut() {
         if let Some(byte) = first.1.get_mut(at) {
             *byte ^= 1;
@@ -152,16 +157,26 @@ pub fn count_files(engine: &Engine<MemoryFiles>, queue: LogQueue) -> usize {
     engine.files().files(queue).len()
 }
 
-pub fn write<F: EngineFiles>(
+/// Writes a batch of `parts` to `engine`, and syncs it if `sync`.
+///
+/// # Errors
+///
+/// Those of [`Engine::write`]; `Memory`.
+pub fn write_parts<F: EngineFiles>(
     alloc: Global,
     engine: &mut Engine<F>,
     parts: &[Part],
     sync: bool,
 ) -> Result<()> {
-    let mut batch = batch_of(alloc, parts)?;
+    let mut batch = batch_of_parts(alloc, parts)?;
     engine.write(&mut batch, sync)
 }
 
+/// Writes `batch` to `engine`, and syncs it if `sync`.
+///
+/// # Errors
+///
+/// Those of [`Engine::write`]; `Failed` if the batch isn't open.
 pub fn write_batch<F: EngineFiles>(
     engine: &mut Engine<F>,
     mut batch: LogBatch,
@@ -173,26 +188,56 @@ pub fn write_batch<F: EngineFiles>(
     engine.write(&mut batch, sync)
 }
 
+/// Begins a new append file of `engine`.
+///
+/// # Errors
+///
+/// Those of [`Engine::rotate`].
 pub fn rotate<F: EngineFiles>(engine: &mut Engine<F>) -> Result<()> {
     engine.rotate()
 }
 
-pub fn rewrite<F: EngineFiles>(engine: &mut Engine<F>, gate: FileSeq) -> Result<()> {
+/// Moves the records in append files numbered at or below `gate` to the rewrite queue.
+///
+/// # Errors
+///
+/// Those of [`Engine::rewrite`].
+pub fn rewrite_up_to<F: EngineFiles>(engine: &mut Engine<F>, gate: FileSeq) -> Result<()> {
     engine.rewrite(gate)
 }
 
+/// Moves the records in rewrite files to a new rewrite file.
+///
+/// # Errors
+///
+/// Those of [`Engine::rewrite_again`].
 pub fn rewrite_again<F: EngineFiles>(engine: &mut Engine<F>) -> Result<()> {
     engine.rewrite_again()
 }
 
-pub fn purge<F: EngineFiles>(engine: &mut Engine<F>) -> Result<usize> {
+/// Deletes the append files that aren't needed any more. Returns how many it deleted.
+///
+/// # Errors
+///
+/// Those of [`Engine::purge_expired_files`].
+pub fn purge_append_files<F: EngineFiles>(engine: &mut Engine<F>) -> Result<usize> {
     engine.purge_expired_files()
 }
 
-pub fn purge_rewrites<F: EngineFiles>(engine: &mut Engine<F>) -> Result<usize> {
+/// Deletes the rewrite files that aren't needed any more. Returns how many it deleted.
+///
+/// # Errors
+///
+/// Those of [`Engine::purge_rewrite_files`].
+pub fn purge_rewrite_files<F: EngineFiles>(engine: &mut Engine<F>) -> Result<usize> {
     engine.purge_rewrite_files()
 }
 
+/// Returns the bytes of the entry `index` of `region`; `None` if there is none.
+///
+/// # Errors
+///
+/// Those of [`Engine::get_entry`].
 pub fn get_entry<F: EngineFiles>(
     engine: &mut Engine<F>,
     region: u64,
@@ -201,7 +246,12 @@ pub fn get_entry<F: EngineFiles>(
     engine.get_entry(region, index)
 }
 
-pub fn fetch<F: EngineFiles>(
+/// Appends the entries of `region` in `range` to `entries`, up to `max_size` bytes. Returns how many these are.
+///
+/// # Errors
+///
+/// Those of [`Engine::fetch_entries_to`]. `entries` is unchanged then.
+pub fn fetch_entries<F: EngineFiles>(
     engine: &mut Engine<F>,
     region: u64,
     range: (u64, u64),
@@ -213,7 +263,7 @@ pub fn fetch<F: EngineFiles>(
 
 /// Returns whether a test held. `None` if it found no memory, and has to be run once more. Any other error counts as not held,
 /// so only `Some(true)` means that it held.
-pub fn ended(held: Result<bool>) -> Option<bool> {
+pub fn outcome_or_retry(held: Result<bool>) -> Option<bool> {
     match held {
         Ok(held) => Some(held),
         Err(Error::Memory) => None,
@@ -224,9 +274,9 @@ pub fn ended(held: Result<bool>) -> Option<bool> {
 /// Tests whether a test holds. One that found no memory is run once more, and has to hold then.
 macro_rules! holds {
     ($call:expr) => {{
-        let mut held = crate::calls::ended($call);
+        let mut held = crate::calls::outcome_or_retry($call);
         if held.is_none() {
-            held = crate::calls::ended($call);
+            held = crate::calls::outcome_or_retry($call);
         }
         matches!(held, Some(true))
     }};
@@ -235,7 +285,7 @@ macro_rules! holds {
 pub(crate) use holds;
 
 /// Tests whether a call returned `Corruption`. Any other error is passed on.
-pub fn finds_damage<T: Drop>(answer: Result<T>) -> Result<bool> {
+pub fn is_corruption<T: Drop>(answer: Result<T>) -> Result<bool> {
     match answer {
         Ok(_) => Ok(false),
         Err(Error::Corruption(_)) => Ok(true),
@@ -244,7 +294,7 @@ pub fn finds_damage<T: Drop>(answer: Result<T>) -> Result<bool> {
 }
 
 /// Tests whether a call returned `InvalidArgument`. Any other error is passed on.
-pub fn finds_invalid<T: Drop>(answer: Result<T>) -> Result<bool> {
+pub fn is_invalid_argument<T: Drop>(answer: Result<T>) -> Result<bool> {
     match answer {
         Ok(_) => Ok(false),
         Err(Error::InvalidArgument(_)) => Ok(true),

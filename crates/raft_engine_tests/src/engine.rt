@@ -4,7 +4,7 @@
 ghost use Rattle.std.specs.Prelude.{◌≡◌};
 ghost use Rattle.raft_records.specs.LogBatch.{is_open};
 
-use crate::batches::{Part, REGION, batch_of, batch_with, bytes_for};
+use crate::batches::{Part, REGION, batch_of_parts, batch_with_entry, bytes_signed_for};
 use raft_base::{EntryIndex, FileBlockHandle, FileId, FileSeq, LogFileContext, LogQueue, Version};
 use raft_memtable::{MemTable, MemTableAccessor, MemTableRecoverContext};
 use raft_records::{
@@ -63,6 +63,11 @@ pub struct Engine {
 }
 
 impl Engine {
+    /// Returns an engine without files and records.
+    ///
+    /// # Errors
+    ///
+    /// `Memory` alone.
     pub fn new(alloc: Global) -> Result<Engine> {
         Ok(Engine {
             alloc,
@@ -71,70 +76,114 @@ impl Engine {
         })
     }
 
-    pub fn take(&mut self, step: &Step) -> Result<()> {
+    /// Takes one `step` of a history.
+    ///
+    /// # Errors
+    ///
+    /// Those of the tables' calls; `EntryNotFound` if an entry that is read has no file; `Memory`.
+    pub fn take_step(&mut self, step: &Step) -> Result<()> {
         match *step {
             Step::Append(seq, parts) => self.append_parts(seq, parts),
             Step::Rewrite(seq, gate, parts) => self.rewrite_parts(seq, gate, parts),
-            Step::Tell(seq, parts) => self.tell(seq, parts),
+            Step::Tell(seq, parts) => self.tell_removals(seq, parts),
             Step::TellCleaned(seq) => self.tell_cleaned(seq),
             Step::ApplyGroup(first, last) => {
                 self.tables
                     .apply_rewrite_atomic_group(REGION, first.min(last), last)
             }
             Step::Purge(queue, last) => {
-                self.purge(queue, last);
+                self.purge_files(queue, last);
                 Ok(())
             }
             Step::Sync(queue) => {
-                self.sync(queue, None);
+                self.sync_files(queue, None);
                 Ok(())
             }
             Step::SyncFile(queue, seq) => {
-                self.sync(queue, Some(seq));
+                self.sync_files(queue, Some(seq));
                 Ok(())
             }
             Step::Fail => {
-                self.fail();
+                self.lose_unsynced();
                 Ok(())
             }
             Step::Restart => self.restart(),
-            Step::Read(index) => self.read(index),
+            Step::Read(index) => self.read_entry(index),
         }
     }
 
+    /// Writes a batch of `parts` to append file `seq`, and then to the tables.
+    ///
+    /// # Errors
+    ///
+    /// Those of the tables, which the file has before them; `Memory`.
     fn append_parts(&mut self, seq: FileSeq, parts: &[Part]) -> Result<()> {
-        let mut batch = self.write(LogQueue::Append, seq, batch_of(self.alloc, parts)?)?;
+        let mut batch = self.write_batch(
+            LogQueue::Append,
+            seq,
+            batch_of_parts(self.alloc, parts)?,
+        )?;
         self.tables.apply_append_writes(batch.drain())
     }
 
+    /// Writes a batch of `parts` to rewrite file `seq`, and then to the tables, as rewritten records with this
+    /// `gate`.
+    ///
+    /// # Errors
+    ///
+    /// Those of the tables, which the file has before them; `Memory`.
     fn rewrite_parts(&mut self, seq: FileSeq, gate: Option<FileSeq>, parts: &[Part]) -> Result<()> {
-        let mut batch = self.write(LogQueue::Rewrite, seq, batch_of(self.alloc, parts)?)?;
+        let mut batch = self.write_batch(
+            LogQueue::Rewrite,
+            seq,
+            batch_of_parts(self.alloc, parts)?,
+        )?;
         self.tables.apply_rewrite_writes(batch.drain(), gate, seq)
     }
 
-    fn tell(&mut self, seq: FileSeq, parts: &[Part]) -> Result<()> {
-        let _ = self.write(LogQueue::Rewrite, seq, batch_of(self.alloc, parts)?)?;
+    /// Writes a batch of `parts` to rewrite file `seq`, and not to the tables.
+    ///
+    /// # Errors
+    ///
+    /// `Memory` alone.
+    fn tell_removals(&mut self, seq: FileSeq, parts: &[Part]) -> Result<()> {
+        let _ = self.write_batch(LogQueue::Rewrite, seq, batch_of_parts(self.alloc, parts)?)?;
         Ok(())
     }
 
+    /// Takes the cleaned regions of the tables, and writes them to rewrite file `seq`, as items that clean them.
+    ///
+    /// # Errors
+    ///
+    /// Those of the tables; `Memory`.
     fn tell_cleaned(&mut self, seq: FileSeq) -> Result<()> {
         let cleaned = self.tables.take_cleaned_region_logs()?;
-        let mut batch = self.write(LogQueue::Rewrite, seq, cleaned)?;
+        let mut batch = self.write_batch(LogQueue::Rewrite, seq, cleaned)?;
         self.tables.apply_rewrite_writes(batch.drain(), None, seq)
     }
 
+    /// Takes the tables that the files give in place of those that the engine has.
+    ///
+    /// # Errors
+    ///
+    /// Those of reading the files.
     fn restart(&mut self) -> Result<()> {
-        self.tables = self.reopened()?;
+        self.tables = self.recover_tables()?;
         Ok(())
     }
 
-    fn read(&self, index: u64) -> Result<()> {
-        let _ = self.entry(index)?;
+    /// Reads the entry `index`, and drops its bytes.
+    ///
+    /// # Errors
+    ///
+    /// Those of [`Engine::read_entry_bytes`].
+    fn read_entry(&self, index: u64) -> Result<()> {
+        let _ = self.read_entry_bytes(index)?;
         Ok(())
     }
 
     /// Syncs the file `seq` of `queue`, or for `None` all of its files.
-    fn sync(&mut self, queue: LogQueue, seq: Option<FileSeq>) {
+    fn sync_files(&mut self, queue: LogQueue, seq: Option<FileSeq>) {
         for file in &mut self.files {
             if file.id.queue == queue && seq.is_none_or(|seq| file.id.seq == seq) {
                 file.synced = file.bytes.len();
@@ -142,20 +191,26 @@ impl Engine {
         }
     }
 
-    fn fail(&mut self) {
+    /// Drops the bytes of each file that aren't synced, as a power failure does.
+    fn lose_unsynced(&mut self) {
         for file in &mut self.files {
             file.bytes.truncate(file.synced);
         }
     }
 
     /// Appends the bytes of a batch to a file, and returns the batch with the places of its items.
-    fn write(&mut self, queue: LogQueue, seq: FileSeq, mut batch: LogBatch) -> Result<LogBatch>
+    fn write_batch(
+        &mut self,
+        queue: LogQueue,
+        seq: FileSeq,
+        mut batch: LogBatch,
+    ) -> Result<LogBatch>
         requires { batch.stage ≡ is_open }
     {
         let context = LogFileContext::new(FileId::new(queue, seq), Version::V2);
         let len = batch.finish_populate()?;
         batch.prepare_write(&context);
-        let offset = self.append(context.id, batch.encoded_bytes())?;
+        let offset = self.append_bytes(context.id, batch.encoded_bytes())?;
         if offset < 1 << 32 {
             batch.finish_write(FileBlockHandle {
                 id: context.id,
@@ -167,7 +222,7 @@ impl Engine {
     }
 
     /// Appends bytes to a file, which is made if there is none. Returns the offset at which they stand.
-    fn append(&mut self, id: FileId, bytes: &[u8]) -> Result<u64> {
+    fn append_bytes(&mut self, id: FileId, bytes: &[u8]) -> Result<u64> {
         for file in &mut self.files {
             if file.id == id {
                 let offset = file.bytes.len() as u64;
@@ -185,7 +240,7 @@ impl Engine {
     }
 
     /// Deletes the files of `queue` whose number is at most `last`, and below the least one that the table needs.
-    fn purge(&mut self, queue: LogQueue, last: FileSeq) {
+    fn purge_files(&mut self, queue: LogQueue, last: FileSeq) {
         let table = self.tables.get(REGION);
         let least = table.and_then(|table: &MemTable| table.min_file_seq(queue));
         let end = least.unwrap_or(FileSeq::MAX);
@@ -196,13 +251,13 @@ impl Engine {
 
     /// Writes a batch to an append file and to the tables, if the tables accept it; else nothing is written.
     pub fn write_tested(&mut self, seq: FileSeq, parts: &'static [Part]) -> Result<()> {
-        let batch = batch_of(self.alloc, parts)?;
+        let batch = batch_of_parts(self.alloc, parts)?;
         self.tables.check_append_writes(batch.items())?;
-        self.take(&Step::Append(seq, parts))
+        self.take_step(&Step::Append(seq, parts))
     }
 
     /// Returns copies of the files of a queue.
-    pub fn copies(&self, queue: LogQueue) -> Result<Vec<(FileSeq, Vec<u8>)>> {
+    pub fn copy_files(&self, queue: LogQueue) -> Result<Vec<(FileSeq, Vec<u8>)>> {
         let mut copies = Vec::new(self.alloc);
         for file in &self.files {
             if file.id.queue == queue {
@@ -213,7 +268,7 @@ impl Engine {
     }
 
     /// Returns the length of the last file in bytes; 0 without files.
-    pub fn len(&self) -> usize {
+    pub fn last_file_len(&self) -> usize {
         match self.files.last() {
             Some(file) => file.bytes.len(),
             None => 0,
@@ -232,21 +287,21 @@ impl Engine {
     }
 
     /// Drops the bytes of the last file from position `end` on.
-    pub fn lose_from(&mut self, end: usize) {
+    pub fn drop_bytes_from(&mut self, end: usize) {
         if let Some(file) = self.files.last_mut() {
             file.bytes.truncate(end);
         }
     }
 
     /// Drops the last byte of the last file.
-    pub fn tear(&mut self) {
+    pub fn drop_last_byte(&mut self) {
         if let Some(file) = self.files.last_mut() {
             let _ = file.bytes.pop();
         }
     }
 
     /// Changes the lowest bit of the byte at position `at` of the last file.
-    pub fn flip(&mut self, at: usize) {
+    pub fn flip_bit(&mut self, at: usize) {
         if let Some(file) = self.files.last_mut() {
             if let Some(byte) = file.bytes.get_mut(at) {
                 *byte ^= 1;
@@ -263,7 +318,7 @@ impl Engine {
         let Some(file) = self.files.last_mut() else {
             return Ok(());
         };
-        let part = part_of(file)?;
+        let part = part_with_file(file)?;
         let (end, stopped) = readable_front(&part);
         let Some(reason) = stopped else {
             return Ok(());
@@ -280,10 +335,10 @@ impl Engine {
         let Some(file) = self.files.last() else {
             return Ok(false);
         };
-        let part = part_of(file)?;
+        let part = part_with_file(file)?;
         let (end, _) = readable_front(&part);
         for at in end..part.bytes().len() {
-            if at > end && finds_batch(next_batch(&part, at))? {
+            if at > end && is_batch_readable(next_batch(&part, at))? {
                 return Ok(true);
             }
         }
@@ -292,18 +347,23 @@ impl Engine {
 
     /// Writes to append file 1 an entry whose bytes are a batch that could stand in that file.
     pub fn append_batch_in_entry(&mut self, index: u64) -> Result<()> {
-        let batch = batch_with(self.alloc, REGION, index, batch_bytes(self.alloc)?)?;
-        let mut written = self.write(LogQueue::Append, 1, batch)?;
+        let batch = batch_with_entry(
+            self.alloc,
+            REGION,
+            index,
+            bytes_of_batch_for_file_1(self.alloc)?,
+        )?;
+        let mut written = self.write_batch(LogQueue::Append, 1, batch)?;
         self.tables.apply_append_writes(written.drain())
     }
 
     /// Reads the bytes of an entry of the table from its file.
-    pub fn entry(&self, index: u64) -> Result<Vec<u8>> {
+    pub fn read_entry_bytes(&self, index: u64) -> Result<Vec<u8>> {
         let entry = self.entry_index(index)?;
         let place = entry.entries.ok_or(Error::EntryNotFound)?;
         for file in &self.files {
             if file.id == place.id {
-                return bytes_in(self.alloc, file, place, &entry);
+                return entry_bytes_in_file(self.alloc, file, place, &entry);
             }
         }
         Err(Error::EntryNotFound)
@@ -321,34 +381,44 @@ impl Engine {
     }
 
     /// Returns what the tables hold, as a text.
-    pub fn kept(&self) -> Result<String> {
-        text_of(self.alloc, self.tables.get(REGION))
+    pub fn kept_text(&self) -> Result<String> {
+        table_text(self.alloc, self.tables.get(REGION))
     }
 
     /// Returns what the files of both queues give, as a text.
-    pub fn recovered(&self) -> Result<String> {
-        text_of(self.alloc, self.reopened()?.get(REGION))
+    pub fn recovered_text(&self) -> Result<String> {
+        table_text(self.alloc, self.recover_tables()?.get(REGION))
     }
 
     /// Returns the tables that the files of both queues give.
-    fn reopened(&self) -> Result<MemTableAccessor> {
-        let mut context = self.context(LogQueue::Rewrite)?;
-        context.merge_append_context(self.context(LogQueue::Append)?)?;
+    fn recover_tables(&self) -> Result<MemTableAccessor> {
+        let mut context = self.recover_context(LogQueue::Rewrite)?;
+        context.merge_append_context(self.recover_context(LogQueue::Append)?)?;
         context.finish()
     }
 
-    fn context(&self, queue: LogQueue) -> Result<MemTableRecoverContext> {
-        let segment = self.segment(queue)?;
+    /// Returns a context that has read the files of `queue`.
+    ///
+    /// # Errors
+    ///
+    /// Those of reading them.
+    fn recover_context(&self, queue: LogQueue) -> Result<MemTableRecoverContext> {
+        let segment = self.copy_segment(queue)?;
         let mut context = MemTableRecoverContext::new(self.alloc)?;
         replay_segment(&mut context, &segment)?;
         Ok(context)
     }
 
-    fn segment(&self, queue: LogQueue) -> Result<Vec<FilePart>> {
+    /// Returns copies of the files of `queue`, as one segment.
+    ///
+    /// # Errors
+    ///
+    /// `Memory` alone.
+    fn copy_segment(&self, queue: LogQueue) -> Result<Vec<FilePart>> {
         let mut segment = Vec::new(self.alloc);
         for file in &self.files {
             if file.id.queue == queue {
-                segment.push(part_of(file)?)?;
+                segment.push(part_with_file(file)?)?;
             }
         }
         Ok(segment)
@@ -356,19 +426,19 @@ impl Engine {
 }
 
 /// Returns the bytes of a batch that could stand in append file 1.
-fn batch_bytes(alloc: Global) -> Result<Vec<u8>> {
-    let batch = batch_of(alloc, &[Part::Put("v")])?;
-    bytes_for(alloc, batch, FileId::new(LogQueue::Append, 1))
+fn bytes_of_batch_for_file_1(alloc: Global) -> Result<Vec<u8>> {
+    let batch = batch_of_parts(alloc, &[Part::Put("v")])?;
+    bytes_signed_for(alloc, batch, FileId::new(LogQueue::Append, 1))
 }
 
 /// Returns the bytes of an entry, whose block is at `place` of a file.
-fn bytes_in(
+fn entry_bytes_in_file(
     alloc: Global,
     file: &LogFile,
     place: FileBlockHandle,
     entry: &EntryIndex,
 ) -> Result<Vec<u8>> {
-    let part = part_of(file)?;
+    let part = part_with_file(file)?;
     let block = entries_block_in(&part, place)?;
     Ok(Vec::from_slice(alloc, entry_bytes(alloc, block, entry)?)?)
 }
@@ -384,11 +454,11 @@ fn has_batch_behind(part: &FilePart, at: usize) -> Result<bool> {
     if end >= part.bytes().len() {
         return Ok(false);
     }
-    finds_batch(next_batch(part, end))
+    is_batch_readable(next_batch(part, end))
 }
 
 /// Tests whether a batch could be read. Want of memory is passed on.
-fn finds_batch<T: Drop>(read: Result<T>) -> Result<bool> {
+fn is_batch_readable<T: Drop>(read: Result<T>) -> Result<bool> {
     match read {
         Ok(_) => Ok(true),
         Err(Error::Memory) => Err(Error::Memory),
@@ -397,13 +467,13 @@ fn finds_batch<T: Drop>(read: Result<T>) -> Result<bool> {
 }
 
 /// Returns a copy of a file as a part.
-fn part_of(file: &LogFile) -> Result<FilePart> {
+fn part_with_file(file: &LogFile) -> Result<FilePart> {
     FilePart::new(file.id, Version::V2, 0, file.bytes.clone()?)
 }
 
 /// Returns the entries of a table as `[first,end)`, where `end` is the index after the last one, and the value of the key `k`
 /// as `k=value`; an empty text for `None`.
-pub fn text_of(alloc: Global, table: Option<&MemTable>) -> Result<String> {
+pub fn table_text(alloc: Global, table: Option<&MemTable>) -> Result<String> {
     let mut text = String::new(alloc);
     let Some(table) = table else {
         return Ok(text);

@@ -3,9 +3,10 @@
 
 use crate::batches::Part::{Entries, Put};
 use crate::calls::{
-    LogFiles, copies, holds, new_engine, open, open_in_mode, rotate, with_flipped, write,
+    LogFiles, copy_files, flip_bit_of_first_file, holds, new_engine, open_copies, open_in_mode,
+    rotate, write_parts,
 };
-use crate::reopened::holds;
+use crate::reopened::has_text;
 use raft_base::{FileSeq, LogQueue};
 use raft_engine::{Engine, RecoveryMode};
 use raft_files::MemoryFiles;
@@ -14,33 +15,38 @@ use std::alloc::Global;
 use std::thread::Threads;
 
 /// Returns the append file of an engine that wrote [1,3), `k=v` and [3,9): batches of 33, 28 and 41 bytes.
-pub fn one_file(alloc: Global) -> Result<LogFiles> {
+pub fn file_of_three_batches(alloc: Global) -> Result<LogFiles> {
     let mut engine = new_engine(alloc)?;
-    write_one(alloc, &mut engine)
+    write_file_of_three_batches(alloc, &mut engine)
 }
 
-fn write_one(alloc: Global, engine: &mut Engine<MemoryFiles>) -> Result<LogFiles> {
-    write(alloc, engine, &[Entries(1, 3)], true)?;
-    write(alloc, engine, &[Put("v")], true)?;
-    write(alloc, engine, &[Entries(3, 9)], true)?;
-    copies(engine, LogQueue::Append)
+/// Writes [1,3), `k=v` and [3,9), a batch each, and returns a copy of the append file.
+fn write_file_of_three_batches(
+    alloc: Global,
+    engine: &mut Engine<MemoryFiles>,
+) -> Result<LogFiles> {
+    write_parts(alloc, engine, &[Entries(1, 3)], true)?;
+    write_parts(alloc, engine, &[Put("v")], true)?;
+    write_parts(alloc, engine, &[Entries(3, 9)], true)?;
+    copy_files(engine, LogQueue::Append)
 }
 
 /// Returns the four append files of an engine that wrote [1,3), `k=v`, [3,9) and [9,12), each to a file of its own.
-pub fn four_files(alloc: Global) -> Result<LogFiles> {
+pub fn four_files_of_a_batch(alloc: Global) -> Result<LogFiles> {
     let mut engine = new_engine(alloc)?;
-    write_four(alloc, &mut engine)
+    write_four_batches(alloc, &mut engine)
 }
 
-fn write_four(alloc: Global, engine: &mut Engine<MemoryFiles>) -> Result<LogFiles> {
-    write(alloc, engine, &[Entries(1, 3)], true)?;
+/// Writes [1,3), `k=v`, [3,9) and [9,12), each to an append file of its own, and returns copies of these.
+fn write_four_batches(alloc: Global, engine: &mut Engine<MemoryFiles>) -> Result<LogFiles> {
+    write_parts(alloc, engine, &[Entries(1, 3)], true)?;
     rotate(engine)?;
-    write(alloc, engine, &[Put("v")], true)?;
+    write_parts(alloc, engine, &[Put("v")], true)?;
     rotate(engine)?;
-    write(alloc, engine, &[Entries(3, 9)], true)?;
+    write_parts(alloc, engine, &[Entries(3, 9)], true)?;
     rotate(engine)?;
-    write(alloc, engine, &[Entries(9, 12)], true)?;
-    copies(engine, LogQueue::Append)
+    write_parts(alloc, engine, &[Entries(9, 12)], true)?;
+    copy_files(engine, LogQueue::Append)
 }
 
 /// What is done to append files before they are opened.
@@ -57,23 +63,34 @@ enum Change {
     OfEngine,
 }
 
-fn changed(alloc: Global, change: &Change) -> Result<LogFiles> {
+/// Returns the append files that `change` makes of what an engine wrote.
+///
+/// # Errors
+///
+/// Those of the engine's calls.
+fn make_change(alloc: Global, change: &Change) -> Result<LogFiles> {
     match change {
-        Change::Flipped(at) => Ok(with_flipped(one_file(alloc)?, *at)),
-        Change::Renumbered(seq) => Ok(renumbered(one_file(alloc)?, *seq)),
-        Change::Cut(len) => Ok(cut(one_file(alloc)?, *len)),
-        Change::Without(numbers) => without(alloc, four_files(alloc)?, numbers),
+        Change::Flipped(at) => Ok(flip_bit_of_first_file(file_of_three_batches(alloc)?, *at)),
+        Change::Renumbered(seq) => Ok(renumber_last_file(file_of_three_batches(alloc)?, *seq)),
+        Change::Cut(len) => Ok(cut_last_file(file_of_three_batches(alloc)?, *len)),
+        Change::Without(numbers) => drop_numbered_files(
+            alloc,
+            four_files_of_a_batch(alloc)?,
+            numbers,
+        ),
         Change::OfEngine => of_engine(alloc),
     }
 }
 
-fn renumbered(mut files: LogFiles, seq: FileSeq) -> LogFiles {
+/// Returns `files`, of which the first one has the number `seq`.
+fn renumber_last_file(mut files: LogFiles, seq: FileSeq) -> LogFiles {
     if let Some(first) = files.first_mut() {
         first.0 = seq;
     }
     files
 }
 
+/// Returns an append file that begins as those of the raft-engine of TiKV do.
 fn of_engine(alloc: Global) -> Result<LogFiles> {
     let mut bytes = Vec::from_slice(
         alloc,
@@ -85,14 +102,16 @@ fn of_engine(alloc: Global) -> Result<LogFiles> {
     Ok(files)
 }
 
-fn cut(mut files: LogFiles, len: usize) -> LogFiles {
+/// Returns `files`, of which the last one is cut to `len` bytes.
+fn cut_last_file(mut files: LogFiles, len: usize) -> LogFiles {
     if let Some(last) = files.last_mut() {
         last.1.truncate(len);
     }
     files
 }
 
-fn without(alloc: Global, files: LogFiles, numbers: &[FileSeq]) -> Result<LogFiles> {
+/// Returns `files` without those that have these `numbers`.
+fn drop_numbered_files(alloc: Global, files: LogFiles, numbers: &[FileSeq]) -> Result<LogFiles> {
     let mut left = Vec::new(alloc);
     for file in files {
         if !numbers.contains(&file.0) {
@@ -147,7 +166,8 @@ static ROWS: [(Change, Answer); 8] = [
     (Change::Cut(101), Answer::Holds("[1,3)k=v")),
 ];
 
-fn rows() -> &'static [(Change, Answer)] {
+/// Returns the rows of changed files, each with what an opening answers.
+fn rows_of_changes() -> &'static [(Change, Answer)] {
     &ROWS
 }
 
@@ -230,12 +250,13 @@ static ROWS_OF_MODES: [(RecoveryMode, Change, Answer); 12] = [
     ),
 ];
 
+/// Returns the rows of changed files, each with what an opening in its mode answers.
 fn rows_of_modes() -> &'static [(RecoveryMode, Change, Answer)] {
     &ROWS_OF_MODES
 }
 
 /// Tests whether an opening returned `Corruption` with this text. Any other error is passed on.
-pub fn says<T: Drop>(opened: Result<T>, text: &str) -> Result<bool> {
+pub fn is_corruption_with_text<T: Drop>(opened: Result<T>, text: &str) -> Result<bool> {
     match opened {
         Ok(_) => Ok(false),
         Err(Error::Corruption(found)) => Ok(found.as_str() == text),
@@ -244,7 +265,7 @@ pub fn says<T: Drop>(opened: Result<T>, text: &str) -> Result<bool> {
 }
 
 /// Tests whether an opening returned `InvalidArgument` with this text. Any other error is passed on.
-pub fn names<T: Drop>(opened: Result<T>, text: &str) -> Result<bool> {
+pub fn is_invalid_argument_with_text<T: Drop>(opened: Result<T>, text: &str) -> Result<bool> {
     match opened {
         Ok(_) => Ok(false),
         Err(Error::InvalidArgument(found)) => Ok(found.as_str() == text),
@@ -252,28 +273,47 @@ pub fn names<T: Drop>(opened: Result<T>, text: &str) -> Result<bool> {
     }
 }
 
-fn opens<R: Threads + Sync>(rt: &R, alloc: Global, files: LogFiles, text: &str) -> Result<bool> {
-    let engine = open(rt, alloc, files, Vec::new(alloc))?;
-    holds(alloc, &engine, text)
+/// Tests whether an engine that is opened over `files` holds `text`.
+fn does_open_with_text<R: Threads + Sync>(
+    rt: &R,
+    alloc: Global,
+    files: LogFiles,
+    text: &str,
+) -> Result<bool> {
+    let engine = open_copies(rt, alloc, files, Vec::new(alloc))?;
+    has_text(alloc, &engine, text)
 }
 
-fn is_answered<R: Threads + Sync>(rt: &R, alloc: Global, row: &(Change, Answer)) -> Result<bool> {
-    let files = changed(alloc, &row.0)?;
+/// Tests whether an opening of the changed files of `row` gives what the row says.
+fn is_row_answered<R: Threads + Sync>(
+    rt: &R,
+    alloc: Global,
+    row: &(Change, Answer),
+) -> Result<bool> {
+    let files = make_change(alloc, &row.0)?;
     match &row.1 {
-        Answer::Holds(text) => opens(rt, alloc, files, text),
-        Answer::Says(text) => says(open(rt, alloc, files, Vec::new(alloc)), text),
-        Answer::Names(text) => names(open(rt, alloc, files, Vec::new(alloc)), text),
+        Answer::Holds(text) => does_open_with_text(rt, alloc, files, text),
+        Answer::Says(text) => is_corruption_with_text(
+            open_copies(rt, alloc, files, Vec::new(alloc)),
+            text,
+        ),
+        Answer::Names(text) => is_invalid_argument_with_text(
+            open_copies(rt, alloc, files, Vec::new(alloc)),
+            text,
+        ),
     }
 }
 
+/// Tests that found files are opened or refused, as their rows say.
 #[test]
 fn found_files_are_opened_or_refused(rt: HostRuntime) {
-    for (i, row) in rows().iter().enumerate() {
-        assert!(rt; holds!(is_answered(&rt, rt.alloc(), row)), "row {i}");
+    for (i, row) in rows_of_changes().iter().enumerate() {
+        assert!(rt; holds!(is_row_answered(&rt, rt.alloc(), row)), "row {i}");
     }
 }
 
-fn engine_in_mode<R: Threads + Sync>(
+/// Opens an engine over append files in `mode`.
+fn open_engine_in_mode<R: Threads + Sync>(
     rt: &R,
     alloc: Global,
     mode: RecoveryMode,
@@ -283,35 +323,44 @@ fn engine_in_mode<R: Threads + Sync>(
     Ok(opened.engine)
 }
 
-fn holds_in_mode<R: Threads + Sync>(
+/// Tests whether an engine that is opened over `files` in `mode` holds `text`.
+fn is_held_in_mode<R: Threads + Sync>(
     rt: &R,
     alloc: Global,
     mode: RecoveryMode,
     files: LogFiles,
     text: &str,
 ) -> Result<bool> {
-    let engine = engine_in_mode(rt, alloc, mode, files)?;
-    holds(alloc, &engine, text)
+    let engine = open_engine_in_mode(rt, alloc, mode, files)?;
+    has_text(alloc, &engine, text)
 }
 
-fn is_answered_in_mode<R: Threads + Sync>(
+/// Tests whether an opening of the changed files of `row`, in the row's mode, gives what the row says.
+fn is_row_answered_in_mode<R: Threads + Sync>(
     rt: &R,
     alloc: Global,
     row: &(RecoveryMode, Change, Answer),
 ) -> Result<bool> {
-    let files = changed(alloc, &row.1)?;
+    let files = make_change(alloc, &row.1)?;
     match &row.2 {
-        Answer::Holds(text) => holds_in_mode(rt, alloc, row.0, files, text),
-        Answer::Says(text) => says(engine_in_mode(rt, alloc, row.0, files), text),
-        Answer::Names(text) => names(engine_in_mode(rt, alloc, row.0, files), text),
+        Answer::Holds(text) => is_held_in_mode(rt, alloc, row.0, files, text),
+        Answer::Says(text) => is_corruption_with_text(
+            open_engine_in_mode(rt, alloc, row.0, files),
+            text,
+        ),
+        Answer::Names(text) => is_invalid_argument_with_text(
+            open_engine_in_mode(rt, alloc, row.0, files),
+            text,
+        ),
     }
 }
 
+/// Tests that found files are opened or refused, as the mode of the opening says.
 #[test]
 fn found_files_are_opened_or_refused_as_the_mode_says(rt: HostRuntime) {
     for (i, row) in rows_of_modes().iter().enumerate() {
         assert!(rt;
-            holds!(is_answered_in_mode(&rt, rt.alloc(), row)),
+            holds!(is_row_answered_in_mode(&rt, rt.alloc(), row)),
             "row {i}"
         );
     }

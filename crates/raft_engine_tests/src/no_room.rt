@@ -4,9 +4,11 @@
 ghost use Rattle.std.specs.Prelude.{◌≡◌};
 
 use crate::batches::Part::{Delete, Entries, Put};
-use crate::batches::{Part, REGION, batch_of};
-use crate::calls::{holds, open, purge, purge_rewrites, rewrite, rewrite_again, rotate};
-use crate::reopened::holds;
+use crate::batches::{Part, REGION, batch_of_parts};
+use crate::calls::{
+    holds, open_copies, purge_append_files, purge_rewrite_files, rewrite_again, rewrite_up_to, rotate,
+};
+use crate::reopened::has_text;
 use raft_base::{FileBlockHandle, FileSeq, LogQueue, Version};
 use raft_engine::Engine;
 use raft_files::{AppendError, EngineFiles, MemoryFiles};
@@ -105,7 +107,7 @@ fn write_whole(engine: &mut Engine<FullOnce>, batch: &mut LogBatch) -> Result<()
 /// Writes a batch of these parts; where it finds no room, once more. Returns whether it had its items in between, and none
 /// afterwards.
 fn is_written(alloc: Global, engine: &mut Engine<FullOnce>, parts: &[Part]) -> Result<bool> {
-    let mut batch = batch_of(alloc, parts)?;
+    let mut batch = batch_of_parts(alloc, parts)?;
     let answer = write_whole(engine, &mut batch);
     if is_to_repeat(engine, answer)? {
         if batch.items().len() != parts.len() {
@@ -119,9 +121,9 @@ fn is_written(alloc: Global, engine: &mut Engine<FullOnce>, parts: &[Part]) -> R
 /// Moves all records to the rewrite queue; where there is no room, once more.
 fn move_all(engine: &mut Engine<FullOnce>) -> Result<()> {
     rotate(engine)?;
-    let answer = rewrite(engine, FileSeq::MAX);
+    let answer = rewrite_up_to(engine, FileSeq::MAX);
     if is_to_repeat(engine, answer)? {
-        rewrite(engine, FileSeq::MAX)?;
+        rewrite_up_to(engine, FileSeq::MAX)?;
     }
     Ok(())
 }
@@ -129,9 +131,9 @@ fn move_all(engine: &mut Engine<FullOnce>) -> Result<()> {
 /// Purges the append queue; where there is no room for what has to be told, once more. Returns whether one file is left.
 fn purge_all(engine: &mut Engine<FullOnce>) -> Result<bool> {
     rotate(engine)?;
-    let answer = purge(engine);
+    let answer = purge_append_files(engine);
     if is_to_repeat(engine, answer)? {
-        purge(engine)?;
+        purge_append_files(engine)?;
     }
     Ok(engine.files().files.files(LogQueue::Append).len() == 1)
 }
@@ -143,7 +145,7 @@ fn move_again(engine: &mut Engine<FullOnce>) -> Result<bool> {
     if is_to_repeat(engine, answer)? {
         rewrite_again(engine)?;
     }
-    purge_rewrites(engine)?;
+    purge_rewrite_files(engine)?;
     Ok(engine.files().files.files(LogQueue::Rewrite).len() == 1)
 }
 
@@ -182,8 +184,8 @@ fn lives<R: Threads + Sync>(rt: &R, alloc: Global, before: usize) -> Result<bool
 /// Tests whether an engine that is opened over copies of the files holds the entries, and no key.
 fn is_found<R: Threads + Sync>(rt: &R, alloc: Global, files: &MemoryFiles) -> Result<bool> {
     let append = files.copies(LogQueue::Append)?;
-    let found = open(rt, alloc, append, files.copies(LogQueue::Rewrite)?)?;
-    holds(alloc, &found, "[1,5)")
+    let found = open_copies(rt, alloc, append, files.copies(LogQueue::Rewrite)?)?;
+    has_text(alloc, &found, "[1,5)")
 }
 
 #[test]

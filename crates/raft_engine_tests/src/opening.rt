@@ -4,9 +4,10 @@
 use crate::batches::Part::{Entries, Put};
 use crate::batches::REGION;
 use crate::calls::{
-    LogFiles, Opened, RIGHT, Way, copies, cut_of, holds, new_engine, open_as, with_flipped, write,
+    LogFiles, Opened, RIGHT, Way, copy_files, flip_bit_of_first_file, holds, new_engine,
+    open_and_return_cuts, open_in_way, write_parts,
 };
-use crate::engine::text_of;
+use crate::engine::table_text;
 use raft_base::{LogQueue, Version};
 use raft_engine::{CutTail, Engine, RecoveryMode};
 use raft_files::MemoryFiles;
@@ -25,27 +26,28 @@ const IN_OTHER_VERSION: Way = Way {
 };
 
 /// Opens an engine over copies of the files of both queues, in the given way.
-fn opened<R: Threads + Sync>(
+fn open_copies_in_way<R: Threads + Sync>(
     rt: &R,
     alloc: Global,
     way: Way,
     files: &MemoryFiles,
 ) -> Result<Opened> {
     let append = files.copies(LogQueue::Append)?;
-    open_as(rt, alloc, way, append, files.copies(LogQueue::Rewrite)?)
+    open_in_way(rt, alloc, way, append, files.copies(LogQueue::Rewrite)?)
 }
 
 /// Returns the append file of an engine that wrote [1,3), `k=v` and a third batch, which lacks its last byte.
-fn torn(alloc: Global) -> Result<LogFiles> {
+fn torn_file(alloc: Global) -> Result<LogFiles> {
     let mut engine = new_engine(alloc)?;
-    tear(alloc, &mut engine)
+    write_and_tear(alloc, &mut engine)
 }
 
-fn tear(alloc: Global, engine: &mut Engine<MemoryFiles>) -> Result<LogFiles> {
-    write(alloc, engine, &[Entries(1, 3)], true)?;
-    write(alloc, engine, &[Put("v")], true)?;
-    write(alloc, engine, &[Entries(3, 9)], true)?;
-    let mut append = copies(engine, LogQueue::Append)?;
+/// Writes three batches, and returns a copy of the append file without its last byte.
+fn write_and_tear(alloc: Global, engine: &mut Engine<MemoryFiles>) -> Result<LogFiles> {
+    write_parts(alloc, engine, &[Entries(1, 3)], true)?;
+    write_parts(alloc, engine, &[Put("v")], true)?;
+    write_parts(alloc, engine, &[Entries(3, 9)], true)?;
+    let mut append = copy_files(engine, LogQueue::Append)?;
     if let Some(last) = append.last_mut() {
         let len = last.1.len().saturating_sub(1);
         last.1.truncate(len);
@@ -54,13 +56,13 @@ fn tear(alloc: Global, engine: &mut Engine<MemoryFiles>) -> Result<LogFiles> {
 }
 
 /// Returns that file with a byte of its first batch changed.
-fn damaged(alloc: Global) -> Result<LogFiles> {
-    let files = torn(alloc)?;
-    Ok(with_flipped(files, 24))
+fn damaged_file(alloc: Global) -> Result<LogFiles> {
+    let files = torn_file(alloc)?;
+    Ok(flip_bit_of_first_file(files, 24))
 }
 
 /// Returns the files that a refused opening hands back, or `None` if it succeeded. Want of memory is passed on.
-fn refused(opened: Opened) -> Result<Option<MemoryFiles>> {
+fn files_handed_back(opened: Opened) -> Result<Option<MemoryFiles>> {
     match opened {
         Ok(_) => Ok(None),
         Err(unopened) => match unopened.error {
@@ -71,14 +73,18 @@ fn refused(opened: Opened) -> Result<Option<MemoryFiles>> {
 }
 
 /// Tests whether files can be opened in the right way, and hold what was written before the torn batch.
-fn are_opened<R: Threads + Sync>(rt: &R, alloc: Global, files: &MemoryFiles) -> Result<bool> {
-    let engine = opened(rt, alloc, RIGHT, files)??;
-    Ok(text_of(alloc, engine.accessor().get(REGION))?.as_str() == "[1,3)k=v")
+fn are_opened_with_prefix<R: Threads + Sync>(
+    rt: &R,
+    alloc: Global,
+    files: &MemoryFiles,
+) -> Result<bool> {
+    let engine = open_copies_in_way(rt, alloc, RIGHT, files)??;
+    Ok(table_text(alloc, engine.accessor().get(REGION))?.as_str() == "[1,3)k=v")
 }
 
 /// Tests whether the append file still has each byte of the torn file.
-fn is_left(alloc: Global, files: &MemoryFiles) -> Result<bool> {
-    let torn = torn(alloc)?;
+fn is_torn_file_left(alloc: Global, files: &MemoryFiles) -> Result<bool> {
+    let torn = torn_file(alloc)?;
     match (files.files(LogQueue::Append).last(), torn.last()) {
         (Some(left), Some(last)) => Ok(left.1.as_slice() == last.1.as_slice()),
         _ => Ok(false),
@@ -87,45 +93,52 @@ fn is_left(alloc: Global, files: &MemoryFiles) -> Result<bool> {
 
 /// Tests whether an opening in this wrong way refuses the torn file and leaves it as it is, and one in the right way opens it
 /// then.
-fn is_refused<R: Threads + Sync>(rt: &R, alloc: Global, way: Way) -> Result<bool> {
-    match refused(open_as(rt, alloc, way, torn(alloc)?, Vec::new(alloc))?)? {
+fn is_wrong_way_refused<R: Threads + Sync>(rt: &R, alloc: Global, way: Way) -> Result<bool> {
+    match files_handed_back(open_in_way(rt, alloc, way, torn_file(alloc)?, Vec::new(alloc))?)? {
         Some(files) => is_left_and_opened(rt, alloc, &files),
         None => Ok(false),
     }
 }
 
+/// Tests whether the append file is as it was, and can be opened in the right way.
 fn is_left_and_opened<R: Threads + Sync>(
     rt: &R,
     alloc: Global,
     files: &MemoryFiles,
 ) -> Result<bool> {
-    Ok(is_left(alloc, files)? && are_opened(rt, alloc, files)?)
+    Ok(is_torn_file_left(alloc, files)? && are_opened_with_prefix(rt, alloc, files)?)
 }
 
 /// Tests whether an opening refuses a damaged rewrite file, and leaves the torn append file as it is.
-fn damage_is_refused<R: Threads + Sync>(rt: &R, alloc: Global) -> Result<bool> {
-    match refused(open_as(rt, alloc, RIGHT, torn(alloc)?, damaged(alloc)?)?)? {
-        Some(files) => is_left(alloc, &files),
+fn is_damaged_rewrite_file_refused<R: Threads + Sync>(rt: &R, alloc: Global) -> Result<bool> {
+    match files_handed_back(open_in_way(
+        rt,
+        alloc,
+        RIGHT,
+        torn_file(alloc)?,
+        damaged_file(alloc)?,
+    )?)? {
+        Some(files) => is_torn_file_left(alloc, &files),
         None => Ok(false),
     }
 }
 
 /// Returns the length of the last file in bytes.
-fn file_len(files: &LogFiles) -> u64 {
+fn last_file_len(files: &LogFiles) -> u64 {
     files.last().map_or(0, |file| file.1.len() as u64)
 }
 
 /// Returns how many bytes the first two batches of the torn file have.
-fn whole_len(alloc: Global) -> Result<u64> {
+fn whole_batches_len(alloc: Global) -> Result<u64> {
     let mut engine = new_engine(alloc)?;
-    write(alloc, &mut engine, &[Entries(1, 3)], true)?;
-    write(alloc, &mut engine, &[Put("v")], true)?;
-    let append = copies(&engine, LogQueue::Append)?;
-    Ok(file_len(&append))
+    write_parts(alloc, &mut engine, &[Entries(1, 3)], true)?;
+    write_parts(alloc, &mut engine, &[Put("v")], true)?;
+    let append = copy_files(&engine, LogQueue::Append)?;
+    Ok(last_file_len(&append))
 }
 
 /// Tests whether `tail` is that of file 1 from the offset `whole` on, up to the file's length `len`.
-fn is_tail(tail: Option<&CutTail>, whole: u64, len: u64) -> bool {
+fn is_tail_of_file_1(tail: Option<&CutTail>, whole: u64, len: u64) -> bool {
     match tail {
         Some(tail) => {
             tail.file == 1 && tail.offset == whole && tail.len == len.saturating_sub(whole)
@@ -136,36 +149,41 @@ fn is_tail(tail: Option<&CutTail>, whole: u64, len: u64) -> bool {
 
 /// Tests whether an opening tells which torn tail it cuts off the append queue, and that it cuts nothing off the rewrite
 /// queue.
-fn tail_is_told<R: Threads + Sync>(rt: &R, alloc: Global) -> Result<bool> {
-    let append = torn(alloc)?;
-    let len = file_len(&append);
+fn is_cut_tail_told<R: Threads + Sync>(rt: &R, alloc: Global) -> Result<bool> {
+    let append = torn_file(alloc)?;
+    let len = last_file_len(&append);
     let mode = RecoveryMode::TolerateTornTail;
-    let cut = cut_of(rt, alloc, mode, append, Vec::new(alloc))?;
-    Ok(is_tail(cut.append.as_ref(), whole_len(alloc)?, len) && cut.rewrite.is_none())
+    let cut = open_and_return_cuts(rt, alloc, mode, append, Vec::new(alloc))?;
+    Ok(
+        is_tail_of_file_1(cut.append.as_ref(), whole_batches_len(alloc)?, len)
+            && cut.rewrite.is_none(),
+    )
 }
 
+/// Tests that an opening tells the offset and the length of the torn tail that it cuts off.
 #[test]
-fn a_cut_is_told(rt: HostRuntime) {
-    assert!(rt; holds!(tail_is_told(&rt, rt.alloc())));
+fn an_opening_tells_which_tail_it_cuts_off(rt: HostRuntime) {
+    assert!(rt; holds!(is_cut_tail_told(&rt, rt.alloc())));
 }
 
 /// Tests whether an opening in the mode that cuts off damage tells that it cuts off all of a file whose first byte is changed.
-fn damage_is_cut_and_told<R: Threads + Sync>(rt: &R, alloc: Global) -> Result<bool> {
-    let append = with_flipped(torn(alloc)?, 0);
-    let len = file_len(&append);
+fn is_cut_damage_told<R: Threads + Sync>(rt: &R, alloc: Global) -> Result<bool> {
+    let append = flip_bit_of_first_file(torn_file(alloc)?, 0);
+    let len = last_file_len(&append);
     let mode = RecoveryMode::TolerateTailCorruption;
-    let cut = cut_of(rt, alloc, mode, append, Vec::new(alloc))?;
-    Ok(is_tail(cut.append.as_ref(), 0, len) && cut.rewrite.is_none())
+    let cut = open_and_return_cuts(rt, alloc, mode, append, Vec::new(alloc))?;
+    Ok(is_tail_of_file_1(cut.append.as_ref(), 0, len) && cut.rewrite.is_none())
 }
 
+/// Tests that an opening in the mode that cuts off damage tells what it cuts off.
 #[test]
-fn a_cut_of_damage_is_told(rt: HostRuntime) {
-    assert!(rt; holds!(damage_is_cut_and_told(&rt, rt.alloc())));
+fn an_opening_tells_that_it_cuts_off_damage(rt: HostRuntime) {
+    assert!(rt; holds!(is_cut_damage_told(&rt, rt.alloc())));
 }
 
 /// Returns the torn file with another number.
-fn renumbered(alloc: Global) -> Result<LogFiles> {
-    let mut append = torn(alloc)?;
+fn renumbered_torn_file(alloc: Global) -> Result<LogFiles> {
+    let mut append = torn_file(alloc)?;
     if let Some(last) = append.last_mut() {
         last.0 = 2;
     }
@@ -173,35 +191,42 @@ fn renumbered(alloc: Global) -> Result<LogFiles> {
 }
 
 /// Tests whether an opening refuses append files. Want of memory is passed on.
-fn are_refused<R: Threads + Sync>(rt: &R, alloc: Global, append: LogFiles) -> Result<bool> {
-    let left = refused(open_as(rt, alloc, RIGHT, append, Vec::new(alloc))?)?;
+fn are_append_files_refused<R: Threads + Sync>(
+    rt: &R,
+    alloc: Global,
+    append: LogFiles,
+) -> Result<bool> {
+    let left = files_handed_back(open_in_way(rt, alloc, RIGHT, append, Vec::new(alloc))?)?;
     Ok(left.is_some())
 }
 
 /// Tests whether an opening refuses a file whose first byte is changed, so that its header names more bytes than there are,
 /// and a file that got another number: after the first byte stand sound batches, or batches that are signed for the old
 /// number.
-fn damage_is_told_from_torn_tails<R: Threads + Sync>(rt: &R, alloc: Global) -> Result<bool> {
+fn is_damage_refused_as_no_tail<R: Threads + Sync>(rt: &R, alloc: Global) -> Result<bool> {
     Ok(
-        are_refused(rt, alloc, with_flipped(torn(alloc)?, 0))?
-            && are_refused(rt, alloc, renumbered(alloc)?)?,
+        are_append_files_refused(rt, alloc, flip_bit_of_first_file(torn_file(alloc)?, 0))?
+            && are_append_files_refused(rt, alloc, renumbered_torn_file(alloc)?)?,
     )
 }
 
+/// Tests that damage which no crash leaves is refused, in place of being cut off.
 #[test]
-fn damage_is_no_torn_tail(rt: HostRuntime) {
-    assert!(rt; holds!(damage_is_told_from_torn_tails(&rt, rt.alloc())));
+fn damage_is_refused_as_no_torn_tail(rt: HostRuntime) {
+    assert!(rt; holds!(is_damage_refused_as_no_tail(&rt, rt.alloc())));
 }
 
-fn all_are_refused<R: Threads + Sync>(rt: &R, alloc: Global) -> Result<bool> {
+/// Tests whether an opening without workers, one in another version, and one of a damaged rewrite file are refused.
+fn are_all_wrong_ways_refused<R: Threads + Sync>(rt: &R, alloc: Global) -> Result<bool> {
     Ok(
-        is_refused(rt, alloc, WITHOUT_WORKERS)?
-            && is_refused(rt, alloc, IN_OTHER_VERSION)?
-            && damage_is_refused(rt, alloc)?,
+        is_wrong_way_refused(rt, alloc, WITHOUT_WORKERS)?
+            && is_wrong_way_refused(rt, alloc, IN_OTHER_VERSION)?
+            && is_damaged_rewrite_file_refused(rt, alloc)?,
     )
 }
 
+/// Tests that a refused opening leaves the files as they are, and hands them back.
 #[test]
-fn a_refused_opening_asks_nothing(rt: HostRuntime) {
-    assert!(rt; holds!(all_are_refused(&rt, rt.alloc())));
+fn a_refused_opening_asks_nothing_of_the_files(rt: HostRuntime) {
+    assert!(rt; holds!(are_all_wrong_ways_refused(&rt, rt.alloc())));
 }

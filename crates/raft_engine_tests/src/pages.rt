@@ -1,8 +1,8 @@
 //! Tests of a page of zeros among batches that weren't synced: an engine that is opened gives each entry, or its batch is
 //! named.
 
-use crate::batches::{REGION, batch_with, bytes_for};
-use crate::calls::{LogFiles, OpenedInMode, finds_damage, get_entry, holds, open_in_mode};
+use crate::batches::{REGION, batch_with_entry, bytes_signed_for};
+use crate::calls::{LogFiles, OpenedInMode, get_entry, holds, is_corruption, open_in_mode};
 use raft_base::{FileId, LogQueue};
 use raft_engine::{DamagedBatch, Opened, RecoveryMode};
 use raft_files::MemoryFiles;
@@ -31,21 +31,22 @@ struct File {
     offsets: Vec<u64>,
 }
 
-fn written(alloc: Global) -> Result<File> {
+/// Returns the bytes of an append file of many batches, and the offset of each.
+fn write_file_of_pages(alloc: Global) -> Result<File> {
     let id = FileId::new(LogQueue::Append, 1);
     let mut bytes = Vec::new(alloc);
     let mut offsets = Vec::new(alloc);
     for index in 1..BATCHES + 1 {
         offsets.push(bytes.len() as u64)?;
         let entry = vec![in alloc; b'x'; ENTRY]?;
-        let batch = batch_with(alloc, REGION, index, entry)?;
-        bytes.extend_from_slice(bytes_for(alloc, batch, id)?.as_slice())?;
+        let batch = batch_with_entry(alloc, REGION, index, entry)?;
+        bytes.extend_from_slice(bytes_signed_for(alloc, batch, id)?.as_slice())?;
     }
     Ok(File { bytes, offsets })
 }
 
 /// Returns the file with a page of zeros from position `at` on.
-fn without_page(alloc: Global, file: &File, at: usize) -> Result<LogFiles> {
+fn zero_page(alloc: Global, file: &File, at: usize) -> Result<LogFiles> {
     let mut bytes = Vec::from_slice(alloc, file.bytes.as_slice())?;
     for byte in bytes.iter_mut().skip(at).take(PAGE) {
         *byte = 0;
@@ -54,24 +55,24 @@ fn without_page(alloc: Global, file: &File, at: usize) -> Result<LogFiles> {
 }
 
 /// Tests whether the batch at this offset is named.
-fn is_named(damaged: &[DamagedBatch], offset: u64) -> bool {
+fn is_batch_named(damaged: &[DamagedBatch], offset: u64) -> bool {
     damaged.iter().any(|batch| batch.offset == offset)
 }
 
 /// Tests whether each entry of the opened engine can be read or has its batch named, and not both. The batches begin at
 /// `offsets`, and the engine has the entries of the first ones.
-fn are_read_or_named(opened: &mut Opened<MemoryFiles>, offsets: &[u64]) -> Result<bool> {
+fn are_entries_read_or_named(opened: &mut Opened<MemoryFiles>, offsets: &[u64]) -> Result<bool> {
     let last = opened.engine.last_index(REGION).unwrap_or(0);
     let mut are_so = last <= BATCHES;
     for index in 1..BATCHES + 1 {
         if index > last {
             return Ok(are_so);
         }
-        let refused = finds_damage(get_entry(&mut opened.engine, REGION, index))?;
+        let refused = is_corruption(get_entry(&mut opened.engine, REGION, index))?;
         let Some(offset) = offsets.get(index as usize - 1) else {
             return Ok(false);
         };
-        are_so = are_so && refused == is_named(opened.damaged.as_slice(), *offset);
+        are_so = are_so && refused == is_batch_named(opened.damaged.as_slice(), *offset);
     }
     Ok(are_so)
 }
@@ -88,42 +89,45 @@ struct Counts {
 }
 
 /// Counts an opening. Returns whether it was refused as damage, or gives each entry or names its batch.
-fn counted(opened: OpenedInMode, file: &File, counts: &mut Counts) -> Result<bool> {
+fn count_opening(opened: OpenedInMode, file: &File, counts: &mut Counts) -> Result<bool> {
     match opened {
         Ok(mut opened) => {
             counts.opened = counts.opened.saturating_add(1);
             counts.named = counts.named.saturating_add(opened.damaged.len());
-            are_read_or_named(&mut opened, file.offsets.as_slice())
+            are_entries_read_or_named(&mut opened, file.offsets.as_slice())
         }
         Err(unopened) => {
             counts.refused = counts.refused.saturating_add(1);
-            finds_damage::<bool>(Err(unopened.error))
+            is_corruption::<bool>(Err(unopened.error))
         }
     }
 }
 
-fn is_place_fine<R: Threads + Sync>(
+/// Opens the file with a page of zeros at `place`, and counts the opening. Tests whether it was refused, or each
+/// entry can be read or has its batch named.
+fn is_zeroed_place_fine<R: Threads + Sync>(
     rt: &R,
     alloc: Global,
     file: &File,
     place: usize,
     counts: &mut Counts,
 ) -> Result<bool> {
-    let append = without_page(alloc, file, place.saturating_mul(file.bytes.len()) / PLACES)?;
+    let append = zero_page(alloc, file, place.saturating_mul(file.bytes.len()) / PLACES)?;
     let mode = RecoveryMode::TolerateTornTail;
     let opened = open_in_mode(rt, alloc, mode, append, Vec::new(alloc))?;
-    counted(opened, file, counts)
+    count_opening(opened, file, counts)
 }
 
-fn are_places_fine<R: Threads + Sync>(rt: &R, alloc: Global) -> Result<bool> {
-    let file = written(alloc)?;
+/// Tests whether a page of zeros at each place is refused, read or named, and all three happen often enough.
+fn are_all_zeroed_places_fine<R: Threads + Sync>(rt: &R, alloc: Global) -> Result<bool> {
+    let file = write_file_of_pages(alloc)?;
     let mut counts = Counts {
         opened: 0,
         named: 0,
         refused: 0,
     };
     for place in 0..PLACES {
-        if !is_place_fine(rt, alloc, &file, place, &mut counts)? {
+        if !is_zeroed_place_fine(rt, alloc, &file, place, &mut counts)? {
             return Ok(false);
         }
     }
@@ -134,7 +138,8 @@ fn are_places_fine<R: Threads + Sync>(rt: &R, alloc: Global) -> Result<bool> {
     )
 }
 
+/// Tests that an opening never loses an entry silently if a page of the last file has zeros.
 #[test]
 fn what_a_page_of_zeros_leaves_is_read_or_named(rt: HostRuntime) {
-    assert!(rt; holds!(are_places_fine(&rt, rt.alloc())));
+    assert!(rt; holds!(are_all_zeroed_places_fine(&rt, rt.alloc())));
 }

@@ -2,9 +2,11 @@
 
 use crate::batches::Part::{Clean, Compact, Delete, Entries, Put};
 use crate::batches::{Part, REGION};
-use crate::calls::{count_files, holds, new_engine, purge, recovered, rotate, write};
-use crate::engine::text_of;
-use crate::reopened::holds;
+use crate::calls::{
+    count_files, holds, new_engine, purge_append_files, recover_tables, rotate, write_parts,
+};
+use crate::engine::table_text;
+use crate::reopened::has_text;
 use raft_base::LogQueue;
 use raft_engine::Engine;
 use raft_files::MemoryFiles;
@@ -61,60 +63,67 @@ static PURGES: [Purge; 7] = [
 ];
 
 /// Makes an engine that wrote each batch of a row, and began a new file after each.
-fn written(alloc: Global, row: &Purge) -> Result<Engine<MemoryFiles>> {
+fn engine_with_batches(alloc: Global, row: &Purge) -> Result<Engine<MemoryFiles>> {
     let mut engine = new_engine(alloc)?;
-    write_all(alloc, &mut engine, row.batches)?;
+    write_batches_and_rotate(alloc, &mut engine, row.batches)?;
     Ok(engine)
 }
 
-fn write_all(alloc: Global, engine: &mut Engine<MemoryFiles>, batches: &[&[Part]]) -> Result<()> {
+/// Writes each of `batches`, and begins a new append file after each.
+fn write_batches_and_rotate(
+    alloc: Global,
+    engine: &mut Engine<MemoryFiles>,
+    batches: &[&[Part]],
+) -> Result<()> {
     for parts in batches {
-        write(alloc, engine, *parts, false)?;
+        write_parts(alloc, engine, *parts, false)?;
         rotate(engine)?;
     }
     Ok(())
 }
 
 /// Tests whether a recovery of these files gives `left`.
-fn is_recovered<R: Threads + Sync>(
+fn is_text_recovered<R: Threads + Sync>(
     rt: &R,
     alloc: Global,
     files: &MemoryFiles,
     left: &str,
 ) -> Result<bool> {
     let append = files.copies(LogQueue::Append)?;
-    let found = recovered(rt, alloc, append, files.copies(LogQueue::Rewrite)?)?;
-    Ok(text_of(alloc, found.get(REGION))?.as_str() == left)
+    let found = recover_tables(rt, alloc, append, files.copies(LogQueue::Rewrite)?)?;
+    Ok(table_text(alloc, found.get(REGION))?.as_str() == left)
 }
 
 /// Tests whether a purge deletes as many files as the row says, a second purge deletes none, and the engine and its files
 /// still have what is left.
-fn is_purged<R: Threads + Sync>(rt: &R, alloc: Global, row: &Purge) -> Result<bool> {
-    let mut engine = written(alloc, row)?;
-    is_purged_in(rt, alloc, &mut engine, row)
+fn is_row_purged<R: Threads + Sync>(rt: &R, alloc: Global, row: &Purge) -> Result<bool> {
+    let mut engine = engine_with_batches(alloc, row)?;
+    is_row_purged_in(rt, alloc, &mut engine, row)
 }
 
-fn is_purged_in<R: Threads + Sync>(
+/// Tests whether two purges of `engine` delete what `row` says and nothing more, and what is left can be recovered.
+fn is_row_purged_in<R: Threads + Sync>(
     rt: &R,
     alloc: Global,
     engine: &mut Engine<MemoryFiles>,
     row: &Purge,
 ) -> Result<bool> {
-    let deleted = purge(engine)?;
-    let again = purge(engine)?;
+    let deleted = purge_append_files(engine)?;
+    let again = purge_append_files(engine)?;
     let files = count_files(engine, LogQueue::Append);
     Ok(
         deleted == row.deleted
             && again == 0
             && files.saturating_add(deleted) == row.batches.len().saturating_add(1)
-            && holds(alloc, engine, row.left)?
-            && is_recovered(rt, alloc, engine.files(), row.left)?,
+            && has_text(alloc, engine, row.left)?
+            && is_text_recovered(rt, alloc, engine.files(), row.left)?,
     )
 }
 
+/// Tests that a purge deletes just the oldest files that no table needs.
 #[test]
 fn files_that_no_table_needs_are_deleted(rt: HostRuntime) {
     for (row, purge) in PURGES.iter().enumerate() {
-        assert!(rt; holds!(is_purged(&rt, rt.alloc(), purge)), "row {row}");
+        assert!(rt; holds!(is_row_purged(&rt, rt.alloc(), purge)), "row {row}");
     }
 }

@@ -3,10 +3,11 @@
 
 use crate::batches::{Part, REGION};
 use crate::calls::{
-    copies, fetch, finds_damage, get_entry, holds, new_engine, open, purge, reopened, rewrite,
-    rotate, with_flipped, write, write_batch,
+    copy_files, fetch_entries, flip_bit_of_first_file, get_entry, holds, is_corruption, new_engine,
+    open_copies, purge_append_files, reopen_over_copies, rewrite_up_to, rotate, write_batch,
+    write_parts,
 };
-use crate::round_trip::{TEXTS, entry_of, written_texts};
+use crate::round_trip::{TEXTS, batch_with_text, engine_with_texts};
 use raft_base::{FileBlockHandle, FileSeq, LogQueue, Version};
 use raft_engine::Engine;
 use raft_files::{AppendError, EngineFiles, MemoryFiles};
@@ -15,21 +16,22 @@ use std::alloc::Global;
 use std::thread::Threads;
 
 /// Tests whether `get_entry` returns this text for the entry `index` of region 7.
-fn comes_back(engine: &mut Engine<MemoryFiles>, index: u64, text: &str) -> Result<bool> {
+fn is_entry_read(engine: &mut Engine<MemoryFiles>, index: u64, text: &str) -> Result<bool> {
     match get_entry(engine, 7, index)? {
         Some(bytes) => Ok(bytes.as_slice() == text.as_bytes()),
         None => Ok(false),
     }
 }
 
+/// Tests whether `region` has no entry `index`.
 fn has_no_entry(engine: &mut Engine<MemoryFiles>, region: u64, index: u64) -> Result<bool> {
     Ok(get_entry(engine, region, index)?.is_none())
 }
 
 /// Tests whether each of [`TEXTS`] is returned when it is read alone, and `None` where there is no entry.
-fn come_back_alone(engine: &mut Engine<MemoryFiles>) -> Result<bool> {
+fn are_texts_read_alone(engine: &mut Engine<MemoryFiles>) -> Result<bool> {
     for (index, text) in (1u64..).zip(&TEXTS) {
-        if !comes_back(engine, index, text)? {
+        if !is_entry_read(engine, index, text)? {
             return Ok(false);
         }
     }
@@ -37,14 +39,14 @@ fn come_back_alone(engine: &mut Engine<MemoryFiles>) -> Result<bool> {
 }
 
 /// Tests whether one fetch appends all of [`TEXTS`] to what was there before.
-fn come_back_together(alloc: Global, engine: &mut Engine<MemoryFiles>) -> Result<bool> {
+fn are_texts_read_together(alloc: Global, engine: &mut Engine<MemoryFiles>) -> Result<bool> {
     let mut entries = vec![in alloc; Vec::from_slice(alloc, b"zero")?]?;
-    let count = fetch(engine, 7, (1, 6), None, &mut entries)?;
-    Ok(count == 5 && are_texts(&entries))
+    let count = fetch_entries(engine, 7, (1, 6), None, &mut entries)?;
+    Ok(count == 5 && are_zero_and_texts(&entries))
 }
 
 /// Tests whether these are `zero` and then [`TEXTS`].
-fn are_texts(entries: &[Vec<u8>]) -> bool {
+fn are_zero_and_texts(entries: &[Vec<u8>]) -> bool {
     let Some((zero, found)) = entries.split_first() else {
         return false;
     };
@@ -59,48 +61,52 @@ fn are_texts(entries: &[Vec<u8>]) -> bool {
     true
 }
 
-fn come_back(alloc: Global, engine: &mut Engine<MemoryFiles>) -> Result<bool> {
-    Ok(come_back_alone(engine)? && come_back_together(alloc, engine)?)
+/// Tests whether each of [`TEXTS`] is read alone, and all together.
+fn are_texts_read(alloc: Global, engine: &mut Engine<MemoryFiles>) -> Result<bool> {
+    Ok(are_texts_read_alone(engine)? && are_texts_read_together(alloc, engine)?)
 }
 
 /// Tests whether all texts come back once they were written, once they have moved to the rewrite queue, and once the files
 /// were opened again.
-fn all_come_back<R: Threads + Sync>(rt: &R, alloc: Global) -> Result<bool> {
-    let mut engine = written_texts(alloc)?;
-    come_back_moved(rt, alloc, &mut engine)
+fn are_texts_read_in_all_states<R: Threads + Sync>(rt: &R, alloc: Global) -> Result<bool> {
+    let mut engine = engine_with_texts(alloc)?;
+    are_moved_texts_read(rt, alloc, &mut engine)
 }
 
-fn come_back_moved<R: Threads + Sync>(
+/// Tests whether all texts are read before and after they move, and by an engine that is opened again.
+fn are_moved_texts_read<R: Threads + Sync>(
     rt: &R,
     alloc: Global,
     engine: &mut Engine<MemoryFiles>,
 ) -> Result<bool> {
-    if !come_back(alloc, engine)? {
+    if !are_texts_read(alloc, engine)? {
         return Ok(false);
     }
-    rewrite(engine, 2)?;
-    if purge(engine)? != 2 || !come_back(alloc, engine)? {
+    rewrite_up_to(engine, 2)?;
+    if purge_append_files(engine)? != 2 || !are_texts_read(alloc, engine)? {
         return Ok(false);
     }
-    come_back_reopened(rt, alloc, engine)
+    are_reopened_texts_read(rt, alloc, engine)
 }
 
-fn come_back_reopened<R: Threads + Sync>(
+/// Tests whether an engine that is opened over copies of the files reads all texts.
+fn are_reopened_texts_read<R: Threads + Sync>(
     rt: &R,
     alloc: Global,
     engine: &Engine<MemoryFiles>,
 ) -> Result<bool> {
-    let mut found = reopened(rt, alloc, engine)?;
-    come_back(alloc, &mut found)
+    let mut found = reopen_over_copies(rt, alloc, engine)?;
+    are_texts_read(alloc, &mut found)
 }
 
+/// Tests that entries are read with their bytes: from append files, from rewrite files, and after a restart.
 #[test]
-fn entries_come_back(rt: HostRuntime) {
-    assert!(rt; holds!(all_come_back(&rt, rt.alloc())));
+fn entries_are_read_as_they_were_written(rt: HostRuntime) {
+    assert!(rt; holds!(are_texts_read_in_all_states(&rt, rt.alloc())));
 }
 
 /// Returns how many entries of region 7 a fetch of this range and size returns.
-fn fetched(
+fn count_fetched(
     alloc: Global,
     engine: &mut Engine<MemoryFiles>,
     begin: u64,
@@ -108,7 +114,7 @@ fn fetched(
     max_size: Option<usize>,
 ) -> Result<usize> {
     let mut entries = Vec::new(alloc);
-    let count = fetch(engine, 7, (begin, end), max_size, &mut entries)?;
+    let count = fetch_entries(engine, 7, (begin, end), max_size, &mut entries)?;
     if entries.len() != count {
         return Err(Error::Failed);
     }
@@ -116,47 +122,55 @@ fn fetched(
 }
 
 /// Tests how many of the entries, which have 3, 3, 5, 0 and 4 bytes, a fetch returns with several maximal sizes.
-fn are_limited_in(alloc: Global, engine: &mut Engine<MemoryFiles>) -> Result<bool> {
+fn are_fetches_limited_in(alloc: Global, engine: &mut Engine<MemoryFiles>) -> Result<bool> {
     Ok(
-        fetched(alloc, engine, 1, 6, Some(0))? == 1
-            && fetched(alloc, engine, 1, 6, Some(6))? == 2
-            && fetched(alloc, engine, 1, 6, Some(11))? == 4
-            && fetched(alloc, engine, 3, 6, Some(8))? == 2
-            && fetched(alloc, engine, 3, 5, Some(15))? == 2,
+        count_fetched(alloc, engine, 1, 6, Some(0))? == 1
+            && count_fetched(alloc, engine, 1, 6, Some(6))? == 2
+            && count_fetched(alloc, engine, 1, 6, Some(11))? == 4
+            && count_fetched(alloc, engine, 3, 6, Some(8))? == 2
+            && count_fetched(alloc, engine, 3, 5, Some(15))? == 2,
     )
 }
 
-fn are_limited(alloc: Global) -> Result<bool> {
-    let mut engine = written_texts(alloc)?;
-    are_limited_in(alloc, &mut engine)
+/// Tests [`are_fetches_limited_in`] with an engine that wrote all texts.
+fn are_fetches_limited(alloc: Global) -> Result<bool> {
+    let mut engine = engine_with_texts(alloc)?;
+    are_fetches_limited_in(alloc, &mut engine)
 }
 
+/// Tests that a fetch returns entries up to a size, and at least one.
 #[test]
-fn entries_come_back_up_to_a_size(rt: HostRuntime) {
-    assert!(rt; holds!(are_limited(rt.alloc())));
+fn fetches_end_at_a_maximal_size(rt: HostRuntime) {
+    assert!(rt; holds!(are_fetches_limited(rt.alloc())));
 }
 
-fn compact(alloc: Global, engine: &mut Engine<MemoryFiles>) -> Result<()> {
+/// Writes a compaction of region 7 to index 3.
+fn compact_region_7(alloc: Global, engine: &mut Engine<MemoryFiles>) -> Result<()> {
     let mut batch = LogBatch::default(alloc);
     batch.add_command(7, Command::Compact { index: 3 })?;
     write_batch(engine, batch, false)
 }
 
-fn is_compacted(answer: Result<usize>) -> bool {
+/// Tests whether a fetch returned `EntryCompacted`.
+fn is_refused_as_compacted(answer: Result<usize>) -> bool {
     matches!(answer, Err(Error::EntryCompacted))
 }
 
-fn is_not_found(answer: Result<usize>) -> bool {
+/// Tests whether a fetch returned `EntryNotFound`.
+fn is_refused_as_not_found(answer: Result<usize>) -> bool {
     matches!(answer, Err(Error::EntryNotFound))
 }
 
 /// Tests which fetches are refused if region 7 has the entries [3,6): nothing is appended then, and the engine stays intact.
 /// An empty range gives no entries, nor does a region without a table.
-fn are_refused_in(engine: &mut Engine<MemoryFiles>, entries: &mut Vec<Vec<u8>>) -> Result<bool> {
-    let compacted = is_compacted(fetch(engine, 7, (2, 4), None, entries));
-    let missing = is_not_found(fetch(engine, 7, (3, 7), None, entries));
-    let empty = fetch(engine, 7, (9, 9), None, entries)?;
-    let no_table = fetch(engine, 8, (1, 2), None, entries)?;
+fn are_ranges_refused_in(
+    engine: &mut Engine<MemoryFiles>,
+    entries: &mut Vec<Vec<u8>>,
+) -> Result<bool> {
+    let compacted = is_refused_as_compacted(fetch_entries(engine, 7, (2, 4), None, entries));
+    let missing = is_refused_as_not_found(fetch_entries(engine, 7, (3, 7), None, entries));
+    let empty = fetch_entries(engine, 7, (9, 9), None, entries)?;
+    let no_table = fetch_entries(engine, 8, (1, 2), None, entries)?;
     Ok(
         compacted
             && missing
@@ -168,61 +182,70 @@ fn are_refused_in(engine: &mut Engine<MemoryFiles>, entries: &mut Vec<Vec<u8>>) 
     )
 }
 
-fn are_refused_compacted(alloc: Global, engine: &mut Engine<MemoryFiles>) -> Result<bool> {
-    compact(alloc, engine)?;
+/// Compacts region 7, and tests which fetches are refused then.
+fn are_ranges_refused_once_compacted(
+    alloc: Global,
+    engine: &mut Engine<MemoryFiles>,
+) -> Result<bool> {
+    compact_region_7(alloc, engine)?;
     let mut entries = Vec::new(alloc);
-    are_refused_in(engine, &mut entries)
+    are_ranges_refused_in(engine, &mut entries)
 }
 
-fn are_refused(alloc: Global) -> Result<bool> {
-    let mut engine = written_texts(alloc)?;
-    are_refused_compacted(alloc, &mut engine)
+/// Tests [`are_ranges_refused_once_compacted`] with an engine that wrote all texts.
+fn are_ranges_refused(alloc: Global) -> Result<bool> {
+    let mut engine = engine_with_texts(alloc)?;
+    are_ranges_refused_once_compacted(alloc, &mut engine)
 }
 
+/// Tests that ranges below the first entry or beyond the last one are refused, each with its error.
 #[test]
 fn ranges_without_entries_are_refused(rt: HostRuntime) {
-    assert!(rt; holds!(are_refused(rt.alloc())));
+    assert!(rt; holds!(are_ranges_refused(rt.alloc())));
 }
 
-/// Opens an engine over the files of [`written_texts`], with the first byte of the first entry changed: it stands after the 16
+/// Opens an engine over the files of [`engine_with_texts`], with the first byte of the first entry changed: it stands after the 16
 /// bytes of the batch's header.
-fn damaged<R: Threads + Sync>(rt: &R, alloc: Global) -> Result<Engine<MemoryFiles>> {
-    let engine = written_texts(alloc)?;
-    opened_damaged(rt, alloc, &engine)
+fn open_damaged_texts<R: Threads + Sync>(rt: &R, alloc: Global) -> Result<Engine<MemoryFiles>> {
+    let engine = engine_with_texts(alloc)?;
+    open_with_changed_byte(rt, alloc, &engine)
 }
 
-fn opened_damaged<R: Threads + Sync>(
+/// Opens an engine over copies of the files, with the byte 16 of the first one changed.
+fn open_with_changed_byte<R: Threads + Sync>(
     rt: &R,
     alloc: Global,
     engine: &Engine<MemoryFiles>,
 ) -> Result<Engine<MemoryFiles>> {
-    let append = with_flipped(copies(engine, LogQueue::Append)?, 16);
-    open(rt, alloc, append, copies(engine, LogQueue::Rewrite)?)
+    let append = flip_bit_of_first_file(copy_files(engine, LogQueue::Append)?, 16);
+    open_copies(rt, alloc, append, copy_files(engine, LogQueue::Rewrite)?)
 }
 
 /// Tests whether a fetch of all entries is refused as damage, and appends none.
-fn are_damaged(alloc: Global, engine: &mut Engine<MemoryFiles>) -> Result<bool> {
+fn is_fetch_of_all_refused(alloc: Global, engine: &mut Engine<MemoryFiles>) -> Result<bool> {
     let mut entries = Vec::new(alloc);
-    let refused = finds_damage(fetch(engine, 7, (1, 6), None, &mut entries))?;
+    let refused = is_corruption(fetch_entries(engine, 7, (1, 6), None, &mut entries))?;
     Ok(refused && entries.is_empty())
 }
 
+/// Tests whether `engine` refuses the damaged entry, alone and in a fetch, and returns the others.
 fn is_damage_found_in(alloc: Global, engine: &mut Engine<MemoryFiles>) -> Result<bool> {
-    let alone = finds_damage(get_entry(engine, 7, 1))?;
+    let alone = is_corruption(get_entry(engine, 7, 1))?;
     Ok(
         alone
-            && are_damaged(alloc, engine)?
+            && is_fetch_of_all_refused(alloc, engine)?
             && engine.is_intact()
-            && fetched(alloc, engine, 2, 6, None)? == 4,
+            && count_fetched(alloc, engine, 2, 6, None)? == 4,
     )
 }
 
 /// Tests whether a damaged entry isn't returned, and the engine stays intact and returns the others.
 fn is_damage_found<R: Threads + Sync>(rt: &R, alloc: Global) -> Result<bool> {
-    let mut engine = damaged(rt, alloc)?;
+    let mut engine = open_damaged_texts(rt, alloc)?;
     is_damage_found_in(alloc, &mut engine)
 }
 
+/// Tests that an entry whose bytes are damaged is refused, and the others are read.
 #[test]
 fn damaged_entries_are_not_read(rt: HostRuntime) {
     assert!(rt; holds!(is_damage_found(&rt, rt.alloc())));
@@ -230,37 +253,40 @@ fn damaged_entries_are_not_read(rt: HostRuntime) {
 
 /// Tests whether an engine goes on after the read of a damaged entry was refused: it writes, syncs and begins a file, and a
 /// restart finds what isn't damaged.
-fn is_written_after_damage<R: Threads + Sync>(rt: &R, alloc: Global) -> Result<bool> {
-    let mut engine = damaged(rt, alloc)?;
-    goes_on_damaged(rt, alloc, &mut engine)
+fn does_engine_go_on_after_damage<R: Threads + Sync>(rt: &R, alloc: Global) -> Result<bool> {
+    let mut engine = open_damaged_texts(rt, alloc)?;
+    does_damaged_engine_go_on(rt, alloc, &mut engine)
 }
 
-fn goes_on_damaged<R: Threads + Sync>(
+/// Reads the damaged entry, writes one more, and begins a file. Tests whether a restart finds the five that are
+/// whole.
+fn does_damaged_engine_go_on<R: Threads + Sync>(
     rt: &R,
     alloc: Global,
     engine: &mut Engine<MemoryFiles>,
 ) -> Result<bool> {
-    if !finds_damage(get_entry(engine, 7, 1))? {
+    if !is_corruption(get_entry(engine, 7, 1))? {
         return Ok(false);
     }
-    write_batch(engine, entry_of(alloc, 6, "six")?, true)?;
+    write_batch(engine, batch_with_text(alloc, 6, "six")?, true)?;
     rotate(engine)?;
-    Ok(fetched_reopened(rt, alloc, engine)? == 5)
+    Ok(count_fetched_reopened(rt, alloc, engine)? == 5)
 }
 
 /// Returns how many of the entries from index 2 on an engine returns that is opened over copies of the files.
-fn fetched_reopened<R: Threads + Sync>(
+fn count_fetched_reopened<R: Threads + Sync>(
     rt: &R,
     alloc: Global,
     engine: &Engine<MemoryFiles>,
 ) -> Result<usize> {
-    let mut found = reopened(rt, alloc, engine)?;
-    fetched(alloc, &mut found, 2, 7, None)
+    let mut found = reopen_over_copies(rt, alloc, engine)?;
+    count_fetched(alloc, &mut found, 2, 7, None)
 }
 
+/// Tests that an engine writes on after it refused to read a damaged entry.
 #[test]
 fn an_engine_goes_on_after_a_damaged_read(rt: HostRuntime) {
-    assert!(rt; holds!(is_written_after_damage(&rt, rt.alloc())));
+    assert!(rt; holds!(does_engine_go_on_after_damage(&rt, rt.alloc())));
 }
 
 /// Files in memory that count their reads.
@@ -275,26 +301,56 @@ pub struct CountedFiles {
 impl EngineFiles for CountedFiles {
     ghost asked = { λ f. f.files };
 
+    /// Appends `bytes` to the last file of `queue`.
+    ///
+    /// # Errors
+    ///
+    /// Those of the files in memory.
     fn append(&mut self, queue: LogQueue, bytes: &[u8]) -> std::result::Result<(), AppendError> {
         self.files.append(queue, bytes)
     }
 
+    /// Begins the file `seq` of `queue`.
+    ///
+    /// # Errors
+    ///
+    /// Those of the files in memory.
     fn rotate(&mut self, queue: LogQueue, seq: FileSeq) -> Result<()> {
         self.files.rotate(queue, seq)
     }
 
+    /// Syncs `queue`.
+    ///
+    /// # Errors
+    ///
+    /// Those of the files in memory.
     fn sync(&mut self, queue: LogQueue) -> Result<()> {
         self.files.sync(queue)
     }
 
+    /// Deletes the oldest file of `queue`.
+    ///
+    /// # Errors
+    ///
+    /// Those of the files in memory.
     fn delete_oldest(&mut self, queue: LogQueue) -> Result<()> {
         self.files.delete_oldest(queue)
     }
 
+    /// Cuts the last file of `queue` to `len` bytes.
+    ///
+    /// # Errors
+    ///
+    /// Those of the files in memory.
     fn truncate(&mut self, queue: LogQueue, len: u64) -> Result<()> {
         self.files.truncate(queue, len)
     }
 
+    /// Returns the bytes at `place`, and counts the read.
+    ///
+    /// # Errors
+    ///
+    /// Those of the files in memory. Such a read isn't counted.
     fn read(&mut self, place: FileBlockHandle) -> Result<Vec<u8>> {
         let bytes = self.files.read(place)?;
         self.reads = self.reads.saturating_add(1);
@@ -303,7 +359,7 @@ impl EngineFiles for CountedFiles {
 }
 
 /// Makes a new engine over files that count their reads.
-pub fn new_counted(alloc: Global) -> Result<Engine<CountedFiles>> {
+pub fn new_engine_counting_reads(alloc: Global) -> Result<Engine<CountedFiles>> {
     let files = CountedFiles {
         files: MemoryFiles::new(alloc),
         reads: 0,
@@ -312,8 +368,11 @@ pub fn new_counted(alloc: Global) -> Result<Engine<CountedFiles>> {
 }
 
 /// Tests how many reads are made for entries of both batches, for one entry, and for one that isn't there.
-fn are_counted(engine: &mut Engine<CountedFiles>, entries: &mut Vec<Vec<u8>>) -> Result<bool> {
-    let count = fetch(engine, REGION, (2, 7), None, entries)?;
+fn are_reads_counted(
+    engine: &mut Engine<CountedFiles>,
+    entries: &mut Vec<Vec<u8>>,
+) -> Result<bool> {
+    let count = fetch_entries(engine, REGION, (2, 7), None, entries)?;
     let together = engine.files().reads;
     let found = get_entry(engine, REGION, 3)?.is_some();
     let alone = engine.files().reads;
@@ -324,22 +383,29 @@ fn are_counted(engine: &mut Engine<CountedFiles>, entries: &mut Vec<Vec<u8>>) ->
 
 /// Writes four entries in one batch and two in the next. Tests whether the engine reads each block once.
 fn are_written_and_counted(alloc: Global, engine: &mut Engine<CountedFiles>) -> Result<bool> {
-    write(alloc, engine, &[Part::Entries(1, 5)], false)?;
-    write(alloc, engine, &[Part::Entries(5, 7)], false)?;
+    write_parts(alloc, engine, &[Part::Entries(1, 5)], false)?;
+    write_parts(alloc, engine, &[Part::Entries(5, 7)], false)?;
     let mut entries = Vec::new(alloc);
-    are_counted(engine, &mut entries)
+    are_reads_counted(engine, &mut entries)
 }
 
+/// Tests [`are_written_and_counted`] with a new engine.
 fn are_blocks_read_once(alloc: Global) -> Result<bool> {
-    let mut engine = new_counted(alloc)?;
+    let mut engine = new_engine_counting_reads(alloc)?;
     are_written_and_counted(alloc, &mut engine)
 }
 
+/// Tests that entries of one block are read from the files by one read.
 #[test]
 fn blocks_are_read_once(rt: HostRuntime) {
     assert!(rt; holds!(are_blocks_read_once(rt.alloc())));
 }
 
+/// Adds a put of an empty value under `key` of the tests' region.
+///
+/// # Errors
+///
+/// `Failed` if the batch isn't open; `Memory`.
 fn put_key(alloc: Global, batch: &mut LogBatch, key: &[u8]) -> Result<()> {
     if !batch.is_open() {
         return Err(Error::Failed);
@@ -348,12 +414,17 @@ fn put_key(alloc: Global, batch: &mut LogBatch, key: &[u8]) -> Result<()> {
 }
 
 /// Returns a batch that puts the keys `3`, `1` and `2`.
-fn keys(alloc: Global) -> Result<LogBatch> {
+fn batch_of_keys(alloc: Global) -> Result<LogBatch> {
     let mut batch = LogBatch::default(alloc);
     put_keys(alloc, &mut batch)?;
     Ok(batch)
 }
 
+/// Adds puts of the keys `3`, `1` and `2`, in this order.
+///
+/// # Errors
+///
+/// Those of [`put_key`].
 fn put_keys(alloc: Global, batch: &mut LogBatch) -> Result<()> {
     put_key(alloc, batch, b"3")?;
     put_key(alloc, batch, b"1")?;
@@ -361,18 +432,19 @@ fn put_keys(alloc: Global, batch: &mut LogBatch) -> Result<()> {
 }
 
 /// Returns an engine with the keys `1`, `2` and `3`.
-fn keyed(alloc: Global) -> Result<Engine<MemoryFiles>> {
+fn engine_with_keys(alloc: Global) -> Result<Engine<MemoryFiles>> {
     let mut engine = new_engine(alloc)?;
     write_keys(alloc, &mut engine)?;
     Ok(engine)
 }
 
+/// Writes the batch of [`batch_of_keys`].
 fn write_keys(alloc: Global, engine: &mut Engine<MemoryFiles>) -> Result<()> {
-    write_batch(engine, keys(alloc)?, false)
+    write_batch(engine, batch_of_keys(alloc)?, false)
 }
 
 /// Returns the keys of a region that a scan visits, in order, as the digits of a number.
-fn scanned(
+fn scan_keys_as_digits(
     engine: &Engine<MemoryFiles>,
     region: u64,
     start: Option<&[u8]>,
@@ -387,21 +459,24 @@ fn scanned(
     Ok(seen)
 }
 
-fn are_scanned_in(engine: &Engine<MemoryFiles>) -> Result<bool> {
+/// Tests whether scans visit the keys of `engine` in both orders and from a key on, and none of another region.
+fn are_keys_scanned_in(engine: &Engine<MemoryFiles>) -> Result<bool> {
     Ok(
-        scanned(engine, REGION, None, false)? == 123
-            && scanned(engine, REGION, None, true)? == 321
-            && scanned(engine, REGION, Some(b"2"), false)? == 23
-            && scanned(engine, 8, None, false)? == 0,
+        scan_keys_as_digits(engine, REGION, None, false)? == 123
+            && scan_keys_as_digits(engine, REGION, None, true)? == 321
+            && scan_keys_as_digits(engine, REGION, Some(b"2"), false)? == 23
+            && scan_keys_as_digits(engine, 8, None, false)? == 0,
     )
 }
 
-fn are_scanned(alloc: Global) -> Result<bool> {
-    let engine = keyed(alloc)?;
-    are_scanned_in(&engine)
+/// Tests [`are_keys_scanned_in`] with an engine that wrote three keys.
+fn are_keys_scanned(alloc: Global) -> Result<bool> {
+    let engine = engine_with_keys(alloc)?;
+    are_keys_scanned_in(&engine)
 }
 
+/// Tests that a scan visits keys in their order, also in reverse and from a key on.
 #[test]
 fn keys_are_scanned_in_order(rt: HostRuntime) {
-    assert!(rt; holds!(are_scanned(rt.alloc())));
+    assert!(rt; holds!(are_keys_scanned(rt.alloc())));
 }

@@ -4,11 +4,11 @@
 use crate::batches::Part::{Clean, Compact, Delete, Entries, Put, Truncate};
 use crate::batches::{Part, REGION};
 use crate::calls::{
-    LogFiles, copies, count_files, finds_damage, holds, new_engine, open, purge, reopened, rewrite,
-    rotate, with_flipped, write,
+    LogFiles, copy_files, count_files, flip_bit_of_first_file, holds, is_corruption, new_engine,
+    open_copies, purge_append_files, reopen_over_copies, rewrite_up_to, rotate, write_parts,
 };
 use crate::engine::Step::{Append, Purge, Rewrite};
-use crate::engine::{Engine as Histories, text_of};
+use crate::engine::{Engine as Histories, table_text};
 use raft_base::LogQueue;
 use raft_engine::Engine;
 use raft_files::MemoryFiles;
@@ -17,8 +17,8 @@ use std::alloc::Global;
 use std::thread::Threads;
 
 /// Tests whether the tables of the engine hold `text`.
-pub fn holds(alloc: Global, engine: &Engine<MemoryFiles>, text: &str) -> Result<bool> {
-    Ok(text_of(alloc, engine.accessor().get(REGION))?.as_str() == text)
+pub fn has_text(alloc: Global, engine: &Engine<MemoryFiles>, text: &str) -> Result<bool> {
+    Ok(table_text(alloc, engine.accessor().get(REGION))?.as_str() == text)
 }
 
 /// Batches that are written after [1,10) and `k=v` have moved to a rewrite file.
@@ -86,109 +86,140 @@ static CHANGES: [Change; 10] = [
 
 /// Opens an engine over files of both queues, in which [1,10) and `k=v` have moved to a rewrite file and their append file is
 /// deleted.
-fn found<R: Threads + Sync>(rt: &R, alloc: Global) -> Result<Engine<MemoryFiles>> {
+fn open_moved_files<R: Threads + Sync>(rt: &R, alloc: Global) -> Result<Engine<MemoryFiles>> {
     let mut store = Histories::new(alloc)?;
-    found_in(rt, alloc, &mut store)
+    open_moved_files_of(rt, alloc, &mut store)
 }
 
-fn found_in<R: Threads + Sync>(
+/// Has `store` write [1,10) and `k=v`, move them, and delete their append file. Opens an engine over copies of its
+/// files.
+fn open_moved_files_of<R: Threads + Sync>(
     rt: &R,
     alloc: Global,
     store: &mut Histories,
 ) -> Result<Engine<MemoryFiles>> {
-    store.take(&Append(1, &[Entries(1, 10), Put("v")]))?;
-    store.take(&Rewrite(1, Some(1), &[Entries(1, 10), Put("v")]))?;
-    store.take(&Purge(LogQueue::Append, 1))?;
-    let append = store.copies(LogQueue::Append)?;
-    open(rt, alloc, append, store.copies(LogQueue::Rewrite)?)
+    store.take_step(&Append(1, &[Entries(1, 10), Put("v")]))?;
+    store.take_step(&Rewrite(1, Some(1), &[Entries(1, 10), Put("v")]))?;
+    store.take_step(&Purge(LogQueue::Append, 1))?;
+    let append = store.copy_files(LogQueue::Append)?;
+    open_copies(rt, alloc, append, store.copy_files(LogQueue::Rewrite)?)
 }
 
 /// Makes an engine that wrote [1,10) and `k=v`, moved them to the rewrite queue, and deleted their append file.
-pub fn moved(alloc: Global) -> Result<Engine<MemoryFiles>> {
-    moved_parts(alloc, &[Entries(1, 10), Put("v")])
+pub fn engine_with_moved_records(alloc: Global) -> Result<Engine<MemoryFiles>> {
+    engine_with_moved_parts(alloc, &[Entries(1, 10), Put("v")])
 }
 
 /// Makes an engine that wrote a batch of `parts`, moved its records to the rewrite queue, and deleted their append file.
-pub fn moved_parts(alloc: Global, parts: &[Part]) -> Result<Engine<MemoryFiles>> {
+pub fn engine_with_moved_parts(alloc: Global, parts: &[Part]) -> Result<Engine<MemoryFiles>> {
     let mut engine = new_engine(alloc)?;
-    write_and_move(alloc, &mut engine, parts)?;
+    write_move_and_purge(alloc, &mut engine, parts)?;
     Ok(engine)
 }
 
-fn write_and_move(alloc: Global, engine: &mut Engine<MemoryFiles>, parts: &[Part]) -> Result<()> {
-    write(alloc, engine, parts, false)?;
+/// Writes a batch of `parts`, moves it to the rewrite queue, and deletes its append file.
+fn write_move_and_purge(
+    alloc: Global,
+    engine: &mut Engine<MemoryFiles>,
+    parts: &[Part],
+) -> Result<()> {
+    write_parts(alloc, engine, parts, false)?;
     rotate(engine)?;
-    rewrite(engine, 1)?;
-    purge(engine)?;
+    rewrite_up_to(engine, 1)?;
+    purge_append_files(engine)?;
     Ok(())
 }
 
 /// Writes the batches of a change to the last append file, and begins the next one.
-fn make(alloc: Global, engine: &mut Engine<MemoryFiles>, change: &Change) -> Result<()> {
+fn write_change(alloc: Global, engine: &mut Engine<MemoryFiles>, change: &Change) -> Result<()> {
     for parts in change.batches {
-        write(alloc, engine, parts, false)?;
+        write_parts(alloc, engine, parts, false)?;
     }
     rotate(engine)
 }
 
+/// Tests whether `engine` has `count` append files.
 fn has_append_files(engine: &Engine<MemoryFiles>, count: usize) -> bool {
     count_files(engine, LogQueue::Append) == count
 }
 
 /// Tests whether an engine that is opened over copies of the files holds `text`.
-pub fn is_found<R: Threads + Sync>(
+pub fn is_found_reopened<R: Threads + Sync>(
     rt: &R,
     alloc: Global,
     engine: &Engine<MemoryFiles>,
     text: &str,
 ) -> Result<bool> {
-    let found = reopened(rt, alloc, engine)?;
-    holds(alloc, &found, text)
+    let found = reopen_over_copies(rt, alloc, engine)?;
+    has_text(alloc, &found, text)
 }
 
 /// Tests whether a purge leaves `files` of two append files.
-fn leaves(engine: &mut Engine<MemoryFiles>, files: usize) -> Result<bool> {
-    let deleted = purge(engine)?;
+fn does_purge_leave(engine: &mut Engine<MemoryFiles>, files: usize) -> Result<bool> {
+    let deleted = purge_append_files(engine)?;
     Ok(deleted.saturating_add(files) == 2 && has_append_files(engine, files))
 }
 
 /// Makes a change. Tests whether what it takes away stays away, and what it leaves stays: in restarts before and after a
 /// purge, and in the engine.
-fn stays<R: Threads + Sync>(
+fn does_change_stay<R: Threads + Sync>(
     rt: &R,
     alloc: Global,
     engine: &mut Engine<MemoryFiles>,
     change: &Change,
 ) -> Result<bool> {
-    if !has_append_files(engine, 1) || !holds(alloc, engine, "[1,10)k=v")? {
+    if !has_append_files(engine, 1) || !has_text(alloc, engine, "[1,10)k=v")? {
         return Ok(false);
     }
-    make(alloc, engine, change)?;
-    if !is_found(rt, alloc, engine, change.left)? || !leaves(engine, change.files)? {
+    write_change(alloc, engine, change)?;
+    if !is_found_reopened(rt, alloc, engine, change.left)?
+        || !does_purge_leave(engine, change.files)?
+    {
         return Ok(false);
     }
-    Ok(holds(alloc, engine, change.left)? && is_found(rt, alloc, engine, change.left)?)
+    Ok(has_text(alloc, engine, change.left)? && is_found_reopened(rt, alloc, engine, change.left)?)
 }
 
-fn found_stays<R: Threads + Sync>(rt: &R, alloc: Global, change: &Change) -> Result<bool> {
-    let mut engine = found(rt, alloc)?;
-    stays(rt, alloc, &mut engine, change)
+/// Tests whether `change` stays, made in an engine that found its records in files.
+fn does_change_of_found_stay<R: Threads + Sync>(
+    rt: &R,
+    alloc: Global,
+    change: &Change,
+) -> Result<bool> {
+    let mut engine = open_moved_files(rt, alloc)?;
+    does_change_stay(rt, alloc, &mut engine, change)
 }
 
-fn moved_stays<R: Threads + Sync>(rt: &R, alloc: Global, change: &Change) -> Result<bool> {
-    let mut engine = moved(alloc)?;
-    stays(rt, alloc, &mut engine, change)
+/// Tests whether `change` stays, made in an engine that moved its records.
+fn does_change_of_moved_stay<R: Threads + Sync>(
+    rt: &R,
+    alloc: Global,
+    change: &Change,
+) -> Result<bool> {
+    let mut engine = engine_with_moved_records(alloc)?;
+    does_change_stay(rt, alloc, &mut engine, change)
 }
 
 /// Tests whether what a change leaves stays, in an engine that found its records in files, and in one that moved them.
-fn all_stay<R: Threads + Sync>(rt: &R, alloc: Global, change: &Change) -> Result<bool> {
-    Ok(found_stays(rt, alloc, change)? && moved_stays(rt, alloc, change)?)
+fn does_change_stay_in_both<R: Threads + Sync>(
+    rt: &R,
+    alloc: Global,
+    change: &Change,
+) -> Result<bool> {
+    Ok(
+        does_change_of_found_stay(rt, alloc, change)?
+            && does_change_of_moved_stay(rt, alloc, change)?,
+    )
 }
 
+/// Tests that what each change takes away stays away, and what it leaves stays, after restarts and a purge.
 #[test]
-fn changes_stay(rt: HostRuntime) {
+fn changes_stay_after_restarts_and_purges(rt: HostRuntime) {
     for (row, change) in CHANGES.iter().enumerate() {
-        assert!(rt; holds!(all_stay(&rt, rt.alloc(), change)), "row {row}");
+        assert!(rt;
+            holds!(does_change_stay_in_both(&rt, rt.alloc(), change)),
+            "row {row}"
+        );
     }
 }
 
@@ -209,23 +240,25 @@ struct Prefixes {
     ends: Vec<usize>,
 }
 
-fn made(alloc: Global) -> Result<Prefixes> {
+/// Returns an engine that wrote the batches of [`WRITES`], and where each of them ends in its file.
+fn write_prefixes(alloc: Global) -> Result<Prefixes> {
     let mut engine = new_engine(alloc)?;
-    let ends = write_all(alloc, &mut engine)?;
+    let ends = write_each_and_measure(alloc, &mut engine)?;
     Ok(Prefixes { engine, ends })
 }
 
 /// Writes the batches of [`WRITES`]. Returns the length of the file in bytes after each.
-fn write_all(alloc: Global, engine: &mut Engine<MemoryFiles>) -> Result<Vec<usize>> {
+fn write_each_and_measure(alloc: Global, engine: &mut Engine<MemoryFiles>) -> Result<Vec<usize>> {
     let mut ends = Vec::new(alloc);
     for parts in &WRITES {
-        write(alloc, engine, parts, false)?;
-        ends.push(last_len(engine.files().files(LogQueue::Append)))?;
+        write_parts(alloc, engine, parts, false)?;
+        ends.push(last_file_len(engine.files().files(LogQueue::Append)))?;
     }
     Ok(ends)
 }
 
-fn last_len(files: &LogFiles) -> usize {
+/// Returns the length of the last of `files` in bytes; 0 without files.
+fn last_file_len(files: &LogFiles) -> usize {
     match files.last() {
         Some((_, bytes)) => bytes.len(),
         None => 0,
@@ -233,7 +266,7 @@ fn last_len(files: &LogFiles) -> usize {
 }
 
 /// Returns how many batches are whole in the first `len` bytes of the file.
-fn whole_in(fronts: &Prefixes, len: usize) -> usize {
+fn count_whole_batches(fronts: &Prefixes, len: usize) -> usize {
     let mut count = 0usize;
     for end in &fronts.ends {
         if *end <= len {
@@ -244,7 +277,7 @@ fn whole_in(fronts: &Prefixes, len: usize) -> usize {
 }
 
 /// Returns what the first `count` batches leave.
-fn left_by(count: usize) -> &'static str {
+fn text_left_by(count: usize) -> &'static str {
     match count {
         0 => "",
         1 => "[1,3)",
@@ -255,24 +288,24 @@ fn left_by(count: usize) -> &'static str {
 }
 
 /// Opens an engine over copies of the files, of which the append file is cut to `len` bytes.
-fn opened_at<R: Threads + Sync>(
+fn open_prefix<R: Threads + Sync>(
     rt: &R,
     alloc: Global,
     fronts: &Prefixes,
     len: usize,
 ) -> Result<Engine<MemoryFiles>> {
-    let append = front_of(&fronts.engine, len)?;
-    open(
+    let append = copy_prefix(&fronts.engine, len)?;
+    open_copies(
         rt,
         alloc,
         append,
-        copies(&fronts.engine, LogQueue::Rewrite)?,
+        copy_files(&fronts.engine, LogQueue::Rewrite)?,
     )
 }
 
 /// Returns copies of the append files, of which the last one is cut to `len` bytes.
-fn front_of(engine: &Engine<MemoryFiles>, len: usize) -> Result<LogFiles> {
-    let mut append = copies(engine, LogQueue::Append)?;
+fn copy_prefix(engine: &Engine<MemoryFiles>, len: usize) -> Result<LogFiles> {
+    let mut append = copy_files(engine, LogQueue::Append)?;
     if let Some(last) = append.last_mut() {
         last.1.truncate(len);
     }
@@ -281,80 +314,99 @@ fn front_of(engine: &Engine<MemoryFiles>, len: usize) -> Result<LogFiles> {
 
 /// Replaces all that an engine holds by `k=x`, moves that to the rewrite queue, and purges the append files. Returns how many
 /// files were deleted.
-fn replace(alloc: Global, engine: &mut Engine<MemoryFiles>) -> Result<usize> {
-    write(alloc, engine, &[Clean, Put("x")], true)?;
+fn replace_all_and_purge(alloc: Global, engine: &mut Engine<MemoryFiles>) -> Result<usize> {
+    write_parts(alloc, engine, &[Clean, Put("x")], true)?;
     rotate(engine)?;
-    rewrite(engine, u64::MAX)?;
-    purge(engine)
+    rewrite_up_to(engine, u64::MAX)?;
+    purge_append_files(engine)
 }
 
 /// Tests whether an engine that is opened over the first `len` bytes of the file holds what the whole batches leave, and goes
 /// on.
-fn finds_prefix<R: Threads + Sync>(
+fn is_prefix_found<R: Threads + Sync>(
     rt: &R,
     alloc: Global,
     fronts: &Prefixes,
     len: usize,
 ) -> Result<bool> {
-    let mut engine = opened_at(rt, alloc, fronts, len)?;
-    goes_on(rt, alloc, &mut engine, left_by(whole_in(fronts, len)))
+    let mut engine = open_prefix(rt, alloc, fronts, len)?;
+    does_engine_go_on(
+        rt,
+        alloc,
+        &mut engine,
+        text_left_by(count_whole_batches(fronts, len)),
+    )
 }
 
-fn goes_on<R: Threads + Sync>(
+/// Tests whether `engine` holds `left`, replaces it, deletes one append file, and a restart finds what it wrote.
+fn does_engine_go_on<R: Threads + Sync>(
     rt: &R,
     alloc: Global,
     engine: &mut Engine<MemoryFiles>,
     left: &str,
 ) -> Result<bool> {
-    if !holds(alloc, engine, left)? || replace(alloc, engine)? != 1 {
+    if !has_text(alloc, engine, left)? || replace_all_and_purge(alloc, engine)? != 1 {
         return Ok(false);
     }
-    is_found(rt, alloc, engine, "k=x")
+    is_found_reopened(rt, alloc, engine, "k=x")
 }
 
 /// Tests at each length of the file whether an engine over it holds what the whole batches leave.
-fn finds_all<R: Threads + Sync>(rt: &R, alloc: Global, fronts: &Prefixes) -> Result<bool> {
-    for len in 0..last_len(fronts.engine.files().files(LogQueue::Append)).saturating_add(1) {
-        if !finds_prefix(rt, alloc, fronts, len)? {
+fn are_all_prefixes_found<R: Threads + Sync>(
+    rt: &R,
+    alloc: Global,
+    fronts: &Prefixes,
+) -> Result<bool> {
+    for len in 0..last_file_len(fronts.engine.files().files(LogQueue::Append)).saturating_add(1) {
+        if !is_prefix_found(rt, alloc, fronts, len)? {
             return Ok(false);
         }
     }
     Ok(true)
 }
 
-fn finds_prefixes<R: Threads + Sync>(rt: &R, alloc: Global) -> Result<bool> {
-    let fronts = made(alloc)?;
-    finds_all(rt, alloc, &fronts)
+/// Tests [`are_all_prefixes_found`] with a file of the batches of [`WRITES`].
+fn are_prefixes_of_file_found<R: Threads + Sync>(rt: &R, alloc: Global) -> Result<bool> {
+    let fronts = write_prefixes(alloc)?;
+    are_all_prefixes_found(rt, alloc, &fronts)
 }
 
+/// Tests that each prefix of an append file gives what its whole batches leave.
 #[test]
-fn prefixes_are_found(rt: HostRuntime) {
-    assert!(rt; holds!(finds_prefixes(&rt, rt.alloc())));
+fn each_prefix_of_a_file_is_found(rt: HostRuntime) {
+    assert!(rt; holds!(are_prefixes_of_file_found(&rt, rt.alloc())));
 }
 
 /// Tests whether an opening refuses a file whose first batch is damaged.
-fn refuses_damage<R: Threads + Sync>(rt: &R, alloc: Global, fronts: &Prefixes) -> Result<bool> {
-    let append = with_flipped(copies(&fronts.engine, LogQueue::Append)?, 24);
-    finds_damage(open(rt, alloc, append, Vec::new(alloc)))
+fn is_damage_refused<R: Threads + Sync>(rt: &R, alloc: Global, fronts: &Prefixes) -> Result<bool> {
+    let append = flip_bit_of_first_file(copy_files(&fronts.engine, LogQueue::Append)?, 24);
+    is_corruption(open_copies(rt, alloc, append, Vec::new(alloc)))
 }
 
 /// Tests whether an opening refuses files with the same number twice.
-fn refuses_numbers<R: Threads + Sync>(rt: &R, alloc: Global, fronts: &Prefixes) -> Result<bool> {
-    let mut append = copies(&fronts.engine, LogQueue::Append)?;
+fn are_equal_numbers_refused<R: Threads + Sync>(
+    rt: &R,
+    alloc: Global,
+    fronts: &Prefixes,
+) -> Result<bool> {
+    let mut append = copy_files(&fronts.engine, LogQueue::Append)?;
     append.push((1, Vec::new(alloc)))?;
-    finds_damage(open(rt, alloc, append, Vec::new(alloc)))
+    is_corruption(open_copies(rt, alloc, append, Vec::new(alloc)))
 }
 
-fn refuses_both<R: Threads + Sync>(rt: &R, alloc: Global, fronts: &Prefixes) -> Result<bool> {
-    Ok(refuses_damage(rt, alloc, fronts)? && refuses_numbers(rt, alloc, fronts)?)
+/// Tests whether a damaged first batch and equal file numbers are refused.
+fn are_both_refused<R: Threads + Sync>(rt: &R, alloc: Global, fronts: &Prefixes) -> Result<bool> {
+    Ok(is_damage_refused(rt, alloc, fronts)? && are_equal_numbers_refused(rt, alloc, fronts)?)
 }
 
-fn refuses<R: Threads + Sync>(rt: &R, alloc: Global) -> Result<bool> {
-    let fronts = made(alloc)?;
-    refuses_both(rt, alloc, &fronts)
+/// Tests [`are_both_refused`] with a file of the batches of [`WRITES`].
+fn is_what_no_crash_leaves_refused<R: Threads + Sync>(rt: &R, alloc: Global) -> Result<bool> {
+    let fronts = write_prefixes(alloc)?;
+    are_both_refused(rt, alloc, &fronts)
 }
 
+/// Tests that an opening refuses files that no crash leaves.
 #[test]
 fn what_no_crash_leaves_is_refused(rt: HostRuntime) {
-    assert!(rt; holds!(refuses(&rt, rt.alloc())));
+    assert!(rt; holds!(is_what_no_crash_leaves_refused(&rt, rt.alloc())));
 }

@@ -1,69 +1,76 @@
 //! Tests of restarts of an engine: what was written is found again, each time, and what was taken away isn't. The law that
 //! says what a restart finds is cited too, in a function of its own, so that it makes no other proof dear.
 
-use crate::again::empty_append_files;
+use crate::again::move_and_purge_append_files;
 use crate::batches::Part;
 use crate::batches::Part::{Clean, Compact, Delete, Entries, Put, Truncate};
-use crate::calls::{holds, new_engine, purge, reopened, rotate, write};
-use crate::reopened::{holds, is_found, moved_parts};
+use crate::calls::{
+    holds, new_engine, purge_append_files, reopen_over_copies, rotate, write_parts,
+};
+use crate::reopened::{engine_with_moved_parts, has_text, is_found_reopened};
 use raft_engine::Engine;
 use raft_files::MemoryFiles;
 use raft_records::Result;
 use std::alloc::Global;
 use std::thread::Threads;
 
+/// Cites the law that says what an opening of the files of `engine` gives.
 fn state_that_what_is_left_is_opened(engine: &Engine<MemoryFiles>) {
     engine.what_is_left_is_opened();
 }
 
 /// Opens an engine over copies of the files of another one, and cites the law that says what is found then.
-fn restarted<R: Threads + Sync>(
+fn reopen_and_state<R: Threads + Sync>(
     rt: &R,
     alloc: Global,
     engine: &Engine<MemoryFiles>,
 ) -> Result<Engine<MemoryFiles>> {
     state_that_what_is_left_is_opened(engine);
-    reopened(rt, alloc, engine)
+    reopen_over_copies(rt, alloc, engine)
 }
 
 /// Tests whether each of two restarts has what was written before it, also what was written after the first restart.
-fn restarts_find_all<R: Threads + Sync>(rt: &R, alloc: Global) -> Result<bool> {
+fn do_restarts_find_all<R: Threads + Sync>(rt: &R, alloc: Global) -> Result<bool> {
     let mut engine = new_engine(alloc)?;
-    write(alloc, &mut engine, &[Entries(1, 6), Put("v")], true)?;
-    finds_first(rt, alloc, &engine)
+    write_parts(alloc, &mut engine, &[Entries(1, 6), Put("v")], true)?;
+    is_all_found_by_first(rt, alloc, &engine)
 }
 
-fn finds_first<R: Threads + Sync>(
+/// Tests whether `engine` holds what was written before its own opening, and so do the two restarts after it.
+fn is_all_found_by_first<R: Threads + Sync>(
     rt: &R,
     alloc: Global,
     engine: &Engine<MemoryFiles>,
 ) -> Result<bool> {
-    Ok(finds_second(rt, alloc, engine)? && holds(alloc, engine, "[1,6)k=v")?)
+    Ok(is_all_found_by_second(rt, alloc, engine)? && has_text(alloc, engine, "[1,6)k=v")?)
 }
 
-fn finds_second<R: Threads + Sync>(
+/// Opens the files of `engine` again, writes a batch, and tests whether one more restart finds all.
+fn is_all_found_by_second<R: Threads + Sync>(
     rt: &R,
     alloc: Global,
     engine: &Engine<MemoryFiles>,
 ) -> Result<bool> {
-    let mut second = restarted(rt, alloc, engine)?;
-    write(alloc, &mut second, &[Compact(3), Put("w")], true)?;
-    finds_third(rt, alloc, &second)
+    let mut second = reopen_and_state(rt, alloc, engine)?;
+    write_parts(alloc, &mut second, &[Compact(3), Put("w")], true)?;
+    is_all_found_by_third(rt, alloc, &second)
 }
 
-fn finds_third<R: Threads + Sync>(
+/// Tests whether a restart of the files of `second` finds what both wrote.
+fn is_all_found_by_third<R: Threads + Sync>(
     rt: &R,
     alloc: Global,
     second: &Engine<MemoryFiles>,
 ) -> Result<bool> {
-    let third = restarted(rt, alloc, second)?;
+    let third = reopen_and_state(rt, alloc, second)?;
     state_that_what_is_left_is_opened(&third);
-    holds(alloc, &third, "[3,6)k=w")
+    has_text(alloc, &third, "[3,6)k=w")
 }
 
+/// Tests that each restart finds all that was written before it.
 #[test]
 fn each_restart_finds_all(rt: HostRuntime) {
-    assert!(rt; holds!(restarts_find_all(&rt, rt.alloc())));
+    assert!(rt; holds!(do_restarts_find_all(&rt, rt.alloc())));
 }
 
 /// Batches that take something away of records that have moved to a rewrite file.
@@ -132,73 +139,91 @@ static REMOVALS: [Removal; 8] = [
 ];
 
 /// Makes an engine with the records of a removal in its rewrite file, and the batches in the last append file.
-fn removed(alloc: Global, removal: &Removal) -> Result<Engine<MemoryFiles>> {
-    let mut engine = moved_parts(alloc, removal.moved)?;
-    write_all(alloc, &mut engine, removal.batches)?;
+fn engine_with_removal(alloc: Global, removal: &Removal) -> Result<Engine<MemoryFiles>> {
+    let mut engine = engine_with_moved_parts(alloc, removal.moved)?;
+    write_batches(alloc, &mut engine, removal.batches)?;
     Ok(engine)
 }
 
-fn write_all(alloc: Global, engine: &mut Engine<MemoryFiles>, batches: &[&[Part]]) -> Result<()> {
+/// Writes each of `batches`, and syncs it.
+fn write_batches(
+    alloc: Global,
+    engine: &mut Engine<MemoryFiles>,
+    batches: &[&[Part]],
+) -> Result<()> {
     for parts in batches {
-        write(alloc, engine, *parts, true)?;
+        write_parts(alloc, engine, *parts, true)?;
     }
     Ok(())
 }
 
-/// Opens an engine over copies of the files of [`removed`].
-fn removed_and_restarted<R: Threads + Sync>(
+/// Opens an engine over copies of the files of [`engine_with_removal`].
+fn reopen_with_removal<R: Threads + Sync>(
     rt: &R,
     alloc: Global,
     removal: &Removal,
 ) -> Result<Engine<MemoryFiles>> {
-    let engine = removed(alloc, removal)?;
-    restarted(rt, alloc, &engine)
+    let engine = engine_with_removal(alloc, removal)?;
+    reopen_and_state(rt, alloc, &engine)
 }
 
 /// Tests whether what was taken away stays away: in a restart, in a purge of the file with the batches, and in one more
 /// restart.
-fn stays_away<R: Threads + Sync>(rt: &R, alloc: Global, removal: &Removal) -> Result<bool> {
-    let mut engine = removed_and_restarted(rt, alloc, removal)?;
-    stays_away_in(rt, alloc, &mut engine, removal)
+fn does_removal_stay<R: Threads + Sync>(rt: &R, alloc: Global, removal: &Removal) -> Result<bool> {
+    let mut engine = reopen_with_removal(rt, alloc, removal)?;
+    does_removal_stay_in(rt, alloc, &mut engine, removal)
 }
 
-fn stays_away_in<R: Threads + Sync>(
+/// Tests whether `engine` holds what `removal` leaves, and a restart finds it after a purge, which deletes as many
+/// files as the removal says.
+fn does_removal_stay_in<R: Threads + Sync>(
     rt: &R,
     alloc: Global,
     engine: &mut Engine<MemoryFiles>,
     removal: &Removal,
 ) -> Result<bool> {
-    let found = holds(alloc, engine, removal.left)?;
+    let found = has_text(alloc, engine, removal.left)?;
     rotate(engine)?;
-    let deleted = purge(engine)?;
-    Ok(found && deleted == removal.deleted && is_found(rt, alloc, engine, removal.left)?)
+    let deleted = purge_append_files(engine)?;
+    Ok(found && deleted == removal.deleted && is_found_reopened(rt, alloc, engine, removal.left)?)
 }
 
 /// Tests whether what was taken away stays away if what is left moves before the purge, which then deletes the file with the
 /// batches in any case.
-fn stays_away_moved<R: Threads + Sync>(rt: &R, alloc: Global, removal: &Removal) -> Result<bool> {
-    let mut engine = removed_and_restarted(rt, alloc, removal)?;
-    stays_away_moved_in(rt, alloc, &mut engine, removal)
+fn does_removal_stay_after_move<R: Threads + Sync>(
+    rt: &R,
+    alloc: Global,
+    removal: &Removal,
+) -> Result<bool> {
+    let mut engine = reopen_with_removal(rt, alloc, removal)?;
+    does_removal_stay_after_move_in(rt, alloc, &mut engine, removal)
 }
 
-fn stays_away_moved_in<R: Threads + Sync>(
+/// Moves what is left, and purges. Tests whether a restart finds what `removal` leaves.
+fn does_removal_stay_after_move_in<R: Threads + Sync>(
     rt: &R,
     alloc: Global,
     engine: &mut Engine<MemoryFiles>,
     removal: &Removal,
 ) -> Result<bool> {
-    Ok(empty_append_files(engine)? && is_found(rt, alloc, engine, removal.left)?)
+    Ok(move_and_purge_append_files(engine)? && is_found_reopened(rt, alloc, engine, removal.left)?)
 }
 
-fn both_stay_away<R: Threads + Sync>(rt: &R, alloc: Global, removal: &Removal) -> Result<bool> {
-    Ok(stays_away(rt, alloc, removal)? && stays_away_moved(rt, alloc, removal)?)
+/// Tests whether what was taken away stays away, with and without a move before the purge.
+fn does_removal_stay_in_both<R: Threads + Sync>(
+    rt: &R,
+    alloc: Global,
+    removal: &Removal,
+) -> Result<bool> {
+    Ok(does_removal_stay(rt, alloc, removal)? && does_removal_stay_after_move(rt, alloc, removal)?)
 }
 
+/// Tests that what each removal takes away doesn't come back when files are deleted.
 #[test]
 fn what_was_taken_away_stays_away(rt: HostRuntime) {
     for (row, removal) in REMOVALS.iter().enumerate() {
         assert!(rt;
-            holds!(both_stay_away(&rt, rt.alloc(), removal)),
+            holds!(does_removal_stay_in_both(&rt, rt.alloc(), removal)),
             "row {row}"
         );
     }

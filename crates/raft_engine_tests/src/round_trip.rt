@@ -1,9 +1,9 @@
 //! Tests of the round trip: an engine is written, goes on, is opened, and is recovered from its append files.
 
-use crate::batches::batch_with;
+use crate::batches::batch_with_entry;
 use crate::calls::{
-    LogFiles, copies, finds_damage, finds_invalid, holds, new_engine, open, rewrite, rotate,
-    write_batch,
+    LogFiles, copy_files, holds, is_corruption, is_invalid_argument, new_engine, open_copies,
+    rewrite_up_to, rotate, write_batch,
 };
 use raft_engine::Engine;
 use raft_files::{EngineFiles, MemoryFiles};
@@ -36,8 +36,8 @@ live 0 2
 ";
 
 /// Returns a batch of an entry and a key value of region 7.
-pub(crate) fn records(alloc: Global) -> Result<LogBatch> {
-    let mut batch = batch_with(alloc, 7, 1, Vec::from_slice(alloc, b"x")?)?;
+pub(crate) fn batch_of_entry_and_key(alloc: Global) -> Result<LogBatch> {
+    let mut batch = batch_with_entry(alloc, 7, 1, Vec::from_slice(alloc, b"x")?)?;
     batch.put(
         7,
         Vec::from_slice(alloc, b"k")?,
@@ -47,14 +47,14 @@ pub(crate) fn records(alloc: Global) -> Result<LogBatch> {
 }
 
 /// Returns a batch that cleans region 8.
-pub(crate) fn cleaning(alloc: Global) -> Result<LogBatch> {
+pub(crate) fn batch_cleaning_region_8(alloc: Global) -> Result<LogBatch> {
     let mut batch = LogBatch::default(alloc);
     batch.add_command(8, Command::Clean)?;
     Ok(batch)
 }
 
 /// Gives the items of a batch their places in file 4 of the rewrite queue.
-fn placed(mut batch: LogBatch) -> Result<LogBatch> {
+fn give_places(mut batch: LogBatch) -> Result<LogBatch> {
     if !batch.is_open() {
         return Err(Error::Failed);
     }
@@ -69,80 +69,91 @@ fn placed(mut batch: LogBatch) -> Result<LogBatch> {
     Ok(batch)
 }
 
-pub(crate) fn has_lines(alloc: Global, accessor: &MemTableAccessor, lines: &str) -> Result<bool> {
+/// Tests whether the tables of `accessor` are printed as `lines`.
+pub(crate) fn are_lines_printed(
+    alloc: Global,
+    accessor: &MemTableAccessor,
+    lines: &str,
+) -> Result<bool> {
     Ok(recovered_text(alloc, accessor)?.as_str() == lines)
 }
 
-/// Returns an engine with two append files: the first has [`records`], the second [`cleaning`].
-pub(crate) fn written(alloc: Global) -> Result<Engine<MemoryFiles>> {
+/// Returns an engine with two append files: the first has [`batch_of_entry_and_key`], the second [`batch_cleaning_region_8`].
+pub(crate) fn engine_with_two_files(alloc: Global) -> Result<Engine<MemoryFiles>> {
     let mut engine = new_engine(alloc)?;
-    write_two(alloc, &mut engine)?;
+    write_both_files(alloc, &mut engine)?;
     Ok(engine)
 }
 
-fn write_two(alloc: Global, engine: &mut Engine<MemoryFiles>) -> Result<()> {
-    write_batch(engine, records(alloc)?, false)?;
+/// Writes two batches, each to an append file of its own.
+fn write_both_files(alloc: Global, engine: &mut Engine<MemoryFiles>) -> Result<()> {
+    write_batch(engine, batch_of_entry_and_key(alloc)?, false)?;
     rotate(engine)?;
-    write_batch(engine, cleaning(alloc)?, false)
+    write_batch(engine, batch_cleaning_region_8(alloc)?, false)
 }
 
+/// Cites the law that says what a recovery of the files of `engine` gives.
 fn state_that_what_was_written_is_recovered(engine: &Engine<MemoryFiles>) {
     engine.what_was_written_is_recovered();
 }
 
-fn segments(engine: &Engine<MemoryFiles>, queue: LogQueue) -> Result<Vec<Segment>> {
+/// Returns copies of the files of `queue`, each as a segment.
+fn copy_segments(engine: &Engine<MemoryFiles>, queue: LogQueue) -> Result<Vec<Segment>> {
     engine.segments(queue)
 }
 
 /// Returns the tables that a recovery of the append files by `workers` threads gives.
-fn tables_by<R: Threads + Sync>(
+fn recover_by_workers<R: Threads + Sync>(
     rt: &R,
     alloc: Global,
     engine: &Engine<MemoryFiles>,
     workers: usize,
 ) -> Result<MemTableAccessor> {
-    let append = segments(engine, LogQueue::Append)?;
+    let append = copy_segments(engine, LogQueue::Append)?;
     recover(rt, alloc, append.as_slice(), LogQueue::Append, workers)
 }
 
 /// Tests whether a recovery of the append files by `workers` threads gives the tables that were written.
-fn recovers<R: Threads + Sync>(
+fn is_recovered_by_workers<R: Threads + Sync>(
     rt: &R,
     alloc: Global,
     engine: &Engine<MemoryFiles>,
     workers: usize,
 ) -> Result<bool> {
-    let tables = tables_by(rt, alloc, engine, workers)?;
-    has_lines(alloc, &tables, WRITTEN)
+    let tables = recover_by_workers(rt, alloc, engine, workers)?;
+    are_lines_printed(alloc, &tables, WRITTEN)
 }
 
 /// Returns the tables that a recovery of both queues gives.
-fn tables_of_both<R: Threads + Sync>(
+fn recover_both_queues<R: Threads + Sync>(
     rt: &R,
     alloc: Global,
     engine: &Engine<MemoryFiles>,
 ) -> Result<MemTableAccessor> {
-    let append = segments(engine, LogQueue::Append)?;
-    let rewrite = segments(engine, LogQueue::Rewrite)?;
+    let append = copy_segments(engine, LogQueue::Append)?;
+    let rewrite = copy_segments(engine, LogQueue::Rewrite)?;
     recover_both(rt, alloc, rewrite.as_slice(), append.as_slice(), 2)
 }
 
-fn recovers_both<R: Threads + Sync>(
+/// Tests whether a recovery of both queues gives the tables that were written.
+fn is_recovered_from_both<R: Threads + Sync>(
     rt: &R,
     alloc: Global,
     engine: &Engine<MemoryFiles>,
 ) -> Result<bool> {
-    let tables = tables_of_both(rt, alloc, engine)?;
-    has_lines(alloc, &tables, WRITTEN)
+    let tables = recover_both_queues(rt, alloc, engine)?;
+    are_lines_printed(alloc, &tables, WRITTEN)
 }
 
 /// Tests whether an engine has the tables that were written, and so have recoveries of its append files and of both queues.
-fn is_recovered<R: Threads + Sync>(rt: &R, alloc: Global) -> Result<bool> {
-    let engine = written(alloc)?;
-    is_recovered_of(rt, alloc, &engine)
+fn are_written_tables_recovered<R: Threads + Sync>(rt: &R, alloc: Global) -> Result<bool> {
+    let engine = engine_with_two_files(alloc)?;
+    are_tables_recovered_from(rt, alloc, &engine)
 }
 
-fn is_recovered_of<R: Threads + Sync>(
+/// Tests whether `engine` has the tables that were written, and recoveries by one and four workers, and of both
+/// queues, give them.
+fn are_tables_recovered_from<R: Threads + Sync>(
     rt: &R,
     alloc: Global,
     engine: &Engine<MemoryFiles>,
@@ -150,38 +161,39 @@ fn is_recovered_of<R: Threads + Sync>(
     state_that_what_was_written_is_recovered(engine);
     Ok(
         engine.is_intact()
-            && has_lines(alloc, engine.accessor(), WRITTEN)?
-            && recovers(rt, alloc, engine, 4)?
-            && recovers(rt, alloc, engine, 1)?
-            && recovers_both(rt, alloc, engine)?,
+            && are_lines_printed(alloc, engine.accessor(), WRITTEN)?
+            && is_recovered_by_workers(rt, alloc, engine, 4)?
+            && is_recovered_by_workers(rt, alloc, engine, 1)?
+            && is_recovered_from_both(rt, alloc, engine)?,
     )
 }
 
 /// Returns the append files of an engine, with their bytes.
-pub(crate) fn files_of(alloc: Global, engine: &Engine<MemoryFiles>) -> Result<LogFiles> {
-    let segments = segments(engine, LogQueue::Append)?;
+pub(crate) fn copy_append_files(alloc: Global, engine: &Engine<MemoryFiles>) -> Result<LogFiles> {
+    let segments = copy_segments(engine, LogQueue::Append)?;
     let mut files = Vec::new(alloc);
     for segment in &segments {
-        push_files(alloc, &mut files, segment.as_slice())?;
+        push_segment_files(alloc, &mut files, segment.as_slice())?;
     }
     Ok(files)
 }
 
-fn push_files(alloc: Global, files: &mut LogFiles, segment: &[FilePart]) -> Result<()> {
+/// Appends copies of the parts of `segment` to `files`, each as a file.
+fn push_segment_files(alloc: Global, files: &mut LogFiles, segment: &[FilePart]) -> Result<()> {
     for part in segment {
         files.push((part.id().seq, Vec::from_slice(alloc, part.bytes())?))?;
     }
     Ok(())
 }
 
-/// Returns the append files of the engine of [`written`].
-fn written_files(alloc: Global) -> Result<LogFiles> {
-    let engine = written(alloc)?;
-    files_of(alloc, &engine)
+/// Returns the append files of the engine of [`engine_with_two_files`].
+fn copy_written_files(alloc: Global) -> Result<LogFiles> {
+    let engine = engine_with_two_files(alloc)?;
+    copy_append_files(alloc, &engine)
 }
 
 /// Returns the number of the last append file; `None` if there is none.
-fn last_seq(engine: &Engine<MemoryFiles>) -> Option<FileSeq> {
+fn last_append_seq(engine: &Engine<MemoryFiles>) -> Option<FileSeq> {
     match engine.files().files(LogQueue::Append).last() {
         Some(file) => Some(file.0),
         None => None,
@@ -190,12 +202,13 @@ fn last_seq(engine: &Engine<MemoryFiles>) -> Option<FileSeq> {
 
 /// Tests whether an engine that is opened over the append files alone has the tables that were written, and so has a recovery
 /// of its append files.
-fn is_opened<R: Threads + Sync>(rt: &R, alloc: Global) -> Result<bool> {
-    let engine = open(rt, alloc, written_files(alloc)?, Vec::new(alloc))?;
-    is_opened_as(rt, alloc, &engine)
+fn is_opened_with_written_tables<R: Threads + Sync>(rt: &R, alloc: Global) -> Result<bool> {
+    let engine = open_copies(rt, alloc, copy_written_files(alloc)?, Vec::new(alloc))?;
+    has_written_tables(rt, alloc, &engine)
 }
 
-fn is_opened_as<R: Threads + Sync>(
+/// Tests whether `engine` has the tables that were written, and recoveries of its append files give them.
+fn has_written_tables<R: Threads + Sync>(
     rt: &R,
     alloc: Global,
     engine: &Engine<MemoryFiles>,
@@ -203,106 +216,124 @@ fn is_opened_as<R: Threads + Sync>(
     state_that_what_was_written_is_recovered(engine);
     Ok(
         engine.is_intact()
-            && last_seq(engine) == Some(2)
-            && has_lines(alloc, engine.accessor(), WRITTEN)?
-            && recovers(rt, alloc, engine, 4)?,
+            && last_append_seq(engine) == Some(2)
+            && are_lines_printed(alloc, engine.accessor(), WRITTEN)?
+            && is_recovered_by_workers(rt, alloc, engine, 4)?,
     )
 }
 
-/// Returns the tables that a recovery of the append files of [`written`] gives.
-fn written_tables<R: Threads + Sync>(rt: &R, alloc: Global) -> Result<MemTableAccessor> {
-    let engine = written(alloc)?;
-    tables_by(rt, alloc, &engine, 1)
+/// Returns the tables that a recovery of the append files of [`engine_with_two_files`] gives.
+fn recover_written_tables<R: Threads + Sync>(rt: &R, alloc: Global) -> Result<MemTableAccessor> {
+    let engine = engine_with_two_files(alloc)?;
+    recover_by_workers(rt, alloc, &engine, 1)
 }
 
-fn move_records(alloc: Global, tables: &mut MemTableAccessor) -> Result<()> {
-    let mut moved = placed(records(alloc)?)?;
+/// Moves the records of region 7 in `tables` to file 4 of the rewrite queue.
+fn rewrite_records(alloc: Global, tables: &mut MemTableAccessor) -> Result<()> {
+    let mut moved = give_places(batch_of_entry_and_key(alloc)?)?;
     tables.apply_rewrite_writes(moved.drain(), Some(1), 4)
 }
 
-fn hand_out_logs(tables: &mut MemTableAccessor) -> Result<bool> {
+/// Takes the cleaned regions of `tables`. Tests whether there were some.
+fn are_cleaned_regions_handed_out(tables: &mut MemTableAccessor) -> Result<bool> {
     let logs = tables.take_cleaned_region_logs()?;
     Ok(!logs.is_empty())
 }
 
-fn are_rewritten(alloc: Global, tables: &mut MemTableAccessor) -> Result<bool> {
-    move_records(alloc, tables)?;
-    Ok(hand_out_logs(tables)? && has_lines(alloc, tables, REWRITTEN)?)
+/// Moves the records in `tables`. Tests whether they hand out the cleaned regions, and print the lines after the
+/// move.
+fn are_records_rewritten(alloc: Global, tables: &mut MemTableAccessor) -> Result<bool> {
+    rewrite_records(alloc, tables)?;
+    Ok(are_cleaned_regions_handed_out(tables)? && are_lines_printed(alloc, tables, REWRITTEN)?)
 }
 
 /// Tests whether recovered tables take a rewriting that moves their records, and hand out the cleaned regions.
-fn is_rewritten<R: Threads + Sync>(rt: &R, alloc: Global) -> Result<bool> {
-    let mut tables = written_tables(rt, alloc)?;
-    are_rewritten(alloc, &mut tables)
+fn is_rewriting_taken<R: Threads + Sync>(rt: &R, alloc: Global) -> Result<bool> {
+    let mut tables = recover_written_tables(rt, alloc)?;
+    are_records_rewritten(alloc, &mut tables)
 }
 
 /// Tests whether an engine moves its records to file 4 of the rewrite queue, and a recovery of its append files still gives
 /// the places that they had there.
-fn is_moved<R: Threads + Sync>(rt: &R, alloc: Global) -> Result<bool> {
-    let mut engine = opened_with_fourth(rt, alloc)?;
-    moves(rt, alloc, &mut engine)
+fn are_records_moved_to_file_4<R: Threads + Sync>(rt: &R, alloc: Global) -> Result<bool> {
+    let mut engine = open_with_rewrite_file_4(rt, alloc)?;
+    do_records_move(rt, alloc, &mut engine)
 }
 
-/// Opens an engine over the append files of [`written`], and an empty rewrite file 4.
-fn opened_with_fourth<R: Threads + Sync>(rt: &R, alloc: Global) -> Result<Engine<MemoryFiles>> {
-    let files = written_files(alloc)?;
-    open(rt, alloc, files, vec![in alloc; (4, Vec::new(alloc))]?)
+/// Opens an engine over the append files of [`engine_with_two_files`], and an empty rewrite file 4.
+fn open_with_rewrite_file_4<R: Threads + Sync>(
+    rt: &R,
+    alloc: Global,
+) -> Result<Engine<MemoryFiles>> {
+    let files = copy_written_files(alloc)?;
+    open_copies(rt, alloc, files, vec![in alloc; (4, Vec::new(alloc))]?)
 }
 
-fn moves<R: Threads + Sync>(
+/// Moves the records of append file 1. Tests whether `engine` has them in the rewrite queue, and its append files
+/// still give them.
+fn do_records_move<R: Threads + Sync>(
     rt: &R,
     alloc: Global,
     engine: &mut Engine<MemoryFiles>,
 ) -> Result<bool> {
-    rewrite(engine, 1)?;
+    rewrite_up_to(engine, 1)?;
     state_that_what_was_written_is_recovered(engine);
-    Ok(has_lines(alloc, engine.accessor(), MOVED)? && recovers(rt, alloc, engine, 4)?)
+    Ok(
+        are_lines_printed(alloc, engine.accessor(), MOVED)?
+            && is_recovered_by_workers(rt, alloc, engine, 4)?,
+    )
 }
 
+/// Tests that an engine has the tables that were written, and so have recoveries of its files.
 #[test]
 fn what_was_written_is_recovered(rt: HostRuntime) {
-    assert!(rt; holds!(is_recovered(&rt, rt.alloc())));
+    assert!(rt; holds!(are_written_tables_recovered(&rt, rt.alloc())));
 }
 
+/// Tests that an opening of the append files alone gives the tables that were written.
 #[test]
-fn files_are_opened(rt: HostRuntime) {
-    assert!(rt; holds!(is_opened(&rt, rt.alloc())));
+fn written_files_are_opened_with_their_tables(rt: HostRuntime) {
+    assert!(rt; holds!(is_opened_with_written_tables(&rt, rt.alloc())));
 }
 
+/// Tests that tables of a recovery take a rewriting, and hand out their cleaned regions.
 #[test]
-fn rewritings_move_records(rt: HostRuntime) {
-    assert!(rt; holds!(is_rewritten(&rt, rt.alloc())));
+fn recovered_tables_take_a_rewriting(rt: HostRuntime) {
+    assert!(rt; holds!(is_rewriting_taken(&rt, rt.alloc())));
 }
 
+/// Tests that an engine moves records to the rewrite file that it found, and its append files still have them.
 #[test]
-fn an_engine_moves_records(rt: HostRuntime) {
-    assert!(rt; holds!(is_moved(&rt, rt.alloc())));
+fn an_engine_moves_records_to_the_rewrite_queue(rt: HostRuntime) {
+    assert!(rt; holds!(are_records_moved_to_file_4(&rt, rt.alloc())));
 }
 
 /// Tests whether files refuse to begin an append file with the number `seq`, which isn't above that of the last one, and stay
 /// as they are.
-fn is_refused(alloc: Global, seq: FileSeq) -> Result<bool> {
-    let engine = written(alloc)?;
-    let mut files = MemoryFiles::found(copies(&engine, LogQueue::Append)?, Vec::new(alloc));
-    are_left(alloc, &mut files, &engine, seq)
+fn is_number_refused(alloc: Global, seq: FileSeq) -> Result<bool> {
+    let engine = engine_with_two_files(alloc)?;
+    let mut files = MemoryFiles::found(copy_files(&engine, LogQueue::Append)?, Vec::new(alloc));
+    are_files_left(alloc, &mut files, &engine, seq)
 }
 
-fn are_left(
+/// Tests whether `files` refuse to begin the append file `seq`, and have the same files as before.
+fn are_files_left(
     alloc: Global,
     files: &mut MemoryFiles,
     engine: &Engine<MemoryFiles>,
     seq: FileSeq,
 ) -> Result<bool> {
-    if !finds_invalid(files.rotate(LogQueue::Append, seq))? {
+    if !is_invalid_argument(files.rotate(LogQueue::Append, seq))? {
         return Ok(false);
     }
-    Ok(*files.files(LogQueue::Append) == files_of(alloc, engine)?)
+    Ok(*files.files(LogQueue::Append) == copy_append_files(alloc, engine)?)
 }
 
+/// Tests that a new file needs a number above that of the last one.
 #[test]
 fn a_number_that_is_not_above_the_last_one_is_refused(rt: HostRuntime) {
     for seq in 0..3 {
-        assert!(rt; holds!(is_refused(rt.alloc(), seq)), "number {seq}");
+        assert!(rt; holds!(is_number_refused(rt.alloc(), seq)), "number {seq}");
     }
 }
 
@@ -320,7 +351,7 @@ static NUMBERS: [(&[FileSeq], bool); 8] = [
 
 /// Tests whether an engine can be opened over empty append files with these numbers, or they are refused as damage, as
 /// `is_opened` says.
-fn opens_as<R: Threads + Sync>(
+fn is_opened_or_refused<R: Threads + Sync>(
     rt: &R,
     alloc: Global,
     numbers: &[FileSeq],
@@ -330,56 +361,63 @@ fn opens_as<R: Threads + Sync>(
     for seq in numbers {
         files.push((*seq, Vec::new(alloc)))?;
     }
-    let is_damage = finds_damage(open(rt, alloc, files, Vec::new(alloc)))?;
+    let is_damage = is_corruption(open_copies(rt, alloc, files, Vec::new(alloc)))?;
     Ok(is_damage != is_opened)
 }
 
+/// Tests which lists of file numbers an opening takes.
 #[test]
 fn files_are_opened_whose_numbers_are_consecutive(rt: HostRuntime) {
     for (numbers, is_opened) in &NUMBERS {
         assert!(rt;
-            holds!(opens_as(&rt, rt.alloc(), numbers, *is_opened)),
+            holds!(is_opened_or_refused(&rt, rt.alloc(), numbers, *is_opened)),
             "{numbers:?}"
         );
     }
 }
 
 /// Tests whether an engine goes on to 300 append files.
-fn goes_on(alloc: Global) -> Result<bool> {
+fn has_many_files(alloc: Global) -> Result<bool> {
     let mut engine = new_engine(alloc)?;
-    goes_on_in(&mut engine)
+    begins_many_files(&mut engine)
 }
 
-fn goes_on_in(engine: &mut Engine<MemoryFiles>) -> Result<bool> {
+/// Begins append files up to number 300. Tests whether all of them are there.
+fn begins_many_files(engine: &mut Engine<MemoryFiles>) -> Result<bool> {
     for _ in 2..=300 {
         rotate(engine)?;
     }
-    Ok(last_seq(engine) == Some(300) && segments(engine, LogQueue::Append)?.len() == 300)
+    Ok(
+        last_append_seq(engine) == Some(300)
+            && copy_segments(engine, LogQueue::Append)?.len() == 300,
+    )
 }
 
+/// Tests that an engine can have hundreds of append files.
 #[test]
-fn an_engine_has_many_files(rt: HostRuntime) {
-    assert!(rt; holds!(goes_on(rt.alloc())));
+fn an_engine_goes_on_to_300_append_files(rt: HostRuntime) {
+    assert!(rt; holds!(has_many_files(rt.alloc())));
 }
 
 /// Returns a batch with one entry of region 7, which has this text.
-pub(crate) fn entry_of(alloc: Global, index: u64, text: &str) -> Result<LogBatch> {
-    batch_with(alloc, 7, index, Vec::from_slice(alloc, text.as_bytes())?)
+pub(crate) fn batch_with_text(alloc: Global, index: u64, text: &str) -> Result<LogBatch> {
+    batch_with_entry(alloc, 7, index, Vec::from_slice(alloc, text.as_bytes())?)
 }
 
 /// The texts of the entries from index 1 on, two in each file.
 pub(crate) static TEXTS: [&str; 5] = ["one", "two", "three", "", "five"];
 
 /// Returns an engine that wrote [`TEXTS`] as entries of region 7, a batch each.
-pub(crate) fn written_texts(alloc: Global) -> Result<Engine<MemoryFiles>> {
+pub(crate) fn engine_with_texts(alloc: Global) -> Result<Engine<MemoryFiles>> {
     let mut engine = new_engine(alloc)?;
-    write_texts(alloc, &mut engine)?;
+    write_each_text(alloc, &mut engine)?;
     Ok(engine)
 }
 
-fn write_texts(alloc: Global, engine: &mut Engine<MemoryFiles>) -> Result<()> {
+/// Writes each of [`TEXTS`] as an entry, and begins a new file after each second one.
+fn write_each_text(alloc: Global, engine: &mut Engine<MemoryFiles>) -> Result<()> {
     for (index, text) in (1u64..).zip(&TEXTS) {
-        write_batch(engine, entry_of(alloc, index, text)?, false)?;
+        write_batch(engine, batch_with_text(alloc, index, text)?, false)?;
         if index % 2 == 0 {
             rotate(engine)?;
         }
@@ -388,7 +426,12 @@ fn write_texts(alloc: Global, engine: &mut Engine<MemoryFiles>) -> Result<()> {
 }
 
 /// Tests whether the append files have this text at the place that the engine's table has for the entry `index`.
-fn stands(alloc: Global, engine: &Engine<MemoryFiles>, index: u64, text: &str) -> Result<bool> {
+fn is_text_at_place(
+    alloc: Global,
+    engine: &Engine<MemoryFiles>,
+    index: u64,
+    text: &str,
+) -> Result<bool> {
     let Some(entry) = engine
         .accessor()
         .get(7)
@@ -399,11 +442,11 @@ fn stands(alloc: Global, engine: &Engine<MemoryFiles>, index: u64, text: &str) -
     let Some(place) = entry.entries else {
         return Ok(false);
     };
-    let segments = segments(engine, LogQueue::Append)?;
+    let segments = copy_segments(engine, LogQueue::Append)?;
     for segment in &segments {
         for part in segment {
             if part.id() == place.id {
-                return stands_in(alloc, part, place, &entry, text);
+                return is_text_in_part(alloc, part, place, &entry, text);
             }
         }
     }
@@ -411,7 +454,7 @@ fn stands(alloc: Global, engine: &Engine<MemoryFiles>, index: u64, text: &str) -
 }
 
 /// Tests whether a file has this text at the place of an entry.
-fn stands_in(
+fn is_text_in_part(
     alloc: Global,
     part: &FilePart,
     place: FileBlockHandle,
@@ -422,9 +465,10 @@ fn stands_in(
     Ok(entry_bytes(alloc, block, entry)? == text.as_bytes())
 }
 
-fn all_stand_of(alloc: Global, engine: &Engine<MemoryFiles>) -> Result<bool> {
+/// Tests whether the append files of `engine` have each of [`TEXTS`] at the place of its entry.
+fn are_texts_at_places_of(alloc: Global, engine: &Engine<MemoryFiles>) -> Result<bool> {
     for (index, text) in (1u64..).zip(&TEXTS) {
-        if !stands(alloc, engine, index, text)? {
+        if !is_text_at_place(alloc, engine, index, text)? {
             return Ok(false);
         }
     }
@@ -432,12 +476,13 @@ fn all_stand_of(alloc: Global, engine: &Engine<MemoryFiles>) -> Result<bool> {
 }
 
 /// Tests whether the append files have each of [`TEXTS`] at the place of its entry.
-fn all_stand(alloc: Global) -> Result<bool> {
-    let engine = written_texts(alloc)?;
-    all_stand_of(alloc, &engine)
+fn are_texts_at_places(alloc: Global) -> Result<bool> {
+    let engine = engine_with_texts(alloc)?;
+    are_texts_at_places_of(alloc, &engine)
 }
 
+/// Tests that the append files have the bytes of each entry at the place that the tables name.
 #[test]
 fn the_bytes_of_entries_stand_at_their_places(rt: HostRuntime) {
-    assert!(rt; holds!(all_stand(rt.alloc())));
+    assert!(rt; holds!(are_texts_at_places(rt.alloc())));
 }

@@ -2,8 +2,8 @@
 
 use crate::batches::Part::Large;
 use crate::batches::{Part, REGION};
-use crate::calls::{copies, holds, new_engine, rotate, write};
-use crate::engine::text_of;
+use crate::calls::{copy_files, holds, new_engine, rotate, write_parts};
+use crate::engine::table_text;
 use raft_base::{FileBlockHandle, FileId, FileSeq, LogQueue, Version};
 use raft_engine::{Opened, RecoveryMode, Unopened};
 use raft_files::{AppendError, Asked, EngineFiles, NotesFound};
@@ -25,37 +25,48 @@ struct UnreadFiles {
 impl EngineFiles for UnreadFiles {
     ghost asked = { λ files. files.asked.asks };
 
+    /// Notes the call. The bytes are kept nowhere.
     fn append(&mut self, queue: LogQueue, bytes: &[u8]) -> std::result::Result<(), AppendError> {
         self.asked.put(queue, bytes);
         Ok(())
     }
 
+    /// Notes the call.
     fn rotate(&mut self, queue: LogQueue, seq: FileSeq) -> Result<()> {
         self.asked.begin(queue, seq);
         Ok(())
     }
 
+    /// Notes the call.
     fn sync(&mut self, queue: LogQueue) -> Result<()> {
         self.asked.sync(queue);
         Ok(())
     }
 
+    /// Notes the call.
     fn delete_oldest(&mut self, queue: LogQueue) -> Result<()> {
         self.asked.delete(queue);
         Ok(())
     }
 
+    /// Notes the call.
     fn truncate(&mut self, queue: LogQueue, len: u64) -> Result<()> {
         self.asked.cut(queue, len);
         Ok(())
     }
 
+    /// Reads nothing.
+    ///
+    /// # Errors
+    ///
+    /// `Failed`, always.
     fn read(&mut self, _place: FileBlockHandle) -> Result<Vec<u8>> {
         Err(Error::Failed)
     }
 }
 
 impl NotesFound for UnreadFiles {
+    /// Takes `found` for what was asked of the files so far.
     fn note_found(&mut self, found: Asked) {
         self.asked = found;
     }
@@ -73,6 +84,11 @@ struct TwoFiles {
 }
 
 impl ReadFiles for TwoFiles {
+    /// Appends at most `len` bytes of `file` from `offset` on to `bytes`; fewer if it ends before.
+    ///
+    /// # Errors
+    ///
+    /// `TimedOut` for offsets from which reads fail; lack of memory.
     fn read(&self, file: FileId, offset: u64, len: usize, bytes: &mut Vec<u8>) -> io::Result<()> {
         if offset >= self.fails_from {
             return Err(io::Error::from(ErrorKind::TimedOut));
@@ -82,13 +98,13 @@ impl ReadFiles for TwoFiles {
         } else {
             &self.second
         };
-        bytes.extend_from_slice(part_of(held.as_slice(), offset, len))?;
+        bytes.extend_from_slice(slice_from(held.as_slice(), offset, len))?;
         Ok(())
     }
 }
 
 /// Returns at most `len` of these bytes from `offset` on; fewer if they end before.
-fn part_of(bytes: &[u8], offset: u64, len: usize) -> &[u8] {
+fn slice_from(bytes: &[u8], offset: u64, len: usize) -> &[u8] {
     let Some((_, rest)) = bytes.split_at_checked(offset as usize) else {
         return &[];
     };
@@ -112,14 +128,14 @@ static ROWS: [Row; 5] = [
 static SECOND: [Part; 3] = [Large(401, 801), Large(801, 2401), Large(2401, 2801)];
 
 /// Returns the bytes of two append files: the first has one batch, the second those of [`SECOND`].
-fn two_files(alloc: Global) -> Result<(Vec<u8>, Vec<u8>)> {
+fn bytes_of_two_files(alloc: Global) -> Result<(Vec<u8>, Vec<u8>)> {
     let mut engine = new_engine(alloc)?;
-    write(alloc, &mut engine, &[Large(1, 401)], false)?;
+    write_parts(alloc, &mut engine, &[Large(1, 401)], false)?;
     rotate(&mut engine)?;
     for part in &SECOND {
-        write(alloc, &mut engine, &[*part], false)?;
+        write_parts(alloc, &mut engine, &[*part], false)?;
     }
-    let mut files = copies(&engine, LogQueue::Append)?;
+    let mut files = copy_files(&engine, LogQueue::Append)?;
     let Some((_, second)) = files.pop() else {
         return Err(Error::Failed);
     };
@@ -130,7 +146,7 @@ fn two_files(alloc: Global) -> Result<(Vec<u8>, Vec<u8>)> {
 }
 
 /// Returns the two files as a row says: the second one lacks bytes, and reads fail.
-fn held_by(alloc: Global, first: &[u8], second: &[u8], row: &Row) -> Result<TwoFiles> {
+fn two_files_of_row(alloc: Global, first: &[u8], second: &[u8], row: &Row) -> Result<TwoFiles> {
     let (left, _) = second.split_at(second.len().saturating_sub(row.0));
     Ok(TwoFiles {
         first: Vec::from_slice(alloc, first)?,
@@ -140,7 +156,7 @@ fn held_by(alloc: Global, first: &[u8], second: &[u8], row: &Row) -> Result<TwoF
 }
 
 /// Opens an engine over the two files in pieces, with four workers.
-fn open<R: Threads + Sync>(
+fn open_two_files<R: Threads + Sync>(
     rt: &R,
     alloc: Global,
     held: &TwoFiles,
@@ -149,11 +165,15 @@ fn open<R: Threads + Sync>(
         asked: Asked::new(),
     };
     let mode = RecoveryMode::TolerateTornTail;
-    let sizes = [size(1, held.first.len()), size(2, held.second.len())];
+    let sizes = [
+        file_size(1, held.first.len()),
+        file_size(2, held.second.len()),
+    ];
     open_in_pieces(rt, alloc, mode, Version::V2, files, held, &sizes, &[], 4)
 }
 
-fn size(seq: FileSeq, len: usize) -> FileSize {
+/// Returns the number and the length of a file.
+fn file_size(seq: FileSeq, len: usize) -> FileSize {
     FileSize {
         seq,
         len: len as u64,
@@ -161,9 +181,16 @@ fn size(seq: FileSeq, len: usize) -> FileSize {
 }
 
 /// Tests whether the two files are opened as a row says, or a read fails. Any other error is passed on.
-fn is_opened<R: Threads + Sync>(rt: &R, alloc: Global, held: &TwoFiles, row: &Row) -> Result<bool> {
-    match open(rt, alloc, held) {
-        Ok(opened) => Ok(text_of(alloc, opened.engine.accessor().get(REGION))?.as_str() == row.2),
+fn is_row_opened<R: Threads + Sync>(
+    rt: &R,
+    alloc: Global,
+    held: &TwoFiles,
+    row: &Row,
+) -> Result<bool> {
+    match open_two_files(rt, alloc, held) {
+        Ok(opened) => Ok(
+            table_text(alloc, opened.engine.accessor().get(REGION))?.as_str() == row.2,
+        ),
         Err(unopened) => match unopened.error {
             Error::Io(e) => Ok(row.2.is_empty() && e.kind() == ErrorKind::TimedOut),
             error => Err(error),
@@ -171,18 +198,20 @@ fn is_opened<R: Threads + Sync>(rt: &R, alloc: Global, held: &TwoFiles, row: &Ro
     }
 }
 
-fn are_opened<R: Threads + Sync>(rt: &R, alloc: Global) -> Result<bool> {
-    let (first, second) = two_files(alloc)?;
+/// Tests whether the two files are opened as each row says.
+fn are_rows_opened<R: Threads + Sync>(rt: &R, alloc: Global) -> Result<bool> {
+    let (first, second) = bytes_of_two_files(alloc)?;
     for row in &ROWS {
-        let held = held_by(alloc, first.as_slice(), second.as_slice(), row)?;
-        if !is_opened(rt, alloc, &held, row)? {
+        let held = two_files_of_row(alloc, first.as_slice(), second.as_slice(), row)?;
+        if !is_row_opened(rt, alloc, &held, row)? {
             return Ok(false);
         }
     }
     Ok(true)
 }
 
+/// Tests openings that read files piece by piece, also of files that are torn or fail to be read.
 #[test]
 fn files_are_opened_in_pieces(rt: HostRuntime) {
-    assert!(rt; holds!(are_opened(&rt, rt.alloc())));
+    assert!(rt; holds!(are_rows_opened(&rt, rt.alloc())));
 }

@@ -4,8 +4,11 @@
 
 use crate::batches::Part;
 use crate::batches::Part::{Clean, Compact, Delete, Entries, Put, Truncate};
-use crate::calls::{LogFiles, copies, holds, new_engine, open, purge, reopened, rotate, write};
-use crate::reopened::{holds, moved, moved_parts};
+use crate::calls::{
+    LogFiles, copy_files, holds, new_engine, open_copies, purge_append_files, reopen_over_copies,
+    rotate, write_parts,
+};
+use crate::reopened::{engine_with_moved_parts, engine_with_moved_records, has_text};
 use raft_base::LogQueue;
 use raft_engine::Engine;
 use raft_files::MemoryFiles;
@@ -61,6 +64,7 @@ static REMOVALS: [Removal; 7] = [
     },
 ];
 
+/// Tests whether two lists of files have the same numbers and the same bytes.
 fn have_same_bytes(some: &LogFiles, others: &LogFiles) -> bool {
     if some.len() != others.len() {
         return false;
@@ -73,46 +77,49 @@ fn have_same_bytes(some: &LogFiles, others: &LogFiles) -> bool {
     true
 }
 
-fn has_files_of(
+/// Tests whether two engines have the same files of `queue`.
+fn has_same_files_in_queue(
     engine: &Engine<MemoryFiles>,
     other: &Engine<MemoryFiles>,
     queue: LogQueue,
 ) -> Result<bool> {
-    Ok(have_same_bytes(&copies(engine, queue)?, &copies(other, queue)?))
+    Ok(have_same_bytes(&copy_files(engine, queue)?, &copy_files(other, queue)?))
 }
 
 /// Tests whether two engines have the same files in both queues.
 fn have_same_files(engine: &Engine<MemoryFiles>, other: &Engine<MemoryFiles>) -> Result<bool> {
     Ok(
-        has_files_of(engine, other, LogQueue::Append)?
-            && has_files_of(engine, other, LogQueue::Rewrite)?,
+        has_same_files_in_queue(engine, other, LogQueue::Append)?
+            && has_same_files_in_queue(engine, other, LogQueue::Rewrite)?,
     )
 }
 
 /// Tests whether an engine that is opened over copies of the files holds `left`, and has asked for no change of these files.
-fn is_opened_as_it_was<R: Threads + Sync>(
+fn is_opened_unchanged<R: Threads + Sync>(
     rt: &R,
     alloc: Global,
     engine: &Engine<MemoryFiles>,
     left: &str,
 ) -> Result<bool> {
-    let opened = reopened(rt, alloc, engine)?;
-    Ok(have_same_files(&opened, engine)? && holds(alloc, &opened, left)?)
+    let opened = reopen_over_copies(rt, alloc, engine)?;
+    Ok(have_same_files(&opened, engine)? && has_text(alloc, &opened, left)?)
 }
 
 /// Opens an engine over copies of the files, and purges its append files. Tests whether that tells the rewrite queue what the
 /// removal says, and a further opening tells nothing more.
-fn is_told_by_a_purge<R: Threads + Sync>(
+fn is_removal_told_by_purge<R: Threads + Sync>(
     rt: &R,
     alloc: Global,
     engine: &Engine<MemoryFiles>,
     removal: &Removal,
 ) -> Result<bool> {
-    let mut opened = reopened(rt, alloc, engine)?;
-    is_told_in(rt, alloc, &mut opened, engine, removal)
+    let mut opened = reopen_over_copies(rt, alloc, engine)?;
+    is_removal_told_in(rt, alloc, &mut opened, engine, removal)
 }
 
-fn is_told_in<R: Threads + Sync>(
+/// Begins an append file of `opened`, and purges. Tests whether one file is deleted, the rewrite queue has been told,
+/// and a restart finds what `removal` leaves.
+fn is_removal_told_in<R: Threads + Sync>(
     rt: &R,
     alloc: Global,
     opened: &mut Engine<MemoryFiles>,
@@ -120,100 +127,122 @@ fn is_told_in<R: Threads + Sync>(
     removal: &Removal,
 ) -> Result<bool> {
     rotate(opened)?;
-    let deleted = purge(opened)?;
-    let is_told = !has_files_of(opened, engine, LogQueue::Rewrite)?;
+    let deleted = purge_append_files(opened)?;
+    let is_told = !has_same_files_in_queue(opened, engine, LogQueue::Rewrite)?;
     Ok(
         deleted == 1
             && is_told == removal.is_told
-            && is_opened_as_it_was(rt, alloc, opened, removal.left)?,
+            && is_opened_unchanged(rt, alloc, opened, removal.left)?,
     )
 }
 
-fn is_told_later<R: Threads + Sync>(rt: &R, alloc: Global, removal: &Removal) -> Result<bool> {
-    let mut engine = moved(alloc)?;
-    is_told_later_in(rt, alloc, &mut engine, removal)
+/// Tests [`is_removal_told_later_in`] with an engine that moved its records.
+fn is_removal_told_later<R: Threads + Sync>(
+    rt: &R,
+    alloc: Global,
+    removal: &Removal,
+) -> Result<bool> {
+    let mut engine = engine_with_moved_records(alloc)?;
+    is_removal_told_later_in(rt, alloc, &mut engine, removal)
 }
 
-fn is_told_later_in<R: Threads + Sync>(
+/// Writes the batch of `removal`. Tests whether an opening changes nothing, and a purge tells the rewrite queue.
+fn is_removal_told_later_in<R: Threads + Sync>(
     rt: &R,
     alloc: Global,
     engine: &mut Engine<MemoryFiles>,
     removal: &Removal,
 ) -> Result<bool> {
-    write(alloc, engine, removal.batch, true)?;
+    write_parts(alloc, engine, removal.batch, true)?;
     Ok(
-        is_opened_as_it_was(rt, alloc, engine, removal.left)?
-            && is_told_by_a_purge(rt, alloc, engine, removal)?,
+        is_opened_unchanged(rt, alloc, engine, removal.left)?
+            && is_removal_told_by_purge(rt, alloc, engine, removal)?,
     )
 }
 
+/// Tests that an opening asks for no change of the files, and that a purge tells the rewrite queue what was taken
+/// away.
 #[test]
 fn an_opening_leaves_files_as_they_were(rt: HostRuntime) {
     for (row, removal) in REMOVALS.iter().enumerate() {
         assert!(rt;
-            holds!(is_told_later(&rt, rt.alloc(), removal)),
+            holds!(is_removal_told_later(&rt, rt.alloc(), removal)),
             "row {row}"
         );
     }
 }
 
 /// Tests whether an empty rewrite queue is told nothing of what the append queue takes away.
-fn none_is_told<R: Threads + Sync>(rt: &R, alloc: Global) -> Result<bool> {
+fn is_empty_queue_told_nothing<R: Threads + Sync>(rt: &R, alloc: Global) -> Result<bool> {
     let mut engine = new_engine(alloc)?;
-    none_is_told_in(rt, alloc, &mut engine)
+    is_empty_queue_told_nothing_in(rt, alloc, &mut engine)
 }
 
-fn none_is_told_in<R: Threads + Sync>(
+/// Writes records and a `Clean` to `engine`. Tests whether a purge of an engine over its files tells nothing.
+fn is_empty_queue_told_nothing_in<R: Threads + Sync>(
     rt: &R,
     alloc: Global,
     engine: &mut Engine<MemoryFiles>,
 ) -> Result<bool> {
-    write(alloc, engine, &[Entries(1, 10), Put("v")], true)?;
-    write(alloc, engine, &[Clean], true)?;
-    let mut opened = reopened(rt, alloc, engine)?;
-    is_told_none(&mut opened, engine)
+    write_parts(alloc, engine, &[Entries(1, 10), Put("v")], true)?;
+    write_parts(alloc, engine, &[Clean], true)?;
+    let mut opened = reopen_over_copies(rt, alloc, engine)?;
+    does_purge_tell_nothing(&mut opened, engine)
 }
 
-fn is_told_none(opened: &mut Engine<MemoryFiles>, engine: &Engine<MemoryFiles>) -> Result<bool> {
+/// Begins an append file of `opened`, and purges. Tests whether one file is deleted, and the rewrite queue is as that
+/// of `engine`.
+fn does_purge_tell_nothing(
+    opened: &mut Engine<MemoryFiles>,
+    engine: &Engine<MemoryFiles>,
+) -> Result<bool> {
     rotate(opened)?;
-    Ok(purge(opened)? == 1 && has_files_of(opened, engine, LogQueue::Rewrite)?)
+    Ok(
+        purge_append_files(opened)? == 1
+            && has_same_files_in_queue(opened, engine, LogQueue::Rewrite)?,
+    )
 }
 
+/// Tests that a rewrite queue without records isn't told what the append queue takes away.
 #[test]
 fn an_empty_rewrite_queue_is_told_nothing(rt: HostRuntime) {
-    assert!(rt; holds!(none_is_told(&rt, rt.alloc())));
+    assert!(rt; holds!(is_empty_queue_told_nothing(&rt, rt.alloc())));
 }
 
 /// Tests whether an opening tells the rewrite queue at once that its entries are dropped, if the appended ones begin after a
 /// hole; and whether a further opening tells nothing more.
-fn prefix_is_told<R: Threads + Sync>(rt: &R, alloc: Global) -> Result<bool> {
-    let rewritten = moved_parts(alloc, &[Entries(1, 5)])?;
-    let rewrite = copies(&rewritten, LogQueue::Rewrite)?;
+fn is_dropped_prefix_told_at_once<R: Threads + Sync>(rt: &R, alloc: Global) -> Result<bool> {
+    let rewritten = engine_with_moved_parts(alloc, &[Entries(1, 5)])?;
+    let rewrite = copy_files(&rewritten, LogQueue::Rewrite)?;
     let mut appended = new_engine(alloc)?;
-    let append = appended_behind_a_hole(alloc, &mut appended)?;
-    let opened = open(rt, alloc, append, rewrite)?;
-    is_told_of_a_hole(rt, alloc, &opened, &rewritten)
+    let append = files_appended_behind_hole(alloc, &mut appended)?;
+    let opened = open_copies(rt, alloc, append, rewrite)?;
+    is_hole_told(rt, alloc, &opened, &rewritten)
 }
 
-fn appended_behind_a_hole(alloc: Global, engine: &mut Engine<MemoryFiles>) -> Result<LogFiles> {
-    write(alloc, engine, &[Entries(10, 12)], true)?;
-    copies(engine, LogQueue::Append)
+/// Writes [10,12), and returns a copy of the append files.
+fn files_appended_behind_hole(alloc: Global, engine: &mut Engine<MemoryFiles>) -> Result<LogFiles> {
+    write_parts(alloc, engine, &[Entries(10, 12)], true)?;
+    copy_files(engine, LogQueue::Append)
 }
 
-fn is_told_of_a_hole<R: Threads + Sync>(
+/// Tests whether `opened` has told its rewrite queue more than `rewritten` had, and holds [10,12), and a further
+/// opening changes nothing.
+fn is_hole_told<R: Threads + Sync>(
     rt: &R,
     alloc: Global,
     opened: &Engine<MemoryFiles>,
     rewritten: &Engine<MemoryFiles>,
 ) -> Result<bool> {
     Ok(
-        !has_files_of(opened, rewritten, LogQueue::Rewrite)?
-            && holds(alloc, opened, "[10,12)")?
-            && is_opened_as_it_was(rt, alloc, opened, "[10,12)")?,
+        !has_same_files_in_queue(opened, rewritten, LogQueue::Rewrite)?
+            && has_text(alloc, opened, "[10,12)")?
+            && is_opened_unchanged(rt, alloc, opened, "[10,12)")?,
     )
 }
 
+/// Tests that an opening tells the rewrite queue at once that its entries are dropped by those behind a hole.
 #[test]
-fn a_dropped_front_is_told_at_once(rt: HostRuntime) {
-    assert!(rt; holds!(prefix_is_told(&rt, rt.alloc())));
+fn dropped_entries_before_a_hole_are_told_at_once(rt: HostRuntime) {
+    assert!(rt; holds!(is_dropped_prefix_told_at_once(&rt, rt.alloc())));
 }

@@ -220,7 +220,7 @@ static CASES: [Case; 15] = [
 ];
 
 /// Returns histories whose last step reads an entry of a file that was deleted too early.
-pub fn missed() -> &'static [&'static [Step]] {
+pub fn histories_that_miss_a_file() -> &'static [&'static [Step]] {
     &MISSED
 }
 

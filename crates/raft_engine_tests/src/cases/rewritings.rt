@@ -215,7 +215,7 @@ static CASES: [Case; 17] = [
 ];
 
 /// Returns histories whose last step is refused: entries are replaced between their reading and their rewriting.
-pub fn refused() -> &'static [&'static [Step]] {
+pub fn histories_with_refused_last_step() -> &'static [&'static [Step]] {
     &REFUSED
 }
 

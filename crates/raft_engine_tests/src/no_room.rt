@@ -6,7 +6,8 @@ ghost use Rattle.std.specs.Prelude.{◌≡◌};
 use crate::batches::Part::{Delete, Entries, Put};
 use crate::batches::{Part, REGION, batch_of_parts};
 use crate::calls::{
-    holds, open_copies, purge_append_files, purge_rewrite_files, rewrite_again, rewrite_up_to, rotate,
+    holds, open_copies, purge_append_files, purge_rewrite_files, rewrite_again, rewrite_up_to,
+    rotate,
 };
 use crate::reopened::has_text;
 use raft_base::{FileBlockHandle, FileSeq, LogQueue, Version};

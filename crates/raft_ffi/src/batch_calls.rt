@@ -5,7 +5,7 @@ ghost use Rattle.raft_ffi.specs.Words.{AllByRecursion, AllHold, BothHold, HasStr
 ghost use Rattle.raft_ffi.specs.Words.{at_stage, bare, command_item, concat, empty_batch, encoded, encoded_length, entries_from, file_of, is_open, log_batch_bytes, pair_item, place_at, reserved_key, sealed, signature_of, sized_entries, stage_number};
 ghost use Rattle.raft_ffi.specs.Words.{strings_of, with_batch, with_entries_added, with_item, written_to, Clean, Compact, Truncate, Put, Del};
 
-use crate::handles::{Batch, Handle, Items, or_told, told, with};
+use crate::handles::{Batch, Handle, Items, answer_with_value, unwrap_or_return, with_value};
 use crate::item_list::take_items;
 use crate::status::{File, Status, copy_front, memory_code, to_queue};
 use raft_base::{CompressionType, EntryIndex, Error, FileBlockHandle, FileId, Result};
@@ -30,7 +30,7 @@ pub extern "C" fn raft_ffi_batch_stage(alloc: Global, batch: &mut Batch) -> u32
     requires held { IsTrue (is_some batch.old.value) }
     ensures stage { IsRead (λ b. result ≡ stage_number b.stage) batch.old.value batch.new.value }
 {
-    match with!(held in batch, alloc; (held.is_open(), held.is_sealed())) {
+    match with_value!(held in batch, alloc; (held.is_open(), held.is_sealed())) {
         (true, _) => 0,
         (false, false) => 1,
         (false, true) => 2,
@@ -47,7 +47,7 @@ pub extern "C" fn raft_ffi_batch_size(alloc: Global, batch: &mut Batch) -> usize
     ensures covers { Holds (λ b. HaveSmallNumbers b.items → encoded_length b.items b.entry_bytes < 2 ^ 56 →
         encoded_length b.items b.entry_bytes ≤ result) batch.old.value }
 {
-    with!(held in batch, alloc; held.approximate_size())
+    with_value!(held in batch, alloc; held.approximate_size())
 }
 
 /// Adds entries of a region to an open batch. Their indexes rise by one from `first` on, all below 2^64. The bytes of the
@@ -80,7 +80,7 @@ pub extern "C" fn raft_ffi_batch_add_entries(
         old.entry_bytes + length (concat (strings_of lens.now bytes.now)))) batch.old.value }
     ensures text { HasText result text.old text.new }
 {
-    told!(held in batch, alloc, text; add_entries(alloc, &mut *held, region, first, lens, bytes))
+    answer_with_value!(held in batch, alloc, text; add_entries(alloc, &mut *held, region, first, lens, bytes))
 }
 
 /// Adds entries of a region to an open batch. Their indexes rise by one from `first` on. Their bytes stand in `bytes`, one
@@ -128,7 +128,7 @@ pub extern "C" fn raft_ffi_batch_clean(alloc: Global, batch: &mut Batch, region:
     ensures changed { IsChangedIfMemory result (λ old new. new ≡ with_item old (command_item region Clean)) batch.old.value
         batch.new.value }
 {
-    told!(held in batch, alloc; held.add_command(region, Command::Clean))
+    answer_with_value!(held in batch, alloc; held.add_command(region, Command::Clean))
 }
 
 /// Adds to an open batch that the entries of a region below `index` are removed. Returns 0, or 11 (`Memory`): the batch is
@@ -145,7 +145,7 @@ pub extern "C" fn raft_ffi_batch_compact(
     ensures changed { IsChangedIfMemory result (λ old new. new ≡ with_item old (command_item region (Compact index)))
         batch.old.value batch.new.value }
 {
-    told!(held in batch, alloc; held.add_command(region, Command::Compact { index }))
+    answer_with_value!(held in batch, alloc; held.add_command(region, Command::Compact { index }))
 }
 
 /// Adds to an open batch that the entries of a region from `index` on are removed. Returns 0, or 11 (`Memory`): the batch is
@@ -162,7 +162,7 @@ pub extern "C" fn raft_ffi_batch_truncate(
     ensures changed { IsChangedIfMemory result (λ old new. new ≡ with_item old (command_item region (Truncate index)))
         batch.old.value batch.new.value }
 {
-    told!(held in batch, alloc; held.add_command(region, Command::Truncate { index }))
+    answer_with_value!(held in batch, alloc; held.add_command(region, Command::Truncate { index }))
 }
 
 /// Adds to an open batch that `key` of a region gets `value`. The code is 0; 1 (`InvalidArgument`), if the key is that of the
@@ -183,7 +183,7 @@ pub extern "C" fn raft_ffi_batch_put(
     ensures accepted { result.code ≡ 0 → key.now ≢ reserved_key }
     ensures text { HasText result text.old text.new }
 {
-    told!(held in batch, alloc, text; add_put(alloc, &mut *held, region, key, value))
+    answer_with_value!(held in batch, alloc, text; add_put(alloc, &mut *held, region, key, value))
 }
 
 /// Adds to an open batch that a key of a region gets a value, of both of which it takes copies.
@@ -216,8 +216,8 @@ pub extern "C" fn raft_ffi_batch_delete(
     ensures changed { IsChangedIfMemory result (λ old new. new ≡ with_item old (pair_item region Del key.now None)) batch.old.value
         batch.new.value }
 {
-    let key = or_told!(Vec::from_slice(alloc, key));
-    told!(held in batch, alloc; held.delete(region, key))
+    let key = unwrap_or_return!(Vec::from_slice(alloc, key));
+    answer_with_value!(held in batch, alloc; held.delete(region, key))
 }
 
 /// Moves all items of `more`, an open batch, to the end of `batch`, an open one too; `more` is then without items. The code is 0;
@@ -245,7 +245,7 @@ pub extern "C" fn raft_ffi_batch_merge(
         old.entry_bytes + length rhs.entry_bytes)) batch.old.value more.old.value }
     ensures text { HasText result text.old text.new }
 {
-    told!(held in batch, alloc, text; with!(rest in more, alloc; held.merge(&mut *rest)))
+    answer_with_value!(held in batch, alloc, text; with_value!(rest in more, alloc; held.merge(&mut *rest)))
 }
 
 /// Makes the bytes of an open batch, to which nothing can be added from then on, and sets `len` to how many they are: 0
@@ -269,7 +269,7 @@ pub extern "C" fn raft_ffi_batch_finish(
         × (2 ^ 56 ≤ encoded_length old.items old.entry_bytes)) batch.old.value }
     ensures text { HasText result text.old text.new }
 {
-    told!(held in batch, alloc, len, text; held.finish_populate())
+    answer_with_value!(held in batch, alloc, len, text; held.finish_populate())
 }
 
 /// Signs the bytes of a batch, which isn't open any more, for `file`. It may be signed again, for another file.
@@ -279,7 +279,7 @@ pub extern "C" fn raft_ffi_batch_sign(alloc: Global, batch: &mut Batch, file: Fi
     requires encoded { Holds (λ b. b.stage ≢ is_open) batch.old.value }
     ensures { BothHold (λ old new. new ≡ at_stage (sealed (signature_of (file_of file))) old) batch.old.value batch.new.value }
 {
-    with!(held in batch, alloc; held.prepare_write(&file.to_context()));
+    with_value!(held in batch, alloc; held.prepare_write(&file.to_context()));
 }
 
 /// Copies the bytes of a signed batch into `bytes`, as many as there is room for. Returns how many the batch has, which may be
@@ -294,7 +294,7 @@ pub extern "C" fn raft_ffi_batch_bytes(alloc: Global, batch: &mut Batch, bytes: 
     ensures read_again { Holds (λ b. (signature : Option ℕ) → b.stage ≡ sealed signature → b.items ≢ [] → IsLogBatch
         (log_batch_bytes signature b.items b.entry_bytes) signature (map bare b.items) b.entry_bytes) batch.old.value }
 {
-    with!(held in batch, alloc; copy_front(held.encoded_bytes(), bytes))
+    with_value!(held in batch, alloc; copy_front(held.encoded_bytes(), bytes))
 }
 
 /// Gives each entry and each key value of a signed batch its place: the batch was written to file `seq` of a queue, from
@@ -317,7 +317,7 @@ pub extern "C" fn raft_ffi_batch_written(
         log_batch_bytes signature old.items old.entry_bytes) batch.old.value batch.new.value }
 {
     let id = FileId::new(to_queue(is_rewrite), seq);
-    with!(held in batch, alloc; held.finish_write(FileBlockHandle { id, offset, len }));
+    with_value!(held in batch, alloc; held.finish_write(FileBlockHandle { id, offset, len }));
 }
 
 /// Takes the items out of a batch, at whatever stage, into `items`, which is empty before. The batch is gone then, after an
@@ -330,7 +330,7 @@ pub extern "C" fn raft_ffi_batch_into_items(alloc: Global, batch: Batch, items: 
     ensures err { result ≢ 0 → items.new.value ≡ None }
     ensures fault { result ≢ 0 → result ≡ 11 }
 {
-    let found = or_told!(take_items(alloc, batch.into_held()));
+    let found = unwrap_or_return!(take_items(alloc, batch.into_held()));
     memory_code(&items.put_new(alloc, found))
 }
 

@@ -5,7 +5,7 @@ ghost use Rattle.raft_ffi.specs.Words.{Append, Rewrite, AreAppended, AreDropped,
 ghost use Rattle.raft_ffi.specs.Words.{IsCompacted, IsDeleted, IsKeyRewritten, IsKeyUnrewritten, IsMemoryOr, IsPut, IsRunIn, IsTruncated, IsUnput, IsChangeOr, after_change, entry_of, id_of, number_in, table_in};
 
 use crate::entries::{Entry, entry_indexes};
-use crate::handles::{Handle, Tables, or_told, told, with};
+use crate::handles::{Handle, Tables, answer_with_value, unwrap_or_return, with_value};
 use crate::status::{Maybe, Status, to_queue};
 use raft_accessor::MemTableAccessor;
 use raft_base::{Error, FileId, Result};
@@ -29,8 +29,8 @@ pub extern "C" fn raft_ffi_tables_append(
     ensures accepted { result.code ≡ 0 → IsRunIn Append (map entry_of entries.now) }
     ensures text { HasText result text.old text.new }
 {
-    let run = or_told!(entry_indexes(alloc, entries), alloc, text);
-    told!(held in tables, alloc, text; change_table(&mut *held, region, TableChange::Append(run)))
+    let run = unwrap_or_return!(entry_indexes(alloc, entries), alloc, text);
+    answer_with_value!(held in tables, alloc, text; change_table(&mut *held, region, TableChange::Append(run)))
 }
 
 /// Drops the entries of a region below `index`, and sets `dropped` to how many those were. The code is 0, or 11 (`Memory`).
@@ -49,7 +49,7 @@ pub extern "C" fn raft_ffi_tables_compact(
     ensures dropped { result.code ≡ 0 → BothHold (AreDropped dropped.new region) tables.old.value tables.new.value }
     ensures text { HasText result text.old text.new }
 {
-    told!(held in tables, alloc, dropped, text; change_table(&mut *held, region, TableChange::Compact { index }))
+    answer_with_value!(held in tables, alloc, dropped, text; change_table(&mut *held, region, TableChange::Compact { index }))
 }
 
 /// Drops the entries of a region from `index` on, and sets `dropped` to how many those were. The code is 0, or 11 (`Memory`).
@@ -68,7 +68,7 @@ pub extern "C" fn raft_ffi_tables_truncate(
     ensures dropped { result.code ≡ 0 → BothHold (AreDropped dropped.new region) tables.old.value tables.new.value }
     ensures text { HasText result text.old text.new }
 {
-    told!(held in tables, alloc, dropped, text; change_table(&mut *held, region, TableChange::Truncate { index }))
+    answer_with_value!(held in tables, alloc, dropped, text; change_table(&mut *held, region, TableChange::Truncate { index }))
 }
 
 /// Sets the value of `key` of a region to `value`, which was written to file `seq` of a queue. The code is 0; 9 (`Full`), if
@@ -90,7 +90,7 @@ pub extern "C" fn raft_ffi_tables_put(
     ensures text { HasText result text.old text.new }
 {
     let file = FileId::new(to_queue(is_rewrite), seq);
-    told!(held in tables, alloc, text; put_copied_pair(alloc, &mut *held, region, key, value, file))
+    answer_with_value!(held in tables, alloc, text; put_copied_pair(alloc, &mut *held, region, key, value, file))
 }
 
 /// Deletes `key` of a region with its value. The code is 0, or 11 (`Memory`). The tables are unchanged after an error.
@@ -106,8 +106,8 @@ pub extern "C" fn raft_ffi_tables_delete(
     ensures changed { IsChangedIfMemory result.code (IsDeleted key.now region) tables.old.value tables.new.value }
     ensures text { HasText result text.old text.new }
 {
-    let key = or_told!(Vec::from_slice(alloc, key), alloc, text);
-    told!(held in tables, alloc, text; change_table(&mut *held, region, TableChange::Delete { key }))
+    let key = unwrap_or_return!(Vec::from_slice(alloc, key), alloc, text);
+    answer_with_value!(held in tables, alloc, text; change_table(&mut *held, region, TableChange::Delete { key }))
 }
 
 /// Moves entries of a region to new places. `entries` name the entries, with their places in the rewrite queue. Only those
@@ -129,9 +129,9 @@ pub extern "C" fn raft_ffi_tables_rewrite(
     ensures accepted { result.code ≡ 0 → IsRunIn Rewrite (map entry_of entries.now) }
     ensures text { HasText result text.old text.new }
 {
-    let entries = or_told!(entry_indexes(alloc, entries), alloc, text);
+    let entries = unwrap_or_return!(entry_indexes(alloc, entries), alloc, text);
     let gate = gate.to_option();
-    told!(held in tables, alloc, text; change_table(&mut *held, region, TableChange::Rewrite { entries, gate }))
+    answer_with_value!(held in tables, alloc, text; change_table(&mut *held, region, TableChange::Rewrite { entries, gate }))
 }
 
 /// Moves `key` of a region, with its value, to file `seq` of the rewrite queue. One in the append queue moves only if there is
@@ -152,7 +152,7 @@ pub extern "C" fn raft_ffi_tables_rewrite_key(
         (number_in gate) seq key.now region) tables.old.value tables.new.value }
     ensures text { HasText result text.old text.new }
 {
-    told!(held in tables, alloc, text; rewrite_key(alloc, &mut *held, region, key, gate.to_option(), seq))
+    answer_with_value!(held in tables, alloc, text; rewrite_key(alloc, &mut *held, region, key, gate.to_option(), seq))
 }
 
 /// Applies `change` to the table of a region. Returns how many entries a compaction or a truncation drops, and 0 for any other

@@ -5,7 +5,9 @@ ghost use Rattle.raft_ffi.specs.Words.{AllHold, AreKept, AreOfTwoQueues, AreTabl
 ghost use Rattle.raft_ffi.specs.Words.{IsCodeForBoth, IsMadeIfMemory, IsMemoryOr, IsMergeAppendFault, IsMergedWith, IsNeighborFault, IsOfFailed, IsOverlaidExactly, IsOverlaidWith, IsRefusedFor, IsReadOrRefused, Sound, StandsForBoth};
 ghost use Rattle.raft_ffi.specs.Words.{StandsForBothExactly, StopsByFault, blank_context, capped, file_of, kept_of, part_of, queue_of, Failed, Reading};
 
-use crate::handles::{Context, Handle, Tables, or_told, told, told_or_gone, with};
+use crate::handles::{
+    Context, Handle, Tables, answer_or_drop, answer_with_value, unwrap_or_return, with_value,
+};
 use crate::status::{File, Status, memory_code, status_of, to_queue};
 use raft_accessor::MemTableAccessor;
 use raft_base::{Error, LogFileContext, LogQueue, Result};
@@ -39,7 +41,7 @@ pub extern "C" fn raft_ffi_context_new(alloc: Global, context: &mut Context) -> 
     ensures made { IsMadeIfMemory result blank_context context.new.value }
     ensures exact { result ≡ 0 → Holds (λ c. HasReadExactly c []) context.new.value }
 {
-    let held = or_told!(MemTableRecoverContext::new(alloc));
+    let held = unwrap_or_return!(MemTableRecoverContext::new(alloc));
     memory_code(&context.put_new(alloc, held))
 }
 
@@ -68,7 +70,7 @@ pub extern "C" fn raft_ffi_context_replay(
         (part_of (file_of file) offset bytes.now)) result text.old text.new) context.old.value }
     ensures text { HasText result text.old text.new }
 {
-    told_or_gone!(held in context, alloc, text; replay_batches(&mut *held, alloc, &file.to_context(), offset, bytes))
+    answer_or_drop!(held in context, alloc, text; replay_batches(&mut *held, alloc, &file.to_context(), offset, bytes))
 }
 
 /// Replays `bytes`, batches that stand in `file` from `offset` on.
@@ -124,7 +126,7 @@ pub extern "C" fn raft_ffi_context_merge(
         → result.code ≡ 12) context.old.value newer.value }
     ensures text { HasText result text.old text.new }
 {
-    told_or_gone!(held in context, alloc, text; merge_newer(&mut *held, newer.into_held(), to_queue(is_rewrite)))
+    answer_or_drop!(held in context, alloc, text; merge_newer(&mut *held, newer.into_held(), to_queue(is_rewrite)))
 }
 
 /// Takes in `newer`, the context of the batches that follow in the same `queue`.
@@ -169,7 +171,7 @@ pub extern "C" fn raft_ffi_context_overlay(
         → result.code ≡ 12) context.old.value append.value }
     ensures text { HasText result text.old text.new }
 {
-    told_or_gone!(held in context, alloc, text; overlay_append(&mut *held, append.into_held()))
+    answer_or_drop!(held in context, alloc, text; overlay_append(&mut *held, append.into_held()))
 }
 
 /// Takes in `append`, the context of the append queue, over this one, that of the rewrite queue.
@@ -205,7 +207,7 @@ pub extern "C" fn raft_ffi_context_kept(
         context.old.value context.new.value }
     ensures text { HasText result text.old text.new }
 {
-    told!(held in context, alloc, text; count_kept(&*held, kept))
+    answer_with_value!(held in context, alloc, text; count_kept(&*held, kept))
 }
 
 /// Sets `kept` to how much a context holds.

@@ -1,12 +1,11 @@
 //! Exported calls of an engine whose files the caller keeps. What changes it leaves orders behind, which the caller carries
 //! out in turn.
 
-ghost use Rattle.std.specs.Prelude.{◌≡◌, ◌≢◌, true, false, Some, None, IsTrue, is_some, IfOk};
+ghost use Rattle.std.specs.Prelude.{◌≡◌, ◌≢◌, true, Some, None, IsTrue, is_some, IfOk};
 ghost use Rattle.raft_ffi.specs.Words.{AllHold, AreAcceptedOncePlaced, ArePurged, AreRewritesPurged, AreRewritesUnpurged, AreSomeReadAs, BothHold, HandedFails, HasText, Holds, IsCodeForBoth, IsCodeOf, IsOpenedAs, IsRead, IsRotated};
 ghost use Rattle.raft_ffi.specs.Words.{AreTailsIn, IsSynced, IsUnopenedAs, IsUnpurged, IsUnrotated, IsUnsynced, IsUnwrittenAs, IsWrittenOrNone, empty_batch, is_open, mode_of, version_of};
 
-use crate::handles::{Batch, Engine, Handle, Reader, told, with};
-use crate::held_engine::HeldEngine;
+use crate::handles::{Batch, Engine, Handle, Reader, answer_with_value, with_value};
 use crate::opening::open_into;
 use crate::read_queue::Size;
 use crate::status::{Status, Tail, status_of, to_recovery_mode, to_version};
@@ -101,7 +100,7 @@ pub extern "C" fn raft_ffi_engine_is_intact(alloc: Global, engine: &mut Engine) 
     requires held { IsTrue (is_some engine.old.value) }
     ensures intact { IsRead (λ e. e.intact ≡ result) engine.old.value engine.new.value }
 {
-    with!(held in engine, alloc; held.engine.is_intact())
+    with_value!(held in engine, alloc; held.engine.is_intact())
 }
 
 /// Writes `batch`, an open one, to the tables, and orders that it is put after the bytes of the last append file. `batch` is
@@ -127,7 +126,7 @@ pub extern "C" fn raft_ffi_engine_write(
         old new) engine.old.value engine.new.value }
     ensures text { HasText result text.old text.new }
 {
-    told!(held in engine, alloc, text; with!(written in batch, alloc; held.engine.write(&mut *written, sync)))
+    answer_with_value!(held in engine, alloc, text; with_value!(written in batch, alloc; held.engine.write(&mut *written, sync)))
 }
 
 /// Orders a sync of the append queue, so that all that was written outlasts a crash once the sync is carried out. The code is
@@ -145,7 +144,7 @@ pub extern "C" fn raft_ffi_engine_sync(
     ensures err { result.code ≢ 0 → IsCodeForBoth (IsUnsynced HandedFails) engine.old.value engine.new.value result.code }
     ensures text { HasText result text.old text.new }
 {
-    told!(held in engine, alloc, text; held.engine.sync())
+    answer_with_value!(held in engine, alloc, text; held.engine.sync())
 }
 
 /// Orders that the last append file is synced and a new one begun, to which the next batch goes. The code is 0; 12 (`Failed`),
@@ -162,7 +161,7 @@ pub extern "C" fn raft_ffi_engine_rotate(
     ensures err { result.code ≢ 0 → IsCodeForBoth (IsUnrotated HandedFails) engine.old.value engine.new.value result.code }
     ensures text { HasText result text.old text.new }
 {
-    told!(held in engine, alloc, text; held.engine.rotate())
+    answer_with_value!(held in engine, alloc, text; held.engine.rotate())
 }
 
 /// Orders that the append files which no table needs are deleted, the oldest first but never the last one, and sets `count` to
@@ -181,7 +180,7 @@ pub extern "C" fn raft_ffi_engine_purge_expired_files(
     ensures err { result.code ≢ 0 → IsCodeForBoth (IsUnpurged HandedFails) engine.old.value engine.new.value result.code }
     ensures text { HasText result text.old text.new }
 {
-    told!(held in engine, alloc, count, text; held.engine.purge_expired_files())
+    answer_with_value!(held in engine, alloc, count, text; held.engine.purge_expired_files())
 }
 
 /// Orders that the rewrite files which no table needs are deleted, the oldest first but never the last one, and sets `count`
@@ -200,7 +199,7 @@ pub extern "C" fn raft_ffi_engine_purge_rewrite_files(
     ensures err { result.code ≢ 0 → IsCodeForBoth (AreRewritesUnpurged HandedFails) engine.old.value engine.new.value result.code }
     ensures text { HasText result text.old text.new }
 {
-    told!(held in engine, alloc, count, text; held.engine.purge_rewrite_files())
+    answer_with_value!(held in engine, alloc, count, text; held.engine.purge_rewrite_files())
 }
 
 /// Frees the engine. Orders that still wait are lost.

@@ -57,7 +57,7 @@ impl<T, A: Allocator> Parts<T, A> {
 
 /// Evaluates `body` on the value that a handle holds, as the box `held`, and returns the result. The handle is empty
 /// meanwhile, and holds the value again afterwards.
-macro_rules! with {
+macro_rules! with_value {
     ($held:ident in $handle:ident, $alloc:ident; $body:expr) => {{
         let mut $held = $handle.take($alloc);
         let answer = $body;
@@ -66,27 +66,27 @@ macro_rules! with {
     }};
 }
 
-/// Does what `with!` does with a body that returns a `Result`, and returns how that ended. With the allocator alone this is a
-/// number, 0 or that of `Memory`; with a text it is a `Status`; with `found` and a text it is a `Status`, and `found` is set
-/// to what an `Ok` has.
-macro_rules! told {
+/// Does what `with_value!` does with a body that returns a `Result`, and returns how that ended. With the allocator alone this
+/// is a number, 0 or that of `Memory`; with a text it is a `Status`; with `found` and a text it is a `Status`, and `found` is
+/// set to what an `Ok` has.
+macro_rules! answer_with_value {
     ($held:ident in $handle:ident, $alloc:ident; $body:expr) => {{
-        let answer = with!($held in $handle, $alloc; $body);
+        let answer = with_value!($held in $handle, $alloc; $body);
         crate::status::memory_code(&answer)
     }};
     ($held:ident in $handle:ident, $alloc:ident, $text:ident; $body:expr) => {{
-        let answer = with!($held in $handle, $alloc; $body);
+        let answer = with_value!($held in $handle, $alloc; $body);
         crate::status::status_of($alloc, &answer, $text)
     }};
     ($held:ident in $handle:ident, $alloc:ident, $found:ident, $text:ident; $body:expr) => {{
-        let answer = with!($held in $handle, $alloc; $body);
+        let answer = with_value!($held in $handle, $alloc; $body);
         crate::status::store_and_answer($alloc, answer, $found, $text)
     }};
 }
 
-/// Does what `told!` with a text does. But after an error the value that the handle held is dropped, and the handle stays
-/// empty.
-macro_rules! told_or_gone {
+/// Does what `answer_with_value!` with a text does. But after an error the value that the handle held is dropped, and the
+/// handle stays empty.
+macro_rules! answer_or_drop {
     ($held:ident in $handle:ident, $alloc:ident, $text:ident; $body:expr) => {{
         let mut $held = $handle.take($alloc);
         let answer = $body;
@@ -100,7 +100,7 @@ macro_rules! told_or_gone {
 
 /// Returns the value of an `Ok`. After an error, which is want of memory, it returns from the calling function: with the
 /// number of `Memory`, or with its `Status` if a text is given.
-macro_rules! or_told {
+macro_rules! unwrap_or_return {
     ($made:expr) => {
         match $made {
             Ok(made) => made,
@@ -115,10 +115,10 @@ macro_rules! or_told {
     };
 }
 
-pub(crate) use or_told;
-pub(crate) use told;
-pub(crate) use told_or_gone;
-pub(crate) use with;
+pub(crate) use answer_or_drop;
+pub(crate) use answer_with_value;
+pub(crate) use unwrap_or_return;
+pub(crate) use with_value;
 
 /// A type of handles: each holds a value on the heap, or nothing. C keeps it as a pointer, which is null if it holds nothing.
 pub(crate) trait Handle: Sized + Drop {

@@ -5,7 +5,7 @@ ghost use Rattle.raft_ffi.specs.Words.{into_iter_items, into_iter_len, item_of, 
 ghost use Rattle.raft_ffi.specs.Words.{key_at, value_at, AreEntriesIn, IsCopiedIfAny, HasText};
 
 use crate::entries::{Entry, copy_entries};
-use crate::handles::{Handle, Items, with};
+use crate::handles::{Handle, Items, with_value};
 use crate::status::{File, Status, copy_found, status_of};
 use raft_base::{EntryIndex, Error, LogFileContext, Result};
 use raft_records::{Command, LogBatch, LogItem, LogItemContent, OpType, next_in};
@@ -147,7 +147,7 @@ pub extern "C" fn raft_ffi_items_len(alloc: Global, items: &mut Items) -> usize
     requires held { IsTrue (is_some items.old.value) }
     ensures len { IsRead (λ xs. result ≡ length xs) items.old.value items.new.value }
 {
-    with!(held in items, alloc; held.as_slice().len())
+    with_value!(held in items, alloc; held.as_slice().len())
 }
 
 /// Returns whether there is an item `i`, counted from 0. If there is one, `head` is set to what it says.
@@ -161,7 +161,7 @@ pub extern "C" fn raft_ffi_items_head(
     requires held { IsTrue (is_some items.old.value) }
     ensures found { IsRead (λ xs. IsFound (λ item. IsHeadOf item head.new) (slice_get xs i) result) items.old.value items.new.value }
 {
-    with!(held in items, alloc; set_head_of_item(&*held, i, head))
+    with_value!(held in items, alloc; set_head_of_item(&*held, i, head))
 }
 
 /// Returns whether there is an item `i`, counted from 0, and it is one of entries. If so, as many of them as there is room for
@@ -178,7 +178,7 @@ pub extern "C" fn raft_ffi_items_entries(
     ensures found { IsRead (λ xs. IsFound (λ es. AreEntriesIn es entries.old entries.new count.new) (entries_at xs i) result)
         items.old.value items.new.value }
 {
-    with!(held in items, alloc; copy_item_entries(&*held, i, entries, count))
+    with_value!(held in items, alloc; copy_item_entries(&*held, i, entries, count))
 }
 
 /// Returns whether there is an item `i`, counted from 0, and it changes a key. If so, as many bytes of the key as there is
@@ -194,7 +194,7 @@ pub extern "C" fn raft_ffi_items_key(
     requires held { IsTrue (is_some items.old.value) }
     ensures found { IsRead (λ xs. IsCopiedIfAny (key_at xs i) key.old key.new len.new result) items.old.value items.new.value }
 {
-    with!(held in items, alloc; copy_found(key_of(&*held, i), key, len))
+    with_value!(held in items, alloc; copy_found(key_of(&*held, i), key, len))
 }
 
 /// Returns whether there is an item `i`, counted from 0, and it puts a value. If so, as many bytes of the value as there is
@@ -210,7 +210,7 @@ pub extern "C" fn raft_ffi_items_value(
     requires held { IsTrue (is_some items.old.value) }
     ensures found { IsRead (λ xs. IsCopiedIfAny (value_at xs i) value.old value.new len.new result) items.old.value items.new.value }
 {
-    with!(held in items, alloc; copy_found(value_of(&*held, i), value, len))
+    with_value!(held in items, alloc; copy_found(value_of(&*held, i), value, len))
 }
 
 /// Frees the items.

@@ -3,7 +3,7 @@
 ghost use Rattle.std.specs.Prelude.{◌≡◌, ◌≢◌, true, IsTrue, is_some, List, IfErr};
 ghost use Rattle.raft_ffi.specs.Words.{HandedFails, AreMovedAgain, AreUnmovedAgain, BothHold, HasText, Holds, IsCodeForBoth, IsCopied, IsRewritten, IsUnrewritten};
 
-use crate::handles::{Engine, Handle, or_told, told, with};
+use crate::handles::{Engine, Handle, answer_with_value, unwrap_or_return, with_value};
 use crate::status::{Maybe, Status, copy_front, is_rewrite_queue, to_queue};
 use raft_accessor::MemTableAccessor;
 use raft_base::{Error, FileId, FileSeq, Result};
@@ -41,7 +41,7 @@ pub extern "C" fn raft_ffi_engine_rewrite(
     ensures err { result.code ≢ 0 → IsCodeForBoth (IsUnrewritten HandedFails gate) engine.old.value engine.new.value result.code }
     ensures text { HasText result text.old text.new }
 {
-    told!(held in engine, alloc, text; held.rewrite(gate))
+    answer_with_value!(held in engine, alloc, text; held.rewrite(gate))
 }
 
 /// Moves what the tables have in rewrite files to a new one of them. The blocks that were lent are dropped, after an error
@@ -59,7 +59,7 @@ pub extern "C" fn raft_ffi_engine_rewrite_again(
     ensures err { result.code ≢ 0 → IsCodeForBoth (AreUnmovedAgain HandedFails) engine.old.value engine.new.value result.code }
     ensures text { HasText result text.old text.new }
 {
-    told!(held in engine, alloc, text; held.rewrite_again())
+    answer_with_value!(held in engine, alloc, text; held.rewrite_again())
 }
 
 /// Lists in `places` the blocks, each once, that have to be read if records move: with a gate those of the append files
@@ -82,8 +82,8 @@ pub extern "C" fn raft_ffi_engine_moving_blocks(
 {
     let gate = gate.to_option();
     let found =
-        with!(held in engine, alloc; blocks_to_move(alloc, held.engine.accessor(), gate, max_size));
-    *count = copy_front(or_told!(found).as_slice(), places);
+        with_value!(held in engine, alloc; blocks_to_move(alloc, held.engine.accessor(), gate, max_size));
+    *count = copy_front(unwrap_or_return!(found).as_slice(), places);
     0
 }
 
@@ -102,7 +102,7 @@ pub extern "C" fn raft_ffi_engine_lend(
     ensures same { engine.new.value ≡ engine.old.value }
     ensures fault { result ≢ 0 → result ≡ 11 }
 {
-    told!(held in engine, alloc; held.lend_block(FileId::new(to_queue(is_rewrite), seq), offset, bytes))
+    answer_with_value!(held in engine, alloc; held.lend_block(FileId::new(to_queue(is_rewrite), seq), offset, bytes))
 }
 
 /// Returns the places of the blocks, each once, that have to be read if records move: with a gate those of the append files

@@ -3,7 +3,7 @@
 ghost use Rattle.std.specs.Prelude.{◌≡◌, ◌<◌, ◌≤◌, true, false, Some, None, IsTrue, is_some, length, take};
 ghost use Rattle.raft_ffi.specs.Words.{Holds, IsTaking, IsWaiting, Lasts, act_of, act_of_kind, ask_in, ask_of, length_put, next_to_do};
 
-use crate::handles::{Engine, Handle, with};
+use crate::handles::{Engine, Handle, with_value};
 use crate::status::{copy_front, is_rewrite_queue};
 use raft_orders::{HandedFiles, NumberedOrder, Task};
 use std::alloc::Global;
@@ -48,7 +48,7 @@ pub extern "C" fn raft_ffi_engine_take_order(
     ensures untaken { result ≡ false → is_taken.new ≡ false }
     ensures lasts { Holds Lasts engine.old.value }
 {
-    let taking = with!(held in engine, alloc; {
+    let taking = with_value!(held in engine, alloc; {
         held.engine.nothing_synced_is_lost();
         held.take_order(bytes.len())
     });

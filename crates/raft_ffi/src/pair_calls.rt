@@ -3,7 +3,7 @@
 ghost use Rattle.std.specs.Prelude.{◌≡◌, IsTrue, Some, None, is_some, ℕ, List, filter, OnOk, IfOk, IfErr, IsPermutation, option_copied};
 ghost use Rattle.raft_ffi.specs.Words.{Append, Rewrite, AreInKeyOrder, ArePairsIn, AreScanned, AreScannedIn, IsReadIfMemory, bound_in, is_below, is_between, moving_pairs, pairs_of_both, pairs_shown, pairs_up_to, table_in};
 
-use crate::handles::{Engine, Handle, Tables, or_told, told, with};
+use crate::handles::{Engine, Handle, Tables, answer_with_value, unwrap_or_return, with_value};
 use crate::status::{copy_front, memory_code};
 use raft_accessor::MemTableAccessor;
 use raft_base::{Error, Result};
@@ -32,8 +32,8 @@ pub extern "C" fn raft_ffi_tables_pairs_before(
     ensures found { IsReadIfMemory result (λ a. ArePairsIn (pairs_up_to Append (Some gate) (table_in a.tables region).keys) lens.old
         lens.new count.new bytes.old bytes.new len.new) tables.old.value tables.new.value }
 {
-    let found = or_told!(
-        with!(held in tables, alloc; copy_moving_pairs(alloc, &*held, region, Some(gate)))
+    let found = unwrap_or_return!(
+        with_value!(held in tables, alloc; copy_moving_pairs(alloc, &*held, region, Some(gate)))
     );
     memory_code(&copy_pairs(alloc, &found, lens, count, bytes, len))
 }
@@ -54,8 +54,8 @@ pub extern "C" fn raft_ffi_tables_rewritten_pairs(
     ensures found { IsReadIfMemory result (λ a. ArePairsIn (pairs_up_to Rewrite None (table_in a.tables region).keys) lens.old
         lens.new count.new bytes.old bytes.new len.new) tables.old.value tables.new.value }
 {
-    let found = or_told!(
-        with!(held in tables, alloc; copy_moving_pairs(alloc, &*held, region, None))
+    let found = unwrap_or_return!(
+        with_value!(held in tables, alloc; copy_moving_pairs(alloc, &*held, region, None))
     );
     memory_code(&copy_pairs(alloc, &found, lens, count, bytes, len))
 }
@@ -81,7 +81,7 @@ pub extern "C" fn raft_ffi_tables_scan(
         lens.old lens.new count.new bytes.old bytes.new len.new) tables.old.value tables.new.value }
 {
     let end = optional_bound(is_bounded, end);
-    told!(held in tables, alloc; scan_pairs(alloc, &*held, region, start, end, lens, count, bytes, len))
+    answer_with_value!(held in tables, alloc; scan_pairs(alloc, &*held, region, start, end, lens, count, bytes, len))
 }
 
 /// Lists the pairs of a region whose key is at or above `start` and, with `is_bounded`, below `end`, in the order of the keys.
@@ -105,7 +105,7 @@ pub extern "C" fn raft_ffi_engine_scan(
         region).keys lens.old lens.new count.new bytes.old bytes.new len.new) engine.old.value engine.new.value }
 {
     let end = optional_bound(is_bounded, end);
-    told!(held in engine, alloc; scan_pairs(alloc, held.engine.accessor(), region, start, end, lens, count, bytes, len))
+    answer_with_value!(held in engine, alloc; scan_pairs(alloc, held.engine.accessor(), region, start, end, lens, count, bytes, len))
 }
 
 /// Returns `key` as the bound of a scan, or `None` if `is_bounded` isn't set.

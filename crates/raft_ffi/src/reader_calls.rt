@@ -4,7 +4,7 @@ ghost use Rattle.std.specs.Prelude.{◌≡◌, ◌≢◌, ◌⊎◌, ◌+◌, �
 ghost use Rattle.raft_ffi.specs.Words.{AllHold, ArePassedBy, AreReadersUnsound, BothHold, CannotFollow, HasBothFound, HasNoFront, HasReadNothing, HasText, HaveBothRead, Holds, HoldsFrom, IsCopied, IsCorruption, IsNoneFound, IsRead};
 ghost use Rattle.raft_ffi.specs.Words.{IsReadable, IsRefusedFor, IsReplayedBy, ReadersStand, ReadersStandExactly, damaged_entries_text, file_of, part_of, queue_of, signature_of};
 
-use crate::handles::{Handle, Reader, or_told, told_or_gone, with};
+use crate::handles::{Handle, Reader, answer_or_drop, unwrap_or_return, with_value};
 use crate::queue_reader::QueueReader;
 use crate::status::{File, Status, copy_front, memory_code, status_of, store_and_answer, to_queue};
 use raft_base::Result;
@@ -19,7 +19,7 @@ pub extern "C" fn raft_ffi_reader_new(alloc: Global, reader: &mut Reader) -> u32
     ensures err { result ≢ 0 → reader.new.value ≡ None }
     ensures memory { result ≢ 0 → result ≡ 11 }
 {
-    let held = or_told!(QueueReader::new(alloc));
+    let held = unwrap_or_return!(QueueReader::new(alloc));
     memory_code(&reader.put_new(alloc, held))
 }
 
@@ -44,7 +44,7 @@ pub extern "C" fn raft_ffi_reader_replay(
         offset bytes.now) 0) (HaveBothRead old.read)) reader.old.value }
     ensures text { HasText result text.old text.new }
 {
-    told_or_gone!(held in reader, alloc, text; held.replay(alloc, &file.to_context(), offset, bytes))
+    answer_or_drop!(held in reader, alloc, text; held.replay(alloc, &file.to_context(), offset, bytes))
 }
 
 /// Replays the batches at the start of `bytes`, up to the first one that can't be read, and sets `len` to how many bytes they
@@ -101,7 +101,7 @@ pub extern "C" fn raft_ffi_reader_merge(
         → BothHold (AreReadersUnsound (queue_of is_rewrite)) reader.old.value newer.value }
     ensures text { HasText result text.old text.new }
 {
-    told_or_gone!(held in reader, alloc, text; held.merge(newer.into_held(), to_queue(is_rewrite)))
+    answer_or_drop!(held in reader, alloc, text; held.merge(newer.into_held(), to_queue(is_rewrite)))
 }
 
 /// Lists in `offsets` where in the last append file the batches with damaged entries begin that a reader has found, in order,
@@ -115,7 +115,7 @@ pub extern "C" fn raft_ffi_reader_damaged(
     requires held { IsTrue (is_some reader.old.value) }
     ensures found { IsRead (λ r. IsCopied r.damaged offsets.old offsets.new result) reader.old.value reader.new.value }
 {
-    with!(held in reader, alloc; copy_front(held.damaged_offsets(), offsets))
+    with_value!(held in reader, alloc; copy_front(held.damaged_offsets(), offsets))
 }
 
 /// Returns the error with which damaged entries of the batch that begins at `offset` of `file` are refused: its code, and its

@@ -5,7 +5,7 @@ ghost use Rattle.raft_ffi.specs.Words.{Rewrite, AreEntriesIn, AreRegionsIn, HasT
 ghost use Rattle.raft_ffi.specs.Words.{entry_at, live, moving_entries, number_in, placed_in, queue_of, range_answer, start_of, table_in, value_in};
 
 use crate::entries::{Entry, copy_entries, to_plain_entry};
-use crate::handles::{Engine, Handle, Tables, or_told, told, with};
+use crate::handles::{Engine, Handle, Tables, answer_with_value, unwrap_or_return, with_value};
 use crate::status::{Maybe, Status, copy_found, copy_front, to_queue};
 use raft_accessor::MemTableAccessor;
 use raft_base::{EntryIndex, Error, LogQueue, Result};
@@ -39,7 +39,7 @@ pub extern "C" fn raft_ffi_tables_live(
     requires held { IsTrue (is_some tables.old.value) }
     ensures live { IsRead (λ a. result ≡ live (queue_of is_rewrite) a.counts) tables.old.value tables.new.value }
 {
-    with!(held in tables, alloc; held.stats().live_entries(to_queue(is_rewrite)))
+    with_value!(held in tables, alloc; held.stats().live_entries(to_queue(is_rewrite)))
 }
 
 /// Returns whether a region has a table. If it has one, `summary` is set to what that has.
@@ -53,7 +53,7 @@ pub extern "C" fn raft_ffi_tables_summary(
     requires held { IsTrue (is_some tables.old.value) }
     ensures found { IsRead (IsSummaryIn region result summary.new) tables.old.value tables.new.value }
 {
-    with!(held in tables, alloc; set_summary(&*held, region, summary))
+    with_value!(held in tables, alloc; set_summary(&*held, region, summary))
 }
 
 /// Lists in `regions` the regions that have a table, in rising order, as many as there is room for. Sets `count` to how many
@@ -69,7 +69,7 @@ pub extern "C" fn raft_ffi_tables_regions(
     ensures found { IsReadIfMemory result (λ a. AreRegionsIn a.tables regions.old regions.new count.new) tables.old.value
         tables.new.value }
 {
-    told!(held in tables, alloc; copy_regions(&*held, regions, count))
+    answer_with_value!(held in tables, alloc; copy_regions(&*held, regions, count))
 }
 
 /// Lists in `regions` the regions that were cleaned, in order, as many as there is room for. Returns how many there are, which
@@ -83,7 +83,7 @@ pub extern "C" fn raft_ffi_tables_cleaned(
     requires held { IsTrue (is_some tables.old.value) }
     ensures found { IsRead (λ a. IsCopied a.cleaned regions.old regions.new result) tables.old.value tables.new.value }
 {
-    with!(held in tables, alloc; copy_front(held.cleaned_regions(), regions))
+    with_value!(held in tables, alloc; copy_front(held.cleaned_regions(), regions))
 }
 
 /// Returns whether a region has an entry with the index `index`. If it has one, `entry` is set to it.
@@ -98,7 +98,7 @@ pub extern "C" fn raft_ffi_tables_entry(
     requires held { IsTrue (is_some tables.old.value) }
     ensures found { IsRead (IsEntryIn region index result entry.new) tables.old.value tables.new.value }
 {
-    with!(held in tables, alloc; set_entry(&*held, region, index, entry))
+    with_value!(held in tables, alloc; set_entry(&*held, region, index, entry))
 }
 
 /// Lists in `entries` the entries of a region from `begin` on and below `end`, as many as there is room for. Sets `count` to
@@ -126,7 +126,7 @@ pub extern "C" fn raft_ffi_tables_entries(
     ensures text { HasText result text.old text.new }
 {
     let range = (begin, end);
-    told!(held in tables, alloc, text; copy_entries_in_range(alloc, &*held, region, range, max_size.to_size_option(), entries, count))
+    answer_with_value!(held in tables, alloc, text; copy_entries_in_range(alloc, &*held, region, range, max_size.to_size_option(), entries, count))
 }
 
 /// Lists in `entries` the appended entries of a region, from the first one on while their file is numbered at or below `gate`,
@@ -145,8 +145,8 @@ pub extern "C" fn raft_ffi_tables_entries_before(
     ensures found { IsReadIfMemory result (λ a. AreEntriesIn (appended_before gate (table_in a.tables region).entries) entries.old
         entries.new count.new) tables.old.value tables.new.value }
 {
-    let found = or_told!(
-        with!(held in tables, alloc; copy_moving_entries(alloc, &*held, region, Some(gate)))
+    let found = unwrap_or_return!(
+        with_value!(held in tables, alloc; copy_moving_entries(alloc, &*held, region, Some(gate)))
     );
     *count = copy_entries(&found, entries);
     0
@@ -166,8 +166,8 @@ pub extern "C" fn raft_ffi_tables_rewritten_entries(
     ensures found { IsReadIfMemory result (λ a. AreEntriesIn (placed_in Rewrite (table_in a.tables region).entries) entries.old
         entries.new count.new) tables.old.value tables.new.value }
 {
-    let found = or_told!(
-        with!(held in tables, alloc; copy_moving_entries(alloc, &*held, region, None))
+    let found = unwrap_or_return!(
+        with_value!(held in tables, alloc; copy_moving_entries(alloc, &*held, region, None))
     );
     *count = copy_entries(&found, entries);
     0
@@ -187,7 +187,7 @@ pub extern "C" fn raft_ffi_tables_value(
     requires held { IsTrue (is_some tables.old.value) }
     ensures found { IsRead (IsValueIn region key.now result value.old value.new len.new) tables.old.value tables.new.value }
 {
-    with!(held in tables, alloc; copy_found(value_of(&*held, region, key), value, len))
+    with_value!(held in tables, alloc; copy_found(value_of(&*held, region, key), value, len))
 }
 
 /// Frees the tables.
@@ -208,7 +208,7 @@ pub extern "C" fn raft_ffi_engine_live(
     requires held { IsTrue (is_some engine.old.value) }
     ensures live { IsRead (λ e. result ≡ live (queue_of is_rewrite) e.accessor.counts) engine.old.value engine.new.value }
 {
-    with!(held in engine, alloc; held.engine.accessor().stats().live_entries(to_queue(is_rewrite)))
+    with_value!(held in engine, alloc; held.engine.accessor().stats().live_entries(to_queue(is_rewrite)))
 }
 
 /// Returns whether a region has a table. If it has one, `summary` is set to what that has.
@@ -222,7 +222,7 @@ pub extern "C" fn raft_ffi_engine_summary(
     requires held { IsTrue (is_some engine.old.value) }
     ensures found { IsRead (λ e. IsSummaryIn region result summary.new e.accessor) engine.old.value engine.new.value }
 {
-    with!(held in engine, alloc; set_summary(held.engine.accessor(), region, summary))
+    with_value!(held in engine, alloc; set_summary(held.engine.accessor(), region, summary))
 }
 
 /// Lists in `regions` the regions that have a table, in rising order, as many as there is room for. Sets `count` to how many
@@ -238,7 +238,7 @@ pub extern "C" fn raft_ffi_engine_regions(
     ensures found { IsReadIfMemory result (λ e. AreRegionsIn e.accessor.tables regions.old regions.new count.new) engine.old.value
         engine.new.value }
 {
-    told!(held in engine, alloc; copy_regions(held.engine.accessor(), regions, count))
+    answer_with_value!(held in engine, alloc; copy_regions(held.engine.accessor(), regions, count))
 }
 
 /// Returns whether a region has an entry with the index `index`. If it has one, `entry` is set to it.
@@ -253,7 +253,7 @@ pub extern "C" fn raft_ffi_engine_entry(
     requires held { IsTrue (is_some engine.old.value) }
     ensures found { IsRead (λ e. IsEntryIn region index result entry.new e.accessor) engine.old.value engine.new.value }
 {
-    with!(held in engine, alloc; set_entry(held.engine.accessor(), region, index, entry))
+    with_value!(held in engine, alloc; set_entry(held.engine.accessor(), region, index, entry))
 }
 
 /// Lists in `entries` the entries of a region from `begin` on and below `end`, and sets `count` to how many there are, as
@@ -277,7 +277,7 @@ pub extern "C" fn raft_ffi_engine_entries(
     ensures text { HasText result text.old text.new }
 {
     let range = (begin, end);
-    told!(held in engine, alloc, text; copy_entries_in_range(alloc, held.engine.accessor(), region, range, max_size.to_size_option(), entries, count))
+    answer_with_value!(held in engine, alloc, text; copy_entries_in_range(alloc, held.engine.accessor(), region, range, max_size.to_size_option(), entries, count))
 }
 
 /// Returns whether `key` of a region has a value. If it has one, as many of its bytes are copied into `value` as there is room
@@ -295,7 +295,7 @@ pub extern "C" fn raft_ffi_engine_value(
     ensures found { IsRead (λ e. IsValueIn region key.now result value.old value.new len.new e.accessor) engine.old.value
         engine.new.value }
 {
-    with!(held in engine, alloc; copy_found(value_of(held.engine.accessor(), region, key), value, len))
+    with_value!(held in engine, alloc; copy_found(value_of(held.engine.accessor(), region, key), value, len))
 }
 
 /// Returns whether a region has entries. If it has, `index` is set to their least index.
@@ -312,7 +312,7 @@ pub extern "C" fn raft_ffi_engine_first_index(
         × (index.new ≡ start_of (table_in e.accessor.tables region).entries)) engine.old.value }
     ensures none { result ≡ false → Holds (λ e. (table_in e.accessor.tables region).entries ≡ []) engine.old.value }
 {
-    let found = with!(held in engine, alloc; held.engine.first_index(region));
+    let found = with_value!(held in engine, alloc; held.engine.first_index(region));
     set_if_found(found, index)
 }
 
@@ -329,7 +329,7 @@ pub extern "C" fn raft_ffi_engine_last_index(
     ensures some { result ≡ true → Holds (λ e. index.new + 1 ≡ end_of (table_in e.accessor.tables region).entries) engine.old.value }
     ensures none { result ≡ false → Holds (λ e. (table_in e.accessor.tables region).entries ≡ []) engine.old.value }
 {
-    let found = with!(held in engine, alloc; held.engine.last_index(region));
+    let found = with_value!(held in engine, alloc; held.engine.last_index(region));
     set_if_found(found, index)
 }
 

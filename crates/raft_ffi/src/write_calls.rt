@@ -7,7 +7,9 @@ ghost use Rattle.raft_ffi.specs.Words.{IsAppendedFault, IsChangedIfMemory, IsCod
 ghost use Rattle.raft_ffi.specs.Words.{no_tables, number_in, share_of, slot_of, with_appended, with_newer, without_cleaned};
 ghost use Rattle.std.specs.FinMap as finite;
 
-use crate::handles::{Batch, Handle, Items, Tables, or_told, told, with};
+use crate::handles::{
+    Batch, Handle, Items, Tables, answer_with_value, unwrap_or_return, with_value,
+};
 use crate::item_list::ItemList;
 use crate::status::{Maybe, Status, memory_code};
 use raft_accessor::{MemTableAccessor, slot_of};
@@ -16,7 +18,7 @@ use raft_records::{LogBatch, LogItem};
 use std::alloc::Global;
 
 /// Evaluates an expression that changes tables, and returns its result. Then it cites the law that their counts are exact.
-macro_rules! counted {
+macro_rules! change_counted {
     ($tables:ident; $change:expr) => {{
         let answer = $change;
         $tables.counts_are_exact();
@@ -30,7 +32,7 @@ pub extern "C" fn raft_ffi_tables_new(alloc: Global, tables: &mut Tables) -> u32
     requires empty { tables.old.value ≡ None }
     ensures made { IsMadeIfMemory result no_tables tables.new.value }
 {
-    let held = or_told!(MemTableAccessor::new(alloc));
+    let held = unwrap_or_return!(MemTableAccessor::new(alloc));
     memory_code(&tables.put_new(alloc, held))
 }
 
@@ -48,7 +50,7 @@ pub extern "C" fn raft_ffi_tables_atomic_group(
     requires range { start ≤ end }
     ensures changed { IsChangedIfMemory result (IsGroupSet start end region) tables.old.value tables.new.value }
 {
-    told!(held in tables, alloc; counted!(held; held.apply_rewrite_atomic_group(region, start, end)))
+    answer_with_value!(held in tables, alloc; change_counted!(held; held.apply_rewrite_atomic_group(region, start, end)))
 }
 
 /// Removes the table of a region, if there is one, and subtracts its records from the live counts; `found` says whether there was
@@ -69,8 +71,9 @@ pub extern "C" fn raft_ffi_tables_remove(
     ensures err { result ≢ 0 → tables.new.value ≡ tables.old.value }
     ensures fault { result ≢ 0 → (result ≡ 11) × IsTrue is_listed }
 {
-    let removed = with!(held in tables, alloc; counted!(held; held.remove(region, is_listed)));
-    *found = or_told!(removed).is_some();
+    let removed =
+        with_value!(held in tables, alloc; change_counted!(held; held.remove(region, is_listed)));
+    *found = unwrap_or_return!(removed).is_some();
     0
 }
 
@@ -89,7 +92,7 @@ pub extern "C" fn raft_ffi_tables_merge_newer(
     ensures merged { AreMergedOrLeft with_newer IsNewerFault result.code newer.value tables.old.value tables.new.value }
     ensures text { HasText result text.old text.new }
 {
-    told!(held in tables, alloc, text; counted!(held; held.merge_newer_neighbor(newer.into_held())))
+    answer_with_value!(held in tables, alloc, text; change_counted!(held; held.merge_newer_neighbor(newer.into_held())))
 }
 
 /// Merges `append`, appended tables, into `tables`, rewritten ones, region by region. `append` is gone then. The cleaned
@@ -107,7 +110,7 @@ pub extern "C" fn raft_ffi_tables_merge_append(
     ensures merged { AreMergedOrLeft with_appended IsAppendedFault result.code append.value tables.old.value tables.new.value }
     ensures text { HasText result text.old text.new }
 {
-    told!(held in tables, alloc, text; counted!(held; held.merge_append_table(append.into_held())))
+    answer_with_value!(held in tables, alloc, text; change_counted!(held; held.merge_append_table(append.into_held())))
 }
 
 /// Writes `items`, those of a batch of the append queue, to the tables, in order. `items` is gone then. The code is 0, or that of
@@ -124,7 +127,7 @@ pub extern "C" fn raft_ffi_tables_apply_append(
     ensures written { AreAllOrSomeWritten Appending result.code items.value tables.old.value tables.new.value }
     ensures text { HasText result text.old text.new }
 {
-    told!(held in tables, alloc, text; apply_append(&mut *held, items.into_held()))
+    answer_with_value!(held in tables, alloc, text; apply_append(&mut *held, items.into_held()))
 }
 
 /// Writes items of the append queue to the tables, in order.
@@ -156,7 +159,7 @@ pub extern "C" fn raft_ffi_tables_apply_rewrite(
     ensures written { AreAllOrSomeWritten (Rewriting (number_in gate) seq) result.code items.value tables.old.value tables.new.value }
     ensures text { HasText result text.old text.new }
 {
-    told!(held in tables, alloc, text; apply_rewrite(&mut *held, items.into_held(), gate.to_option(), seq))
+    answer_with_value!(held in tables, alloc, text; apply_rewrite(&mut *held, items.into_held(), gate.to_option(), seq))
 }
 
 /// Writes items that were rewritten to file `seq` of the rewrite queue to the tables, in order. `gate` limits which places
@@ -193,7 +196,7 @@ pub extern "C" fn raft_ffi_tables_check_append(
         batch.old.value batch.new.value }
     ensures text { HasText result text.old text.new }
 {
-    told!(held in tables, alloc, text; with!(logs in batch, alloc; check_append(&*held, &*logs)))
+    answer_with_value!(held in tables, alloc, text; with_value!(logs in batch, alloc; check_append(&*held, &*logs)))
 }
 
 /// Checks that the tables accept the items of `batch` once it is written to the append queue, at whatever place.
@@ -223,7 +226,7 @@ pub extern "C" fn raft_ffi_tables_cleaned_logs(
     ensures logs { result ≡ 0 → BothHold (λ old logs. logs ≡ cleans_of old.cleaned) tables.old.value batch.new.value }
     ensures batch_err { result ≢ 0 → batch.new.value ≡ None }
 {
-    told!(held in tables, alloc; take_cleaned_regions(alloc, &mut *held, batch))
+    answer_with_value!(held in tables, alloc; take_cleaned_regions(alloc, &mut *held, batch))
 }
 
 /// Moves the cleaned regions into `batch`: an open batch with a `Clean` for each, in order. The box for it is allocated before
@@ -278,7 +281,7 @@ pub extern "C" fn raft_ffi_tables_move_table(
     ensures fault { result.code ≢ 0 → IsCodeForBoth (IsMoveFault region) tables.old.value to.old.value result.code }
     ensures text { HasText result text.old text.new }
 {
-    told!(held in tables, alloc, text; with!(others in to, alloc; move_table(&mut *held, &mut *others, region)))
+    answer_with_value!(held in tables, alloc, text; with_value!(others in to, alloc; move_table(&mut *held, &mut *others, region)))
 }
 
 /// Tests whether the tables of slot `number` would accept the items of `batch` whose regions are of that slot, once it is written
@@ -297,7 +300,7 @@ pub extern "C" fn raft_ffi_slot_check_append(
         tables.old.value tables.new.value batch.old.value batch.new.value }
     ensures text { HasText result text.old text.new }
 {
-    told!(held in tables, alloc, text; with!(logs in batch, alloc; check_share(alloc, &*held, number, &*logs)))
+    answer_with_value!(held in tables, alloc, text; with_value!(logs in batch, alloc; check_share(alloc, &*held, number, &*logs)))
 }
 
 /// Writes the items of the append queue whose regions are of slot `number` to the tables of that slot, in order. `items` stays as
@@ -320,7 +323,7 @@ pub extern "C" fn raft_ffi_slot_apply_append(
         old new) result.code) items.old.value tables.old.value tables.new.value }
     ensures text { HasText result text.old text.new }
 {
-    told!(held in tables, alloc, text; with!(list in items, alloc; append_share(alloc, &mut *held, number, &*list)))
+    answer_with_value!(held in tables, alloc, text; with_value!(list in items, alloc; append_share(alloc, &mut *held, number, &*list)))
 }
 
 /// Writes the items whose regions are of slot `number`, and which were rewritten to file `seq` of the rewrite queue, to the
@@ -346,7 +349,7 @@ pub extern "C" fn raft_ffi_slot_apply_rewrite(
         (share_of number xs) old new) result.code) items.old.value tables.old.value tables.new.value }
     ensures text { HasText result text.old text.new }
 {
-    told!(held in tables, alloc, text; with!(list in items, alloc; rewrite_share(alloc, &mut *held, number, &*list, gate.to_option(), seq)))
+    answer_with_value!(held in tables, alloc, text; with_value!(list in items, alloc; rewrite_share(alloc, &mut *held, number, &*list, gate.to_option(), seq)))
 }
 
 /// Moves the table of a region, if there is one, to the tables `to`, in place of the one that the region has there.
@@ -362,7 +365,7 @@ fn move_table(from: &mut MemTableAccessor, to: &mut MemTableAccessor, region: u6
     ensures fault { IfErr result (IsMoveFault region from.old to.old) }
 {
     let _ = from.get(region);
-    let taken = counted!(from; from.remove(region, false));
+    let taken = change_counted!(from; from.remove(region, false));
     to.counts_are_exact();
     match taken {
         Ok(Some(table)) => {

@@ -2,7 +2,7 @@
 use Rattle.raft_opening.proofs.Common.{◌≡◌, ◌⊎◌, inl, inr, ℕ, ◌+◌, ◌-◌, Option, Some, None, List, [], ◌∷◌, ◌++◌, Result, Ok, Err, IfOk, length, map, take, drop, refl, sym, ap, ◌∙◌, subst, arith, append_assoc, append-nil, length-append, replicate, Vec, Global, drop_at, length-replicate}
 use Rattle.raft_opening.proofs.Common.{nil_from_length, take_at, Error, LogFileContext, LogQueue, Version, Part, part_of, NumberedBytes, last_of, Event, Apart, IsSmall, apart_back, apart_front, small_back, small_front, HasReplayed, HoldsFrom, each_join, each_single, AreRead}
 use Rattle.raft_opening.proofs.Common.{AreAllRead, IsQueueReplayed, file_of, FileSize, read_more, FilesHold, whole_file, EndsOrStops, IsPrefix, IsPrefixOf, IsPrefixReplayed, IsTailRead, ReplayedPrefix, BeginsInOther, IsOfEngine, IsRefusedAt, IsLastOf, Nothing, FirstFile, Cut, CutTail, DamagedBatch}
-use Rattle.raft_opening.proofs.Common.{RecoveryMode, first_missing, AreDamagedLast, AreNamed, LastRead, QueueReplayed, AreClosedAndLastRead, AreReplayed, IsTailAccepted, Giving, IsLastReplayed, IsStandingFor, before_tail, IsRestOf, size_of}
+use Rattle.raft_opening.proofs.Common.{RecoveryMode, first_missing, AreNamed, LastRead, AreClosedAndLastRead, AreReplayed, IsTailAccepted, Giving, IsLastReplayed, IsStandingFor, before_tail, IsRestOf, size_of}
 use Rattle.raft_opening.proofs.NamedLemmas.{damaged_last, damaged_named, none_damaged}
 use Rattle.raft_opening.proofs.SizedLemmas.{sized_missing, torn_accepted, whole_accepted}
 

@@ -1,6 +1,6 @@
 //! Reading the last file of a queue, each byte once.
 
-ghost use Rattle.std.specs.Prelude.{◌≡◌, List, [], IfOk};
+ghost use Rattle.std.specs.Prelude.{[], IfOk};
 ghost use Rattle.raft_opening.specs.ReadOnce.{AreClosedAndLastRead, IsLastReplayed};
 
 use crate::damaged::named_batches;

@@ -1,6 +1,6 @@
 //! Reading the files of a queue in pieces, each byte once.
 
-ghost use Rattle.std.specs.Prelude.{◌≡◌, ◌<◌, ◌≤◌, List, [], IfOk};
+ghost use Rattle.std.specs.Prelude.{◌<◌, ◌≤◌, [], IfOk};
 ghost use Rattle.std.specs.Thread.{IsSync};
 ghost use Rattle.raft_reading.specs.QueueRead.{IsQueueReplayed};
 ghost use Rattle.raft_opening.specs.ReadOnce.{AreClosedAndLastRead, AreReplayed, IsQueueRead};

@@ -1,4 +1,4 @@
-use Rattle.raft_opening.proofs.Common.{List, sym, subst, FileSize, AreSizesOf}
+use Rattle.raft_opening.proofs.Common.{sym, subst, AreSizesOf}
 use Rattle.raft_opening.proofs.folder.open_folder.Goals as goal
 
 pub returns-in-Ok : goal.returns-in-Ok

@@ -7,7 +7,7 @@
 # - arguments that aren't UTF-8, and `recover --plain` over rows and damaged inputs;
 # - the frames of `raftlog` on the stack, and runs with little stack;
 # - crashes in more histories;
-# - writes of `raft_example` that fail half way, what `raftlog` says of damaged folders, and what an engine does with them;
+# - writes of `raft_example` that fail half way, also where the engine goes on (if there is `strace`), what `raftlog` says of damaged folders, and what an engine does with them;
 # - if there is a C compiler, the rows of `raft_refusals` with memory and starts of threads refused;
 # - if there is cargo, the tests of rust/, and whether programs in Rust and in Rattle open each other's folders.
 #
@@ -77,6 +77,7 @@ if [ "$(grep -c '^[1-9].* recoveries$' "$room/crashes")" != 2 ]; then
 fi
 step "failed writes, and a damaged folder"
 tools/short_writes.py
+tools/full_once.py
 tools/folder_damage.py --opener crates/raft_example/out/raft_example
 tools/hostile_folders.py --inputs 200
 step "refused memory"

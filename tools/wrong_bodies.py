@@ -15,6 +15,8 @@ A line `clause: NAME ..` of an edit names clauses (`ensures` stands for one with
 leaves one of these clauses unproved of a function that the edit changes. Where --name writes no line, an invariant of a loop or a premise of
 a call refuses the body. The environment variable RT names the toolchain's command, if it isn't `rt`.
 
+A line `test: tools/..` names the test that fails where no clause refuses the body: such an edit is applied, and not tried.
+
 Wrong bodies of different functions share a check, since a function is proved from its own body and the contracts of what it calls. An edit is
 tried once more by itself if the check says nothing of it, if a function below it was refused, or if a proof file names a step that is gone.
 """
@@ -47,6 +49,7 @@ class Edit:
 
     def __init__(self, path):
         self.path, self.name, self.pairs, self.clauses = path, os.path.basename(path).removesuffix(".edit"), [], []
+        self.test = None
         file = old = None
         with open(path, encoding="utf-8") as lines:
             for line in lines.read().split("\n"):
@@ -54,6 +57,8 @@ class Edit:
                     file = line.removeprefix("file: ").strip()
                 elif line.startswith("clause: "):
                     self.clauses += line.split()[1:]
+                elif line.startswith("test: "):
+                    self.test = line.removeprefix("test: ").strip()
                 elif line.startswith("old: "):
                     old = line.removeprefix("old: ")
                 elif line.startswith("new:"):
@@ -64,6 +69,8 @@ class Edit:
         made = dict(texts)
         if not self.pairs:
             return "it replaces nothing"
+        if self.test and not os.path.isfile(f"{ROOT}/{self.test}"):
+            return f"there is no test {self.test}"
         for file, old, new in self.pairs:
             found = made.get(file, "").count(old) if old else 0
             if found != 1:
@@ -357,7 +364,7 @@ def main(words):
                 lines.writelines(f"{row}\n" for name, row in rows_of().items() if name in copied)
             shutil.copy(f"{ROOT}/HANDLES", room)
             for name, named in asked.items():
-                edits = [it for it in edits_in(name, folder) if not named or it.name in named]
+                edits = [it for it in edits_in(name, folder) if not it.test and (not named or it.name in named)]
                 if edits:
                     missed, by_file = tried(Crate(name, f"{room}/crates/{name}"), edits, names)
                     faults += missed

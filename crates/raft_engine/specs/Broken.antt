@@ -18,6 +18,6 @@ pub record IsBroken (MayFail : Failures) (wanted : List Ask) (old new : KeptEngi
   pub failed : FailsAmong MayFail wanted old.asks new.asks e
   pub others : new ≡ record old { asks = new.asks; intact = false }
 
--- the same, but nothing is said of what is untold: it may be told in part, or made ready for it
+-- the same, but nothing is said of what is untold: it may be told in part
 abbrev pub IsBrokenTelling : Failures → List Ask → KeptEngine → KeptEngine → Error → Type 0
 IsBrokenTelling MayFail wanted old new e = IsBroken MayFail wanted old (record new { untold = old.untold }) e

@@ -64,9 +64,10 @@ mod round_trip;
 ///
 /// Whenever the machine crashes, the files that are left hold what was synced, and a prefix of the batches that were written
 /// since ([`Engine::nothing_synced_is_lost`]); what a disk has to do for it stands at [`EngineFiles`]. An append that the files
-/// take back, since the disk is full for instance, leaves the engine as it was. After any other `Err` of its files in a call
-/// that writes, they may hold a batch that the tables don't: such an engine isn't intact, and takes no further call that
-/// writes. Its files must be opened again ([`Engine::open`]).
+/// take back, since the disk is full for instance, leaves an intact engine, unless it is one of an atomic group; of a
+/// [`write`](Engine::write) nothing is changed then. After any other `Err` of its files in a call that writes, they may hold a
+/// batch that the tables don't: such an engine isn't intact, and takes no further call that writes. Its files must be opened
+/// again ([`Engine::open`]).
 ///
 /// A batch may take records away that have moved to rewrite files: by a command, the deletion of a key, or entries that
 /// replace others. The rewrite queue has to say so too, by a batch of commands and deletions, before the append file of that
@@ -86,7 +87,8 @@ pub struct Engine<F: EngineFiles> {
     untold: LogBatch,
     /// The tables of all regions.
     accessor: MemTableAccessor,
-    /// Whether further calls are taken: no call of the files failed, and every batch that was asked for was applied.
+    /// Whether further calls are taken: no call of the files failed but reads and appends that were taken back, and every batch
+    /// whose bytes stand was applied.
     intact: bool,
 }
 
@@ -323,8 +325,8 @@ impl<F: EngineFiles> Engine<F> {
         &self.files
     }
 
-    /// Tests whether the engine takes further calls: no call of its files but a read failed, and every batch whose bytes were
-    /// asked for was applied to the tables.
+    /// Tests whether the engine takes further calls: no call of its files failed but reads and appends that they took back
+    /// (outside of a group), and every batch whose bytes were put was applied to the tables.
     pub fn is_intact(&self) -> bool
         ensures { IsTrue result ↔ (self.now.intact ≡ true) }
     {
@@ -426,7 +428,8 @@ impl<F: EngineFiles> Engine<F> {
     ///   the batch has 2^56 bytes or more, or its file more than 2^63; `Memory`. The engine and the batch are unchanged then.
     /// - Those of `EngineFiles::append`, since the disk is full for instance, where it takes back what it wrote. The engine is
     ///   unchanged then, and intact. The batch has its items and their entries; it takes no more, but may be written again by
-    ///   this call, or emptied by `drain`.
+    ///   this call, or emptied by `drain`. Where an append was taken back for want of memory, `is_open` of the batch tells this
+    ///   `Memory` from the one before, which leaves an open batch open.
     /// - Any other of `EngineFiles`. The engine isn't intact any more, and the tables are unchanged.
     /// - Once all was asked: `Memory`, or `Full` if the live records of the append queue and those that the next item names
     ///   are 2^64 or more together. The engine isn't intact any more, and the tables have the first ones of the items, or all

@@ -105,7 +105,8 @@ pub extern "C" fn raft_ffi_engine_is_intact(alloc: Global, engine: &mut Engine) 
 
 /// Writes `batch`, an open one, to the tables, and orders that it is put after the bytes of the last append file. `batch` is
 /// without items then. With `sync` a sync is ordered after it. The code is 0, or that of the error: 12 (`Failed`), if the
-/// engine wasn't intact. If the engine is intact after an error, it and the batch are as they were.
+/// engine wasn't intact. If the engine is intact after an error, it is as it was, and `batch` has the items and entries that it
+/// had; it may take no more then.
 #[unsafe(no_mangle)]
 pub extern "C" fn raft_ffi_engine_write(
     alloc: Global,

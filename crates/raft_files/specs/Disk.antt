@@ -3,7 +3,9 @@
 -- files, in any order: behind the synced bytes any bytes may stand, and so they may behind a cut that wasn't synced
 -- (`MayStandUnordered`, `IsLeftUnordered`). On both what was synced stands. On the first a cut that wasn't synced may be undone,
 -- but not where bytes stand that were put after it. A sync that failed changes nothing of what may be left; but all of this is
--- said of what is to be trusted alone (`IsTrusted`): behind a failed sync nothing is known of what else is asked but reads.
+-- said of what is to be trusted alone (`IsTrusted`): behind a failed sync nothing is known of what else is asked but reads. An
+-- append that was taken back isn't asked, since it left nothing; a crash in its midst leaves what it leaves of one that is asked
+-- and fails (`Put`).
 use Rattle.std.specs.Prelude.{◌≡◌, ◌⊎◌, ℕ, suc, ◌≤◌, List, [], ◌∷◌, ◌++◌, take, drop}
 use Rattle.raft_base.specs.declared.pipe_log.LogQueue.{LogQueue}
 use Rattle.raft_files.specs.Asks.{Act, Put, Begin, Sync, Unsynced, Delete, Cut, Found, Read, Ask, acts_on}

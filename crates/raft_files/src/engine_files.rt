@@ -12,8 +12,8 @@ use raft_base::{FileBlockHandle, FileSeq, LogQueue, Result};
 ///
 /// Contracts see only what was asked of them by these calls: a list of asks, newest first. What a disk makes of the asks, and
 /// what it may leave when the machine crashes, is said of that list (`specs/Disk.antt`). An implementation over real files
-/// notes each ask in an [`Asked`](crate::Asked), also one that fails after it has begun (some of the bytes are written; a file
-/// may be there or gone). It has to see to it that the disk does the following:
+/// notes each ask in an [`Asked`](crate::Asked), also one that fails after it has begun, unless it was taken back (some of the
+/// bytes are written; a file may be there or gone). It has to see to it that the disk does the following:
 ///
 /// - Of bytes that weren't synced, a prefix is there after a crash: no hole, and no page of zeros before other bytes. So files
 ///   are neither made longer in advance nor used again. Synced bytes aren't harmed by bytes after them. On a disk that writes
@@ -24,7 +24,9 @@ use raft_base::{FileBlockHandle, FileSeq, LogQueue, Result};
 /// - Files are deleted in the order in which that was asked, so that no crash leaves an older file where a younger one is gone.
 /// - After a call that failed half way, either the bytes are as before, or every later call but `read` fails. An append that
 ///   failed, since the disk is full for instance, says which ([`AppendError`](crate::AppendError)): where it cut the file to
-///   the length that it had, and synced that, the bytes are as before, the ask isn't noted, and an engine goes on.
+///   the length that it had, and synced that, the bytes are as before, the ask isn't noted, and an engine goes on. A write that
+///   fails has to do so for its own bytes alone; what becomes of earlier ones only a sync tells (a local file system; not NFS).
+///   Where the cut or its sync fails, return that error: earlier bytes may be lost then too, as after a failed sync.
 /// - A sync that fails after it has begun is noted as failed ([`Asked::unsynced`](crate::Asked::unsynced)). The system may take
 ///   bytes for synced then that it has dropped. So nothing is promised if anything but reads is asked after that; an engine
 ///   asks nothing else. The machine must be started again before such files are found.

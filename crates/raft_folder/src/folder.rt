@@ -8,7 +8,7 @@ use crate::locking::LockedFolder;
 use crate::names::{NameMeaning, classify_name, log_file_name};
 use crate::read_folder::FolderFile;
 use crate::writing::{Unwritten, write_all_or_nothing};
-use raft_base::{FileBlockHandle, FileId, FileSeq, LogQueue};
+use raft_base::{Error, FileBlockHandle, FileId, FileSeq, LogQueue};
 use std::collections::BTreeMap;
 use std::fs::{File, OpenOptions};
 use std::os::unix::fs::FileExt;
@@ -30,9 +30,9 @@ pub struct KeptTail {
 /// Why bytes weren't written to the end of a log file, and what the file has then.
 #[derive(Drop)]
 pub(crate) struct Unappended {
-    /// The error, with the file's path.
-    pub(crate) error: FolderError,
-    /// Whether the file has the bytes that it had before, and no others, and they are on the disk.
+    /// The error, with the file's path: that of writing, or that of taking back what was written, if this failed too.
+    pub(crate) error: Error,
+    /// Whether the file has the bytes that it had before, and no others; if some were written, the cut is on the disk.
     pub(crate) is_as_before: bool,
 }
 
@@ -256,8 +256,8 @@ impl<'a, R: FolderHost> Folder<'a, R> {
     ///
     /// # Errors
     ///
-    /// `Refused` if the queue has no file; `System`; `Memory`. What was written of the bytes is cut off again, and
-    /// the file synced; [`Unappended`] says whether that succeeded.
+    /// `InvalidArgument` if the queue has no file, or `Memory` if there is none for its text; else `Io`. What was written
+    /// of the bytes is cut off again, and the file synced; [`Unappended`] says whether that succeeded.
     pub(crate) fn append(
         &self,
         queue: LogQueue,
@@ -267,7 +267,7 @@ impl<'a, R: FolderHost> Folder<'a, R> {
             Ok(last) => last,
             Err(error) => {
                 return Err(Unappended {
-                    error,
+                    error: Error::from(error),
                     is_as_before: true,
                 });
             }
@@ -278,12 +278,12 @@ impl<'a, R: FolderHost> Folder<'a, R> {
         }
     }
 
-    /// Adds the path of the file `id` to the system's error in `unwritten`: `Memory` if there is none for it.
+    /// Adds the path of the file `id` to the system's error in `unwritten`, if there is memory for it.
     fn unappended(&self, id: FileId, unwritten: Unwritten) -> Unappended {
         let is_as_before = unwritten.is_as_before;
         let error = match self.path_of(id) {
-            Ok(path) => FolderError::System(path, unwritten.error),
-            Err(refused) => refused,
+            Ok(path) => Error::from(FolderError::System(path, unwritten.error)),
+            Err(_) => Error::Io(unwritten.error),
         };
         Unappended {
             error,

@@ -20,8 +20,9 @@ use raft_files::{AppendError, Asked, EngineFiles, NotesFound};
 /// Such files are never read as log files, nor deleted: look at them if a batch is missing, and delete them when you like.
 ///
 /// A call is noted if anything is done that may be left half done. An append that fails, since the disk is full for instance, is
-/// taken back: the file is cut to the length that it had, and synced, and the files take further calls. After any other `Err` of
-/// a call but `read`, whatever its reason, every later call fails with `Failed`: open the folder again to find what the disk has.
+/// taken back: the file is cut to the length that it had, and synced. If both succeed the files take further calls. After any other
+/// `Err` of a call but `read`, whatever its reason, that of a failed taking back too, every later call fails with `Failed`: open the
+/// folder again to find what the disk has; after a failed taking back, once the machine was started again, as after a failed sync.
 #[derive(Drop)]
 pub struct FolderFiles<'a, R: FolderHost> {
     /// The folder and its open files.
@@ -151,7 +152,8 @@ impl<R: FolderHost> EngineFiles for FolderFiles<'_, R> {
     /// # Errors
     ///
     /// Those of writing: `AsBefore` if all that was written is cut off, and that is synced; the files take further calls then.
-    /// `InPart` if that fails too, so that every later call fails; and with `Failed` after an earlier error.
+    /// `InPart` if that fails too, with the error of the cut or of the sync: every later call fails then, and earlier bytes that
+    /// weren't synced may be lost at a crash, as after a failed [`sync`](EngineFiles::sync). `InPart` with `Failed` after an earlier error.
     fn append(&mut self, queue: LogQueue, bytes: &[u8]) -> std::result::Result<(), AppendError> {
         if let Err(error) = self.begin_change() {
             return Err(AppendError::InPart(error));
@@ -164,11 +166,11 @@ impl<R: FolderHost> EngineFiles for FolderFiles<'_, R> {
             }
             Err(failed) if failed.is_as_before => {
                 self.has_failed = false;
-                Err(AppendError::AsBefore(Error::from(failed.error)))
+                Err(AppendError::AsBefore(failed.error))
             }
             Err(failed) => {
                 self.asked.put(queue, bytes);
-                Err(AppendError::InPart(Error::from(failed.error)))
+                Err(AppendError::InPart(failed.error))
             }
         }
     }

@@ -31,8 +31,9 @@ impl<F: Files> Engine<F> {
     ///   or its file more than 2^63; `Memory`. Nothing has changed then, neither the engine nor the batch. Only where memory ran
     ///   out half way the engine has failed: its next change returns `Failed`.
     /// - `Io` with [`Error::io_kind`](crate::Error::io_kind) `StorageFull`, or another one that says that there is no room in a
-    ///   folder: the engine hasn't failed. If this batch found none, the engine has kept it, it is empty, and the next change
-    ///   writes it, such as this same call. If one found none that was written earlier, this batch is as it was.
+    ///   folder: the engine hasn't failed, unless it was a sync that found none: then the next change returns `Failed`. If this
+    ///   batch found none, the engine has kept it, it is empty, and the next change writes it, such as this same call. If one
+    ///   found none that was written earlier, this batch is as it was.
     /// - Any other `Io`, and `Failed`: the engine has failed, and the batch may be in the files or not.
     pub fn write(&self, batch: &mut LogBatch, sync: bool) -> Result<()> {
         self.check_writable("write")?;

@@ -34,7 +34,8 @@ impl<F: EngineFiles> Engine<F> {
     /// - `Failed` if the engine isn't intact; `Full` if what has to be written first has 2^56 bytes or more, or the last
     ///   rewrite file more than 2^63; `Memory`. The engine is unchanged then.
     /// - Those of `EngineFiles::append`, since the disk is full for instance, where it takes back what it wrote. The append queue
-    ///   is synced then, the records of some regions may have moved, and the engine is intact.
+    ///   is synced then, the records of some regions may have moved, perhaps also the first entries of one more, and the engine
+    ///   is intact.
     /// - `Full` if a batch has 2^31 bytes of entries or 2^56 bytes in all, or the last rewrite file more than 2^63;
     ///   `Corruption` if the bytes of an entry aren't found at its place; `InvalidArgument` if a key is that of the group
     ///   markers; those of `EngineFiles::read`; `Memory`. The records of some regions moved then, perhaps also the first

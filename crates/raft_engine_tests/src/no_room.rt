@@ -48,6 +48,11 @@ impl FullOnce {
 impl EngineFiles for FullOnce {
     ghost asked = { λ f. f.files };
 
+    /// Appends `bytes` to the last file of `queue`, if there is room.
+    ///
+    /// # Errors
+    ///
+    /// `AsBefore` with `StorageFull` if there is no room; those of the files in memory.
     fn append(&mut self, queue: LogQueue, bytes: &[u8]) -> std::result::Result<(), AppendError> {
         if self.has_room() {
             return self.files.append(queue, bytes);
@@ -56,28 +61,57 @@ impl EngineFiles for FullOnce {
         Err(AppendError::AsBefore(Error::Io(full)))
     }
 
+    /// Begins the file `seq` of `queue`.
+    ///
+    /// # Errors
+    ///
+    /// Those of the files in memory.
     fn rotate(&mut self, queue: LogQueue, seq: FileSeq) -> Result<()> {
         self.files.rotate(queue, seq)
     }
 
+    /// Syncs `queue`.
+    ///
+    /// # Errors
+    ///
+    /// Those of the files in memory.
     fn sync(&mut self, queue: LogQueue) -> Result<()> {
         self.files.sync(queue)
     }
 
+    /// Deletes the oldest file of `queue`.
+    ///
+    /// # Errors
+    ///
+    /// Those of the files in memory.
     fn delete_oldest(&mut self, queue: LogQueue) -> Result<()> {
         self.files.delete_oldest(queue)
     }
 
+    /// Cuts the last file of `queue` to `len` bytes.
+    ///
+    /// # Errors
+    ///
+    /// Those of the files in memory.
     fn truncate(&mut self, queue: LogQueue, len: u64) -> Result<()> {
         self.files.truncate(queue, len)
     }
 
+    /// Returns the bytes at `place`.
+    ///
+    /// # Errors
+    ///
+    /// Those of the files in memory.
     fn read(&mut self, place: FileBlockHandle) -> Result<Vec<u8>> {
         self.files.read(place)
     }
 }
 
 /// Makes an engine over files of which one append finds no room, behind so many others.
+///
+/// # Errors
+///
+/// Those of [`Engine::new`].
 fn new_engine(alloc: Global, before: usize) -> Result<Engine<FullOnce>> {
     let files = FullOnce {
         files: MemoryFiles::new(alloc),
@@ -101,12 +135,21 @@ fn is_to_repeat<T: Drop>(engine: &Engine<FullOnce>, answer: Result<T>) -> Result
     }
 }
 
+/// Writes `batch`, and doesn't sync it.
+///
+/// # Errors
+///
+/// Those of [`Engine::write`].
 fn write_whole(engine: &mut Engine<FullOnce>, batch: &mut LogBatch) -> Result<()> {
     engine.write(batch, false)
 }
 
 /// Writes a batch of these parts; where it finds no room, once more. Returns whether it had its items in between, and none
 /// afterwards.
+///
+/// # Errors
+///
+/// Those of [`is_to_repeat`], and of the second write; `Memory`.
 fn is_written(alloc: Global, engine: &mut Engine<FullOnce>, parts: &[Part]) -> Result<bool> {
     let mut batch = batch_of_parts(alloc, parts)?;
     let answer = write_whole(engine, &mut batch);
@@ -120,6 +163,10 @@ fn is_written(alloc: Global, engine: &mut Engine<FullOnce>, parts: &[Part]) -> R
 }
 
 /// Moves all records to the rewrite queue; where there is no room, once more.
+///
+/// # Errors
+///
+/// Those of [`is_to_repeat`], and of the second move.
 fn move_all(engine: &mut Engine<FullOnce>) -> Result<()> {
     rotate(engine)?;
     let answer = rewrite_up_to(engine, FileSeq::MAX);
@@ -130,6 +177,10 @@ fn move_all(engine: &mut Engine<FullOnce>) -> Result<()> {
 }
 
 /// Purges the append queue; where there is no room for what has to be told, once more. Returns whether one file is left.
+///
+/// # Errors
+///
+/// Those of [`is_to_repeat`], and of the second purge.
 fn purge_all(engine: &mut Engine<FullOnce>) -> Result<bool> {
     rotate(engine)?;
     let answer = purge_append_files(engine);
@@ -141,6 +192,10 @@ fn purge_all(engine: &mut Engine<FullOnce>) -> Result<bool> {
 
 /// Moves all records to a new rewrite file, where there is no room, once more; and purges the others. Returns whether one is
 /// left.
+///
+/// # Errors
+///
+/// Those of [`is_to_repeat`], of the second move, and of the purge.
 fn move_again(engine: &mut Engine<FullOnce>) -> Result<bool> {
     let answer = rewrite_again(engine);
     if is_to_repeat(engine, answer)? {
@@ -151,6 +206,10 @@ fn move_again(engine: &mut Engine<FullOnce>) -> Result<bool> {
 }
 
 /// Writes entries and a key, moves them, deletes the key, purges and moves the entries again. Returns whether all went well.
+///
+/// # Errors
+///
+/// Those of [`is_to_repeat`], and of calls that are made once more; `Memory`.
 fn is_lived(alloc: Global, engine: &mut Engine<FullOnce>) -> Result<bool> {
     if !is_written(alloc, engine, &[Entries(1, 3), Put("v")])? {
         return Ok(false);
@@ -172,6 +231,10 @@ fn has_entries(engine: &Engine<FullOnce>) -> bool {
 
 /// Tests whether the engine lives so where it finds no room behind so many appends, and holds what it should, before and after a
 /// restart.
+///
+/// # Errors
+///
+/// Those of [`is_lived`], and of the opening; `Memory`.
 fn lives<R: Threads + Sync>(rt: &R, alloc: Global, before: usize) -> Result<bool> {
     let mut engine = new_engine(alloc, before)?;
     Ok(
@@ -183,12 +246,17 @@ fn lives<R: Threads + Sync>(rt: &R, alloc: Global, before: usize) -> Result<bool
 }
 
 /// Tests whether an engine that is opened over copies of the files holds the entries, and no key.
+///
+/// # Errors
+///
+/// Those of the opening; `Memory`.
 fn is_found<R: Threads + Sync>(rt: &R, alloc: Global, files: &MemoryFiles) -> Result<bool> {
     let append = files.copies(LogQueue::Append)?;
     let found = open_copies(rt, alloc, append, files.copies(LogQueue::Rewrite)?)?;
     has_text(alloc, &found, "[1,5)")
 }
 
+/// Tests that a call which finds no room leaves an intact engine, and succeeds when it is made again.
 #[test]
 fn an_engine_goes_on_once_there_is_room(rt: HostRuntime) {
     for before in 0usize..6 {

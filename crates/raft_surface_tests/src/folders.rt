@@ -1,4 +1,7 @@
 //! The files of an engine in a folder, which `raft_folder` and `raft_opening` export.
+//!
+//! Each function pins names or types: it compiles only as long as these are there as it writes them. None is called for
+//! its effect, but where the test at the end says so.
 
 use raft_base::{Error, FileId, FileSeq, LogQueue, Result, Version};
 use raft_engine::{Opened, RecoveryMode};
@@ -35,6 +38,7 @@ fn found(rt: &HostRuntime, path: &str) -> FolderResult<(LogFiles, LogFiles)> {
     Ok((found.append, found.rewrite))
 }
 
+/// Compiles only for a type that implements `EngineFiles`.
 fn is_of_engine<F: EngineFiles>(_files: &F) {}
 
 /// Opens a folder without reading its files, and then the engine of a folder.
@@ -48,6 +52,7 @@ fn open_unread<'a, R: FolderHost + SharedFiles + Threads>(
     open_folder(rt, path, RecoveryMode::TolerateTornTail, Version::V2, 1)
 }
 
+/// Compiles only for a type that implements `NotesFound`.
 fn notes_found<F: NotesFound>(_files: &F) {}
 
 /// Opens a folder to read it, and makes each call of it.
@@ -71,6 +76,7 @@ fn path_in(error: FolderError) -> Option<String> {
     }
 }
 
+/// Tests that the names above are exported with these types, and that what they give is as it is written here.
 #[test]
 fn folders_are_handed_on(rt: HostRuntime) {
     let opened: FolderResult<(LogFiles, LogFiles)> = found(&rt, "no_such_folder/folder");

@@ -107,7 +107,7 @@ impl EngineFiles for FullOnce {
     }
 }
 
-/// Makes an engine over files of which one append finds no room, behind so many others.
+/// Makes an engine over files of which one append finds no room, behind `before` others.
 ///
 /// # Errors
 ///
@@ -144,7 +144,7 @@ fn write_whole(engine: &mut Engine<FullOnce>, batch: &mut LogBatch) -> Result<()
     engine.write(batch, false)
 }
 
-/// Writes a batch of these parts; where it finds no room, once more. Returns whether it had its items in between, and none
+/// Writes a batch of `parts`, once more if there was no room. Returns whether it had its items in between, and none
 /// afterwards.
 ///
 /// # Errors
@@ -162,7 +162,7 @@ fn is_written(alloc: Global, engine: &mut Engine<FullOnce>, parts: &[Part]) -> R
     Ok(batch.is_empty() && batch.is_open())
 }
 
-/// Moves all records to the rewrite queue; where there is no room, once more.
+/// Moves all records to the rewrite queue, once more if there was no room.
 ///
 /// # Errors
 ///
@@ -176,7 +176,7 @@ fn move_all(engine: &mut Engine<FullOnce>) -> Result<()> {
     Ok(())
 }
 
-/// Purges the append queue; where there is no room for what has to be told, once more. Returns whether one file is left.
+/// Purges the append queue, once more if there was no room for what has to be told. Returns whether one file is left.
 ///
 /// # Errors
 ///
@@ -190,8 +190,8 @@ fn purge_all(engine: &mut Engine<FullOnce>) -> Result<bool> {
     Ok(engine.files().files.files(LogQueue::Append).len() == 1)
 }
 
-/// Moves all records to a new rewrite file, where there is no room, once more; and purges the others. Returns whether one is
-/// left.
+/// Moves all records to a new rewrite file, once more if there was no room, and purges the others. Returns whether one
+/// file is left.
 ///
 /// # Errors
 ///
@@ -205,7 +205,8 @@ fn move_again(engine: &mut Engine<FullOnce>) -> Result<bool> {
     Ok(engine.files().files.files(LogQueue::Rewrite).len() == 1)
 }
 
-/// Writes entries and a key, moves them, deletes the key, purges and moves the entries again. Returns whether all went well.
+/// Writes entries and a key, moves them, deletes the key, purges, and moves the entries again. Returns whether each
+/// call succeeded, at the second time at most, and left the files that it should.
 ///
 /// # Errors
 ///
@@ -229,8 +230,8 @@ fn has_entries(engine: &Engine<FullOnce>) -> bool {
         && engine.get(REGION, b"k").is_none()
 }
 
-/// Tests whether the engine lives so where it finds no room behind so many appends, and holds what it should, before and after a
-/// restart.
+/// Tests whether an engine that finds no room once, behind `before` appends, goes on as [`is_lived`] says, and holds
+/// what it should, before and after a restart.
 ///
 /// # Errors
 ///

@@ -301,7 +301,7 @@ type Seen = (Option<u64>, Option<u64>, usize, Option<(FileSeq, FileSeq)>);
 /// What an empty table has.
 const EMPTY: Seen = (None, None, 0, None);
 
-/// Returns what a table has.
+/// Returns the first and the last index of a table, how many keys it has, and the first and the last file of its group.
 fn indexes_and_counts(table: &MemTable) -> Seen {
     (
         table.first_index(),

@@ -23,7 +23,8 @@ fn store_with_three_keys(alloc: Global) -> Result<LogStore> {
     Ok(store)
 }
 
-/// Fetches the pairs of a table. Returns how many there are, and whether the first has the key 1.
+/// Fetches the pairs of a table in append files up to 2, and then those in rewrite files. Returns how many these are,
+/// and whether the first one has the key 1.
 ///
 /// # Errors
 ///

@@ -73,7 +73,8 @@ fn draw_run(numbers: &mut Numbers, list: &List) -> Run {
     )
 }
 
-/// Draws a change.
+/// Draws a change: an append or a rewriting in most cases, else another call or a merge. Its run is one of
+/// [`draw_run`].
 fn draw_change(numbers: &mut Numbers, list: &List) -> Change {
     let run = draw_run(numbers, list);
     let gate = 1 + numbers.draw_below(3);
@@ -99,7 +100,7 @@ fn draw_change(numbers: &mut Numbers, list: &List) -> Change {
     }
 }
 
-/// Returns the table of a run.
+/// Returns a table that has replayed a run of `queue`, and nothing else.
 ///
 /// # Errors
 ///
@@ -108,7 +109,7 @@ fn table_of_run(alloc: Global, queue: LogQueue, run: Run) -> Result<MemTable> {
     Ok(LogStore::after_calls(alloc, &[Call::Replay(queue, run)])?.table)
 }
 
-/// Makes a change of a store.
+/// Makes `change` of a store, by the calls of its table.
 ///
 /// # Errors
 ///
@@ -127,7 +128,7 @@ fn make_change(alloc: Global, store: &mut LogStore, change: Change) -> Result<()
     }
 }
 
-/// Merges the table of a run under its region mark.
+/// Merges the table of a run into the store's, under a region mark that has these bounds and the start of the run.
 ///
 /// # Errors
 ///

@@ -97,7 +97,7 @@ pub fn entry_of_run(queue: LogQueue, run: Run, index: u64) -> EntryIndex {
 }
 
 impl LogStore {
-    /// Returns an empty store.
+    /// Returns a store whose table, that of region 7, has no records, and whose counts are 0.
     pub fn new(alloc: Global) -> LogStore {
         LogStore {
             alloc,
@@ -128,7 +128,7 @@ impl LogStore {
         Ok(Vec::from_slice(self.alloc, text)?)
     }
 
-    /// Returns the entries of a run.
+    /// Returns the entries of a run, with places in its file of `queue`.
     ///
     /// # Errors
     ///

@@ -277,7 +277,7 @@ fn is_refused(files: &mut MemoryFiles, asked: Ask) -> bool {
     )
 }
 
-/// Tests that calls that make no sense are refused, as a write without a file.
+/// Tests that files in memory refuse calls that no file can carry out, such as a write where there is no file.
 #[test]
 fn memory_files_refuse_what_no_file_can_do(rt: HostRuntime) -> Result<()> {
     assert!(rt; are_senseless_calls_refused(rt.alloc())?);

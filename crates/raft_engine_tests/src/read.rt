@@ -69,14 +69,14 @@ fn are_texts_read(alloc: Global, engine: &mut Engine<MemoryFiles>) -> Result<boo
 }
 
 /// Tests whether all texts come back once they were written, once they have moved to the rewrite queue, and once the files
-/// were opened again. Errors: the engine's, `Memory`.
+/// were opened again. Errors: those of the engine's calls; `Memory`.
 fn are_texts_read_in_all_states<R: Threads + Sync>(rt: &R, alloc: Global) -> Result<bool> {
     let mut engine = engine_with_texts(alloc)?;
     are_moved_texts_read(rt, alloc, &mut engine)
 }
 
-/// Tests whether all texts are read before and after they move, and by an engine that is opened again. Errors: the engine's,
-/// `Memory`.
+/// Tests whether all texts are read before and after they move, and by an engine that is opened again. Errors: those of the
+/// engine's calls; `Memory`.
 fn are_moved_texts_read<R: Threads + Sync>(
     rt: &R,
     alloc: Global,
@@ -137,7 +137,7 @@ fn are_fetches_limited_in(alloc: Global, engine: &mut Engine<MemoryFiles>) -> Re
     )
 }
 
-/// Tests [`are_fetches_limited_in`] with an engine that wrote all texts. Errors: the engine's, `Memory`.
+/// Tests [`are_fetches_limited_in`] with an engine that wrote all texts. Errors: those of the engine's calls; `Memory`.
 fn are_fetches_limited(alloc: Global) -> Result<bool> {
     let mut engine = engine_with_texts(alloc)?;
     are_fetches_limited_in(alloc, &mut engine)
@@ -149,7 +149,7 @@ fn fetches_end_at_a_maximal_size(rt: HostRuntime) {
     assert!(rt; holds!(are_fetches_limited(rt.alloc())));
 }
 
-/// Writes a compaction of region 7 to index 3. Errors: the engine's, `Memory`.
+/// Writes a compaction of region 7 to index 3. Errors: those of the engine's calls; `Memory`.
 fn compact_region_7(alloc: Global, engine: &mut Engine<MemoryFiles>) -> Result<()> {
     let mut batch = LogBatch::default(alloc);
     batch.add_command(7, Command::Compact { index: 3 })?;
@@ -167,7 +167,7 @@ fn is_refused_as_not_found(answer: Result<usize>) -> bool {
 }
 
 /// Tests which fetches are refused if region 7 has the entries [3,6): nothing is appended then, and the engine stays intact.
-/// An empty range gives no entries, nor does a region without a table. Errors: the engine's, `Memory`.
+/// An empty range gives no entries, nor does a region without a table. Errors: those of the engine's calls; `Memory`.
 fn are_ranges_refused_in(
     engine: &mut Engine<MemoryFiles>,
     entries: &mut Vec<Vec<u8>>,
@@ -187,7 +187,7 @@ fn are_ranges_refused_in(
     )
 }
 
-/// Compacts region 7, and tests which fetches are refused then. Errors: the engine's, `Memory`.
+/// Compacts region 7, and tests which fetches are refused then. Errors: those of the engine's calls; `Memory`.
 fn are_ranges_refused_once_compacted(
     alloc: Global,
     engine: &mut Engine<MemoryFiles>,
@@ -210,13 +210,13 @@ fn ranges_without_entries_are_refused(rt: HostRuntime) {
 }
 
 /// Opens an engine over the files of [`engine_with_texts`], with the first byte of the first entry changed: it stands after the 16
-/// bytes of the batch's header. Errors: the engine's, `Memory`.
+/// bytes of the batch's header. Errors: those of the engine's calls; `Memory`.
 fn open_damaged_texts<R: Threads + Sync>(rt: &R, alloc: Global) -> Result<Engine<MemoryFiles>> {
     let engine = engine_with_texts(alloc)?;
     open_with_changed_byte(rt, alloc, &engine)
 }
 
-/// Opens an engine over copies of the files, with the byte 16 of the first one changed. Errors: the opening's, `Memory`.
+/// Opens an engine over copies of the files, with the byte 16 of the first one changed. Errors: those of the opening; `Memory`.
 fn open_with_changed_byte<R: Threads + Sync>(
     rt: &R,
     alloc: Global,
@@ -246,8 +246,8 @@ fn is_damage_found_in(alloc: Global, engine: &mut Engine<MemoryFiles>) -> Result
     )
 }
 
-/// Tests whether a damaged entry isn't returned, and the engine stays intact and returns the others. Errors: the engine's,
-/// `Memory`.
+/// Tests whether a damaged entry isn't returned, and the engine stays intact and returns the others. Errors: those of the
+/// engine's calls; `Memory`.
 fn is_damage_found<R: Threads + Sync>(rt: &R, alloc: Global) -> Result<bool> {
     let mut engine = open_damaged_texts(rt, alloc)?;
     is_damage_found_in(alloc, &mut engine)
@@ -260,14 +260,14 @@ fn damaged_entries_are_not_read(rt: HostRuntime) {
 }
 
 /// Tests whether an engine goes on after the read of a damaged entry was refused: it writes, syncs and begins a file, and a
-/// restart finds what isn't damaged. Errors: the engine's, `Memory`.
+/// restart finds what isn't damaged. Errors: those of the engine's calls; `Memory`.
 fn does_engine_go_on_after_damage<R: Threads + Sync>(rt: &R, alloc: Global) -> Result<bool> {
     let mut engine = open_damaged_texts(rt, alloc)?;
     does_damaged_engine_go_on(rt, alloc, &mut engine)
 }
 
 /// Reads the damaged entry, writes one more, and begins a file. Tests whether a restart finds the five that are
-/// whole. Errors: the engine's, `Memory`.
+/// whole. Errors: those of the engine's calls; `Memory`.
 fn does_damaged_engine_go_on<R: Threads + Sync>(
     rt: &R,
     alloc: Global,
@@ -281,8 +281,8 @@ fn does_damaged_engine_go_on<R: Threads + Sync>(
     Ok(count_fetched_reopened(rt, alloc, engine)? == 5)
 }
 
-/// Returns how many of the entries from index 2 on an engine returns that is opened over copies of the files. Errors: the
-/// engine's, `Memory`.
+/// Returns how many of the entries from index 2 on an engine returns that is opened over copies of the files. Errors: those
+/// of the engine's calls; `Memory`.
 fn count_fetched_reopened<R: Threads + Sync>(
     rt: &R,
     alloc: Global,
@@ -376,8 +376,8 @@ pub fn new_engine_counting_reads(alloc: Global) -> Result<Engine<CountedFiles>> 
     Engine::new(alloc, Version::V2, files)
 }
 
-/// Tests how many reads are made for entries of both batches, for one entry, and for one that isn't there. Errors: the
-/// engine's, `Memory`.
+/// Tests how many reads are made for entries of both batches, for one entry, and for one that isn't there. Errors: those of
+/// the engine's calls; `Memory`.
 fn are_reads_counted(
     engine: &mut Engine<CountedFiles>,
     entries: &mut Vec<Vec<u8>>,
@@ -391,8 +391,8 @@ fn are_reads_counted(
     Ok(count == 5 && together == 2 && found && alone == 3 && none && all == 3)
 }
 
-/// Writes four entries in one batch and two in the next. Tests whether the engine reads each block once. Errors: the engine's,
-/// `Memory`.
+/// Writes four entries in one batch and two in the next. Tests whether the engine reads each block once. Errors: those of the
+/// engine's calls; `Memory`.
 fn are_written_and_counted(alloc: Global, engine: &mut Engine<CountedFiles>) -> Result<bool> {
     write_parts(alloc, engine, &[Part::Entries(1, 5)], false)?;
     write_parts(alloc, engine, &[Part::Entries(5, 7)], false)?;
@@ -400,7 +400,7 @@ fn are_written_and_counted(alloc: Global, engine: &mut Engine<CountedFiles>) -> 
     are_reads_counted(engine, &mut entries)
 }
 
-/// Tests [`are_written_and_counted`] with a new engine. Errors: the engine's, `Memory`.
+/// Tests [`are_written_and_counted`] with a new engine. Errors: those of the engine's calls; `Memory`.
 fn are_blocks_read_once(alloc: Global) -> Result<bool> {
     let mut engine = new_engine_counting_reads(alloc)?;
     are_written_and_counted(alloc, &mut engine)
@@ -442,14 +442,14 @@ fn put_keys(alloc: Global, batch: &mut LogBatch) -> Result<()> {
     put_key(alloc, batch, b"2")
 }
 
-/// Returns an engine with the keys `1`, `2` and `3`. Errors: the engine's, `Memory`.
+/// Returns an engine with the keys `1`, `2` and `3`. Errors: those of the engine's calls; `Memory`.
 fn engine_with_keys(alloc: Global) -> Result<Engine<MemoryFiles>> {
     let mut engine = new_engine(alloc)?;
     write_keys(alloc, &mut engine)?;
     Ok(engine)
 }
 
-/// Writes the batch of [`batch_of_keys`]. Errors: the engine's, `Memory`.
+/// Writes the batch of [`batch_of_keys`]. Errors: those of the engine's calls; `Memory`.
 fn write_keys(alloc: Global, engine: &mut Engine<MemoryFiles>) -> Result<()> {
     write_batch(engine, batch_of_keys(alloc)?, false)
 }
@@ -481,7 +481,7 @@ fn are_keys_scanned_in(engine: &Engine<MemoryFiles>) -> Result<bool> {
     )
 }
 
-/// Tests [`are_keys_scanned_in`] with an engine that wrote three keys. Errors: the engine's, `Memory`.
+/// Tests [`are_keys_scanned_in`] with an engine that wrote three keys. Errors: those of the engine's calls; `Memory`.
 fn are_keys_scanned(alloc: Global) -> Result<bool> {
     let engine = engine_with_keys(alloc)?;
     are_keys_scanned_in(&engine)

@@ -80,14 +80,14 @@ pub(crate) fn are_lines_printed(
 }
 
 /// Returns an engine with two append files: the first has [`batch_of_entry_and_key`], the second [`batch_cleaning_region_8`].
-/// Errors: the engine's, `Memory`.
+/// Errors: those of the engine's calls; `Memory`.
 pub(crate) fn engine_with_two_files(alloc: Global) -> Result<Engine<MemoryFiles>> {
     let mut engine = new_engine(alloc)?;
     write_both_files(alloc, &mut engine)?;
     Ok(engine)
 }
 
-/// Writes two batches, each to an append file of its own. Errors: the engine's, `Memory`.
+/// Writes two batches, each to an append file of its own. Errors: those of the engine's calls; `Memory`.
 fn write_both_files(alloc: Global, engine: &mut Engine<MemoryFiles>) -> Result<()> {
     write_batch(engine, batch_of_entry_and_key(alloc)?, false)?;
     rotate(engine)?;
@@ -104,7 +104,7 @@ fn copy_segments(engine: &Engine<MemoryFiles>, queue: LogQueue) -> Result<Vec<Se
     engine.segments(queue)
 }
 
-/// Returns the tables that a recovery of the append files by `workers` threads gives. Errors: the recovery's, `Memory`.
+/// Returns the tables that a recovery of the append files by `workers` threads gives. Errors: those of the recovery; `Memory`.
 fn recover_by_workers<R: Threads + Sync>(
     rt: &R,
     alloc: Global,
@@ -115,8 +115,8 @@ fn recover_by_workers<R: Threads + Sync>(
     recover(rt, alloc, append.as_slice(), LogQueue::Append, workers)
 }
 
-/// Tests whether a recovery of the append files by `workers` threads gives the tables that were written. Errors: the
-/// recovery's, `Memory`.
+/// Tests whether a recovery of the append files by `workers` threads gives the tables that were written. Errors: those of the
+/// recovery; `Memory`.
 fn is_recovered_by_workers<R: Threads + Sync>(
     rt: &R,
     alloc: Global,
@@ -127,7 +127,7 @@ fn is_recovered_by_workers<R: Threads + Sync>(
     are_lines_printed(alloc, &tables, WRITTEN)
 }
 
-/// Returns the tables that a recovery of both queues gives. Errors: the recovery's, `Memory`.
+/// Returns the tables that a recovery of both queues gives. Errors: those of the recovery; `Memory`.
 fn recover_both_queues<R: Threads + Sync>(
     rt: &R,
     alloc: Global,
@@ -138,7 +138,7 @@ fn recover_both_queues<R: Threads + Sync>(
     recover_both(rt, alloc, rewrite.as_slice(), append.as_slice(), 2)
 }
 
-/// Tests whether a recovery of both queues gives the tables that were written. Errors: the recovery's, `Memory`.
+/// Tests whether a recovery of both queues gives the tables that were written. Errors: those of the recovery; `Memory`.
 fn is_recovered_from_both<R: Threads + Sync>(
     rt: &R,
     alloc: Global,
@@ -149,14 +149,14 @@ fn is_recovered_from_both<R: Threads + Sync>(
 }
 
 /// Tests whether an engine has the tables that were written, and so have recoveries of its append files and of both queues.
-/// Errors: the engine's, the recovery's, `Memory`.
+/// Errors: those of the engine's calls and of the recovery; `Memory`.
 fn are_written_tables_recovered<R: Threads + Sync>(rt: &R, alloc: Global) -> Result<bool> {
     let engine = engine_with_two_files(alloc)?;
     are_tables_recovered_from(rt, alloc, &engine)
 }
 
 /// Tests whether `engine` has the tables that were written, and recoveries by one and four workers, and of both
-/// queues, give them. Errors: the recovery's, `Memory`.
+/// queues, give them. Errors: those of the recovery; `Memory`.
 fn are_tables_recovered_from<R: Threads + Sync>(
     rt: &R,
     alloc: Global,
@@ -190,7 +190,7 @@ fn push_segment_files(alloc: Global, files: &mut LogFiles, segment: &[FilePart])
     Ok(())
 }
 
-/// Returns the append files of the engine of [`engine_with_two_files`]. Errors: the engine's, `Memory`.
+/// Returns the append files of the engine of [`engine_with_two_files`]. Errors: those of the engine's calls; `Memory`.
 fn copy_written_files(alloc: Global) -> Result<LogFiles> {
     let engine = engine_with_two_files(alloc)?;
     copy_append_files(alloc, &engine)
@@ -211,8 +211,8 @@ fn is_opened_with_written_tables<R: Threads + Sync>(rt: &R, alloc: Global) -> Re
     has_written_tables(rt, alloc, &engine)
 }
 
-/// Tests whether `engine` has the tables that were written, and recoveries of its append files give them. Errors: the
-/// recovery's, `Memory`.
+/// Tests whether `engine` has the tables that were written, and recoveries of its append files give them. Errors: those of
+/// the recovery; `Memory`.
 fn has_written_tables<R: Threads + Sync>(
     rt: &R,
     alloc: Global,
@@ -227,34 +227,34 @@ fn has_written_tables<R: Threads + Sync>(
     )
 }
 
-/// Returns the tables that a recovery of the append files of [`engine_with_two_files`] gives. Errors: the engine's, the
-/// recovery's, `Memory`.
+/// Returns the tables that a recovery of the append files of [`engine_with_two_files`] gives. Errors: those of the engine's
+/// calls and of the recovery; `Memory`.
 fn recover_written_tables<R: Threads + Sync>(rt: &R, alloc: Global) -> Result<MemTableAccessor> {
     let engine = engine_with_two_files(alloc)?;
     recover_by_workers(rt, alloc, &engine, 1)
 }
 
-/// Moves the records of region 7 in `tables` to file 4 of the rewrite queue. Errors: the tables', `Memory`.
+/// Moves the records of region 7 in `tables` to file 4 of the rewrite queue. Errors: those of the tables; `Memory`.
 fn rewrite_records(alloc: Global, tables: &mut MemTableAccessor) -> Result<()> {
     let mut moved = give_places(batch_of_entry_and_key(alloc)?)?;
     tables.apply_rewrite_writes(moved.drain(), Some(1), 4)
 }
 
-/// Takes the cleaned regions of `tables`. Tests whether there were some. Errors: the tables', `Memory`.
+/// Takes the cleaned regions of `tables`. Tests whether there were some. Errors: those of the tables; `Memory`.
 fn are_cleaned_regions_handed_out(tables: &mut MemTableAccessor) -> Result<bool> {
     let logs = tables.take_cleaned_region_logs()?;
     Ok(!logs.is_empty())
 }
 
 /// Moves the records in `tables`. Tests whether they hand out the cleaned regions, and print the lines after the
-/// move. Errors: the tables', `Memory`.
+/// move. Errors: those of the tables; `Memory`.
 fn are_records_rewritten(alloc: Global, tables: &mut MemTableAccessor) -> Result<bool> {
     rewrite_records(alloc, tables)?;
     Ok(are_cleaned_regions_handed_out(tables)? && are_lines_printed(alloc, tables, REWRITTEN)?)
 }
 
-/// Tests whether recovered tables take a rewriting that moves their records, and hand out the cleaned regions. Errors: the
-/// engine's, the recovery's, the tables', `Memory`.
+/// Tests whether recovered tables take a rewriting that moves their records, and hand out the cleaned regions. Errors: those
+/// of the engine's calls, the recovery and the tables; `Memory`.
 fn is_rewriting_taken<R: Threads + Sync>(rt: &R, alloc: Global) -> Result<bool> {
     let mut tables = recover_written_tables(rt, alloc)?;
     are_records_rewritten(alloc, &mut tables)
@@ -267,8 +267,8 @@ fn are_records_moved_to_file_4<R: Threads + Sync>(rt: &R, alloc: Global) -> Resu
     do_records_move(rt, alloc, &mut engine)
 }
 
-/// Opens an engine over the append files of [`engine_with_two_files`], and an empty rewrite file 4. Errors: the engine's,
-/// `Memory`.
+/// Opens an engine over the append files of [`engine_with_two_files`], and an empty rewrite file 4. Errors: those of the
+/// engine's calls; `Memory`.
 fn open_with_rewrite_file_4<R: Threads + Sync>(
     rt: &R,
     alloc: Global,
@@ -278,7 +278,7 @@ fn open_with_rewrite_file_4<R: Threads + Sync>(
 }
 
 /// Moves the records of append file 1. Tests whether `engine` has them in the rewrite queue, and its append files
-/// still give them. Errors: the engine's, the recovery's, `Memory`.
+/// still give them. Errors: those of the engine's calls and of the recovery; `Memory`.
 fn do_records_move<R: Threads + Sync>(
     rt: &R,
     alloc: Global,
@@ -317,7 +317,7 @@ fn an_engine_moves_records_to_the_rewrite_queue(rt: HostRuntime) {
 }
 
 /// Tests whether files refuse to begin an append file with the number `seq`, which isn't above that of the last one, and stay
-/// as they are. Errors: the engine's, `Memory`.
+/// as they are. Errors: those of the engine's calls; `Memory`.
 fn is_number_refused(alloc: Global, seq: FileSeq) -> Result<bool> {
     let engine = engine_with_two_files(alloc)?;
     let mut files = MemoryFiles::found(copy_files(&engine, LogQueue::Append)?, Vec::new(alloc));
@@ -385,7 +385,7 @@ fn files_are_opened_whose_numbers_are_consecutive(rt: HostRuntime) {
     }
 }
 
-/// Tests whether an engine goes on to 300 append files. Errors: the engine's, `Memory`.
+/// Tests whether an engine goes on to 300 append files. Errors: those of the engine's calls; `Memory`.
 fn has_many_files(alloc: Global) -> Result<bool> {
     let mut engine = new_engine(alloc)?;
     begins_many_files(&mut engine)
@@ -416,7 +416,7 @@ pub(crate) fn batch_with_text(alloc: Global, index: u64, text: &str) -> Result<L
 /// The texts of the entries from index 1 on, two in each file.
 pub(crate) static TEXTS: [&str; 5] = ["one", "two", "three", "", "five"];
 
-/// Returns an engine that wrote [`TEXTS`] as entries of region 7, a batch each. Errors: the engine's, `Memory`.
+/// Returns an engine that wrote [`TEXTS`] as entries of region 7, a batch each. Errors: those of the engine's calls; `Memory`.
 pub(crate) fn engine_with_texts(alloc: Global) -> Result<Engine<MemoryFiles>> {
     let mut engine = new_engine(alloc)?;
     write_each_text(alloc, &mut engine)?;

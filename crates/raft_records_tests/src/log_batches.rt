@@ -279,7 +279,7 @@ fn open_batch_of_row(alloc: Global, number: usize) -> Result<LogBatch> {
     }
 }
 
-/// Returns why a call was refused, in a word; an empty text where it wasn't. `Memory` is passed on. Errors: `Memory`.
+/// Returns why a call was refused, in a word; an empty text where it wasn't. Errors: `Memory`, if the call returned that.
 fn refusal_of(called: Result<()>) -> Result<&'static str> {
     match called {
         Ok(()) => Ok(""),
@@ -487,7 +487,7 @@ fn are_log_batch_clones_equal(alloc: Global) -> Result<bool> {
     Ok(same && copy != batch)
 }
 
-/// Tests both kinds of batches. Errors: those of the batch's calls; `Memory`.
+/// Tests whether clones of item batches and of log batches are equal until one changes. Errors: the batches', `Memory`.
 fn are_all_clones_equal(alloc: Global) -> Result<bool> {
     Ok(are_item_batch_clones_equal(alloc)? && are_log_batch_clones_equal(alloc)?)
 }

@@ -334,7 +334,7 @@ fn are_moved_records_found<R: Threads + Sync>(
     Ok((failed, found))
 }
 
-/// Returns whether the files failed. Any other error is passed on.
+/// Returns whether the files failed.
 ///
 /// # Errors
 ///

@@ -312,7 +312,7 @@ macro_rules! holds {
 
 pub(crate) use holds;
 
-/// Tests whether a call returned `Corruption`. Any other error is passed on.
+/// Tests whether a call returned `Corruption`.
 ///
 /// # Errors
 ///
@@ -325,7 +325,7 @@ pub fn is_corruption<T: Drop>(answer: Result<T>) -> Result<bool> {
     }
 }
 
-/// Tests whether a call returned `InvalidArgument`. Any other error is passed on.
+/// Tests whether a call returned `InvalidArgument`.
 ///
 /// # Errors
 ///

@@ -467,8 +467,7 @@ fn has_batch_behind(part: &FilePart, at: usize) -> Result<bool> {
     is_batch_readable(next_batch(part, end))
 }
 
-/// Tests whether a batch could be read. Want of memory is passed on. Errors: `Memory` alone: any other error says that no batch
-/// can be read.
+/// Tests whether a batch could be read. Errors: `Memory` alone: any other error says that no batch can be read.
 fn is_batch_readable<T: Drop>(read: Result<T>) -> Result<bool> {
     match read {
         Ok(_) => Ok(true),

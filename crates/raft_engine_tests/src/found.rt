@@ -279,7 +279,7 @@ fn rows_of_modes() -> &'static [(RecoveryMode, Change, Answer)] {
     &ROWS_OF_MODES
 }
 
-/// Tests whether an opening returned `Corruption` with this text. Any other error is passed on.
+/// Tests whether an opening returned `Corruption` with this text.
 ///
 /// # Errors
 ///
@@ -292,7 +292,7 @@ pub fn is_corruption_with_text<T: Drop>(opened: Result<T>, text: &str) -> Result
     }
 }
 
-/// Tests whether an opening returned `InvalidArgument` with this text. Any other error is passed on.
+/// Tests whether an opening returned `InvalidArgument` with this text.
 ///
 /// # Errors
 ///

@@ -166,7 +166,7 @@ fn is_written(alloc: Global, engine: &mut Engine<FullOnce>, parts: &[Part]) -> R
 ///
 /// # Errors
 ///
-/// Those of [`is_to_repeat`], and of the second move.
+/// Those of beginning a file, of [`is_to_repeat`], and of the second move.
 fn move_all(engine: &mut Engine<FullOnce>) -> Result<()> {
     rotate(engine)?;
     let answer = rewrite_up_to(engine, FileSeq::MAX);
@@ -180,7 +180,7 @@ fn move_all(engine: &mut Engine<FullOnce>) -> Result<()> {
 ///
 /// # Errors
 ///
-/// Those of [`is_to_repeat`], and of the second purge.
+/// Those of beginning a file, of [`is_to_repeat`], and of the second purge.
 fn purge_all(engine: &mut Engine<FullOnce>) -> Result<bool> {
     rotate(engine)?;
     let answer = purge_append_files(engine);

@@ -77,7 +77,7 @@ fn damaged_file(alloc: Global) -> Result<LogFiles> {
     Ok(flip_bit_of_first_file(files, 24))
 }
 
-/// Returns the files that a refused opening hands back, or `None` if it succeeded. Want of memory is passed on.
+/// Returns the files that a refused opening hands back, or `None` if it succeeded.
 ///
 /// # Errors
 ///
@@ -246,7 +246,7 @@ fn renumbered_torn_file(alloc: Global) -> Result<LogFiles> {
     Ok(append)
 }
 
-/// Tests whether an opening refuses append files. Want of memory is passed on.
+/// Tests whether an opening refuses append files.
 ///
 /// # Errors
 ///

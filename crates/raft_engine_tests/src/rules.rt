@@ -94,7 +94,7 @@ fn does_last_step_miss_file(alloc: Global, steps: &[Step]) -> Result<bool> {
     is_entry_not_found(answer_to_last_step(alloc, steps)?)
 }
 
-/// Tests whether a step finds no file for its entry. Any other error is passed on.
+/// Tests whether a step finds no file for its entry.
 ///
 /// # Errors
 ///

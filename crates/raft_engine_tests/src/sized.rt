@@ -192,7 +192,7 @@ fn file_size(seq: FileSeq, len: usize) -> FileSize {
     }
 }
 
-/// Tests whether the two files are opened as a row says, or a read fails. Any other error is passed on.
+/// Tests whether the two files are opened as a row says, or a read fails.
 ///
 /// # Errors
 ///

@@ -116,7 +116,7 @@ impl Engine {
     ///
     /// # Errors
     ///
-    /// Those of the tables, which the file has before them; `Memory`.
+    /// Those of the tables: the file has the batch then, and they don't. `Memory`.
     fn append_parts(&mut self, seq: FileSeq, parts: &[Part]) -> Result<()> {
         let mut batch = self.write_batch(
             LogQueue::Append,
@@ -131,7 +131,7 @@ impl Engine {
     ///
     /// # Errors
     ///
-    /// Those of the tables, which the file has before them; `Memory`.
+    /// Those of the tables: the file has the batch then, and they don't. `Memory`.
     fn rewrite_parts(&mut self, seq: FileSeq, gate: Option<FileSeq>, parts: &[Part]) -> Result<()> {
         let mut batch = self.write_batch(
             LogQueue::Rewrite,
@@ -349,8 +349,8 @@ impl Engine {
         Ok(false)
     }
 
-    /// Writes to append file 1 an entry whose bytes are a batch that could stand in that file. Errors: those of the tables,
-    /// which the file has before them; `Memory`.
+    /// Writes to append file 1 an entry whose bytes are a batch that could stand in that file. Errors: those of the tables:
+    /// the file has the batch then, and they don't. `Memory`.
     pub fn append_batch_in_entry(&mut self, index: u64) -> Result<()> {
         let batch = batch_with_entry(
             self.alloc,

@@ -137,7 +137,7 @@ fn are_fetches_limited_in(alloc: Global, engine: &mut Engine<MemoryFiles>) -> Re
     )
 }
 
-/// Tests [`are_fetches_limited_in`] with an engine that wrote all texts. Errors: those of the engine's calls; `Memory`.
+/// Tests whether an engine that wrote all texts fetches as many as fit into a maximal size. Errors: the engine's, `Memory`.
 fn are_fetches_limited(alloc: Global) -> Result<bool> {
     let mut engine = engine_with_texts(alloc)?;
     are_fetches_limited_in(alloc, &mut engine)
@@ -197,7 +197,7 @@ fn are_ranges_refused_once_compacted(
     are_ranges_refused_in(engine, &mut entries)
 }
 
-/// Tests [`are_ranges_refused_once_compacted`] with an engine that wrote all texts. Errors: the engine's, `Memory`.
+/// Tests which fetches an engine that wrote all texts refuses once region 7 is compacted. Errors: the engine's, `Memory`.
 fn are_ranges_refused(alloc: Global) -> Result<bool> {
     let mut engine = engine_with_texts(alloc)?;
     are_ranges_refused_once_compacted(alloc, &mut engine)
@@ -400,7 +400,7 @@ fn are_written_and_counted(alloc: Global, engine: &mut Engine<CountedFiles>) -> 
     are_reads_counted(engine, &mut entries)
 }
 
-/// Tests [`are_written_and_counted`] with a new engine. Errors: those of the engine's calls; `Memory`.
+/// Tests whether a new engine reads each block of two batches once. Errors: those of the engine's calls; `Memory`.
 fn are_blocks_read_once(alloc: Global) -> Result<bool> {
     let mut engine = new_engine_counting_reads(alloc)?;
     are_written_and_counted(alloc, &mut engine)
@@ -481,7 +481,7 @@ fn are_keys_scanned_in(engine: &Engine<MemoryFiles>) -> Result<bool> {
     )
 }
 
-/// Tests [`are_keys_scanned_in`] with an engine that wrote three keys. Errors: those of the engine's calls; `Memory`.
+/// Tests whether scans visit the three keys that an engine wrote, in both orders. Errors: the engine's, `Memory`.
 fn are_keys_scanned(alloc: Global) -> Result<bool> {
     let engine = engine_with_keys(alloc)?;
     are_keys_scanned_in(&engine)

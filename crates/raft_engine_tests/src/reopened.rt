@@ -286,7 +286,7 @@ fn count_whole_batches(fronts: &Prefixes, len: usize) -> usize {
     count
 }
 
-/// Returns what the first `count` batches leave.
+/// Returns the text of what the first `count` batches of [`WRITES`] leave.
 fn text_left_by(count: usize) -> &'static str {
     match count {
         0 => "",
@@ -378,8 +378,8 @@ fn are_all_prefixes_found<R: Threads + Sync>(
     Ok(true)
 }
 
-/// Tests [`are_all_prefixes_found`] with a file of the batches of [`WRITES`]. Errors: those of the engine's calls and
-/// of the opening; `Memory`.
+/// Tests at each length of a file of the batches of [`WRITES`] whether an engine over it holds what its whole batches
+/// leave. Errors: those of the engine's calls and of the opening; `Memory`.
 fn are_prefixes_of_file_found<R: Threads + Sync>(rt: &R, alloc: Global) -> Result<bool> {
     let fronts = write_prefixes(alloc)?;
     are_all_prefixes_found(rt, alloc, &fronts)
@@ -416,8 +416,8 @@ fn are_both_refused<R: Threads + Sync>(rt: &R, alloc: Global, fronts: &Prefixes)
     Ok(is_damage_refused(rt, alloc, fronts)? && are_equal_numbers_refused(rt, alloc, fronts)?)
 }
 
-/// Tests [`are_both_refused`] with a file of the batches of [`WRITES`]. Errors: that of an opening, unless it is
-/// `Corruption`; those of writing the file; `Memory`.
+/// Tests whether openings refuse a file of [`WRITES`] whose first batch is damaged, and two files of one number. Errors:
+/// that of an opening, unless it is `Corruption`; those of writing the file; `Memory`.
 fn is_what_no_crash_leaves_refused<R: Threads + Sync>(rt: &R, alloc: Global) -> Result<bool> {
     let fronts = write_prefixes(alloc)?;
     are_both_refused(rt, alloc, &fronts)

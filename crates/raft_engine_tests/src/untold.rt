@@ -156,7 +156,8 @@ fn is_removal_told_in<R: Threads + Sync>(
     )
 }
 
-/// Tests [`is_removal_told_later_in`] with an engine that moved its records.
+/// Tests whether an opening of files to which the batch of `removal` was written changes nothing, and a purge then tells
+/// the rewrite queue what the removal says.
 ///
 /// # Errors
 ///

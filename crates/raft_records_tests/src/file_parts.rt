@@ -31,7 +31,7 @@ const BLOCK: FileBlockHandle = FileBlockHandle {
     len: 7,
 };
 
-/// Returns these bytes as the part of that file from offset 100 on.
+/// Returns `bytes` as the part of [`FILE`] from offset 100 on.
 ///
 /// # Errors
 ///

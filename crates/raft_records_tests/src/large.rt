@@ -164,7 +164,7 @@ const ITEMS: u64 = 10_000;
 ///
 /// # Errors
 ///
-/// `Failed` if the batch isn't open, which it always is; `Memory`.
+/// `Memory` alone: the batch stays open.
 fn batch_with_many_items(alloc: Global) -> Result<LogBatch> {
     let mut batch = LogBatch::default(alloc);
     for id in 0..ITEMS {

@@ -49,7 +49,8 @@ fn hash_of_pairs(table: &MemTable) -> u64 {
     seen
 }
 
-/// Returns what the tests compare of a table.
+/// Returns what the tests compare of a table: its region, its first and last index, how many records it has in each
+/// queue and the least file there, its group, the place of its last entry, and a hash of its pairs.
 pub(crate) fn shape_of_table(table: &MemTable) -> Shape {
     (
         table.region_id(),
@@ -158,7 +159,7 @@ pub(crate) fn take_cleaned_of_accessor(
     regions_cleaned_by(alloc, core.take_cleaned_region_logs()?)
 }
 
-/// Returns what the tables of an accessor have, by region.
+/// Returns the shapes of all tables of an accessor, sorted by region.
 ///
 /// # Errors
 ///
@@ -217,7 +218,7 @@ fn shape_of_shared_table<R: Wait>(rt: &R, shared: &SharedAccessor, region: u64) 
     shared.with_table(rt, region, shape_of_table)
 }
 
-/// Returns what shared tables have, by region.
+/// Returns the shapes of all shared tables, sorted by region.
 ///
 /// # Errors
 ///

@@ -230,7 +230,8 @@ const HOLES: [(&[Word], &[Word], &str); 3] = [
     ),
 ];
 
-/// Tests whether the merge of such a neighbor is refused for this reason, and the context has failed then.
+/// Tests whether the merge of a newer neighbor whose run leaves a hole is refused for `reason`, and the context has
+/// failed then.
 ///
 /// # Errors
 ///

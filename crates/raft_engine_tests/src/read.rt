@@ -137,7 +137,7 @@ fn are_fetches_limited_in(alloc: Global, engine: &mut Engine<MemoryFiles>) -> Re
     )
 }
 
-/// Tests whether an engine that wrote all texts fetches as many as fit into a maximal size. Errors: the engine's, `Memory`.
+/// Tests whether an engine with all texts fetches what fits into a maximal size, and at least one. Errors: the engine's, `Memory`.
 fn are_fetches_limited(alloc: Global) -> Result<bool> {
     let mut engine = engine_with_texts(alloc)?;
     are_fetches_limited_in(alloc, &mut engine)

@@ -186,6 +186,10 @@ fn word_of(error: &Error) -> &'static str {
 }
 
 /// Returns the result of a read, under both names of its type.
+///
+/// # Errors
+///
+/// That of the read.
 fn read_with(number: Result<u64>) -> std::result::Result<u64, codec::Error> {
     number
 }

@@ -51,6 +51,10 @@ fn is_no_number(bytes: &[u8]) -> bool
 
 /// Returns the number at the front of `bytes`, which move on behind it. Names `Reads` and `IsNumber` of `raft_codec` in
 /// a promise.
+///
+/// # Errors
+///
+/// Those of `decode_var_u64`.
 fn number_in_front(bytes: &mut BytesSlice<'_>) -> codec::Result<u64>
     ensures { IfOk result (Reads IsNumber bytes.old.now bytes.new.now) }
 {
@@ -73,6 +77,10 @@ fn has_checksum(bytes: &[u8], checksum: u32) -> bool
 }
 
 /// Reads a text that stands for 1,024 bytes. Names `IsSizeText` of `raft_size`.
+///
+/// # Errors
+///
+/// Those of `ReadableSize::from_str`.
 fn size_of_text(text: &str) -> std::result::Result<ReadableSize, SizeError>
     requires { IsSizeText text.now 1024 }
 {
@@ -80,6 +88,10 @@ fn size_of_text(text: &str) -> std::result::Result<ReadableSize, SizeError>
 }
 
 /// Reads a text that stands for 1,024 bytes. Names `IsSizeText`, as `raft_records` hands it on.
+///
+/// # Errors
+///
+/// Those of `ReadableSize::from_str`.
 fn size_of_record_text(text: &str) -> std::result::Result<ReadableSize, SizeError>
     requires { IsTextOfSize text.now 1024 }
 {
@@ -102,6 +114,10 @@ fn are_consecutive(entries: &[EntryIndex]) -> bool
 }
 
 /// Appends a run to a table. Names `IsRunIn` and `IsCounted` of `raft_table` in conditions on the caller.
+///
+/// # Errors
+///
+/// Those of `MemTable::append`.
 fn append(table: &mut MemTable, run: Vec<EntryIndex>, stats: &mut GlobalStats) -> Result<()>
     requires run { IsRunIn Append run.items }
     requires counted { IsCounted table.old stats.old }
@@ -118,6 +134,10 @@ fn compact(table: &mut MemTable, stats: &mut GlobalStats) -> u64
 }
 
 /// Replays the first batch of a machine. Names `IsSmall` and `event` of `raft_history` in conditions on the caller.
+///
+/// # Errors
+///
+/// Those of `ReplayMachine::replay`.
 fn first_batch<M: ReplayMachine>(machine: &mut M, batch: LogItemBatch, file: FileId) -> Result<()>
     requires stands { M.stands_for machine.old [] }
     requires small { IsSmall (event batch file ∷ []) }
@@ -133,6 +153,10 @@ fn live_of(accessor: &MemTableAccessor) -> usize
 }
 
 /// Applies a new item to a slot. Names `slot_of`, `item_of`, `IsWritten` and `Appending` of `raft_accessor`.
+///
+/// # Errors
+///
+/// Those of `Slot::apply_append_write`.
 fn write(slot: &mut Slot, item: LogItem) -> Result<()>
     requires { slot_of item.raft_group_id ≡ slot.old.number }
     ensures { IsWritten Appending (item_of item) result slot.old.content slot.new.content }
@@ -149,6 +173,10 @@ fn is_empty(slot: &Slot) -> bool
 
 /// Returns the tables of a context that has read nothing. Names `HasReadExactly` of `raft_memtable` in a condition on
 /// the caller.
+///
+/// # Errors
+///
+/// Those of `MemTableRecoverContext::finish`.
 fn tables_of_nothing(context: MemTableRecoverContext) -> Result<MemTableAccessor>
     requires { HasReadExactly context [] }
 {
@@ -165,6 +193,10 @@ fn draw(tickets: &Tickets, seat: &mut TicketSeat) -> Option<usize>
 
 /// Returns the tables that a recovery of append files gives. Names `SegmentsAreOf`, `SegmentsHold` and `IsRecovered` of
 /// `raft_recover`.
+///
+/// # Errors
+///
+/// Those of `recover`.
 fn appended<R: Threads + Sync>(
     rt: &R,
     alloc: Global,

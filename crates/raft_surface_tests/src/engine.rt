@@ -109,6 +109,10 @@ fn law_of_the_round_trip<F: EngineFiles>(engine: &Engine<F>) {
 }
 
 /// Makes an engine over files of which nothing was asked.
+///
+/// # Errors
+///
+/// Those of `Engine::new`.
 fn new_engine<F: EngineFiles + Drop>(alloc: Global, version: Version, files: F) -> Result<Engine<F>>
 where
     requires { F.asked files ≡ [] }
@@ -117,6 +121,10 @@ where
 }
 
 /// Opens an engine over found files.
+///
+/// # Errors
+///
+/// Those of `Engine::open`.
 fn open_engine<R: Threads + Sync, F: EngineFiles>(
     rt: &R,
     alloc: Global,
@@ -133,6 +141,10 @@ where
 }
 
 /// Opens an engine over found files in a mode, and returns what was cut off them too.
+///
+/// # Errors
+///
+/// Those of `Engine::open_telling`.
 fn open_engine_telling<R: Threads + Sync, F: EngineFiles>(
     rt: &R,
     alloc: Global,
@@ -150,6 +162,10 @@ where
 }
 
 /// Opens an engine over files that are read in pieces.
+///
+/// # Errors
+///
+/// Those of `open_in_pieces`.
 fn open_engine_in_pieces<R: Threads + Sync, F: NotesFound, S: ReadFiles>(
     rt: &R,
     alloc: Global,
@@ -170,6 +186,10 @@ where
 }
 
 /// Opens an engine over files that contexts have read, in a mode, and returns what was cut off them too.
+///
+/// # Errors
+///
+/// Those of `Engine::open_over_telling`.
 fn open_engine_over_telling<F: EngineFiles>(
     alloc: Global,
     mode: RecoveryMode,
@@ -226,6 +246,10 @@ fn error_of_damaged_batch(batch: DamagedBatch) -> Error {
 }
 
 /// Opens an engine over files that contexts have read.
+///
+/// # Errors
+///
+/// Those of `Engine::open_over`.
 fn open_engine_over<F: EngineFiles>(
     alloc: Global,
     version: Version,
@@ -256,6 +280,10 @@ where
 }
 
 /// Opens an engine over copies of files in memory.
+///
+/// # Errors
+///
+/// Those of `Engine::open_copies`.
 fn open_engine_of_copies<R: Threads + Sync>(
     rt: &R,
     alloc: Global,

@@ -43,6 +43,10 @@ fn files_of_memory<'a>(files: &'a MemoryFiles, queue: LogQueue) -> &'a LogFiles 
 }
 
 /// Makes each call of the trait, on any files.
+///
+/// # Errors
+///
+/// That of the first call that fails.
 fn calls<F: EngineFiles>(files: &mut F, queue: LogQueue, place: FileBlockHandle) -> Result<()> {
     F::rotate(files, queue, 1)?;
     F::append(files, queue, b"x")?;

@@ -17,6 +17,10 @@ use std::thread::Threads;
 type LogFiles = Vec<(FileSeq, Vec<u8>)>;
 
 /// Makes each call of a folder that is open.
+///
+/// # Errors
+///
+/// That of the first call that fails.
 fn calls<R: FolderHost>(files: &FolderFiles<'_, R>, id: FileId) -> FolderResult<()> {
     let listed: Vec<FolderFile> = FolderFiles::list(files, id.queue)?;
     for file in listed {
@@ -31,6 +35,10 @@ fn calls<R: FolderHost>(files: &FolderFiles<'_, R>, id: FileId) -> FolderResult<
 }
 
 /// Opens a folder, and returns the files that were found in it.
+///
+/// # Errors
+///
+/// Those of [`FolderFiles::open`] and [`calls`].
 fn found(rt: &HostRuntime, path: &str) -> FolderResult<(LogFiles, LogFiles)> {
     let found: FoundFolder<'_, HostRuntime> = FolderFiles::open(rt, path)?;
     is_of_engine(&found.files);
@@ -42,6 +50,10 @@ fn found(rt: &HostRuntime, path: &str) -> FolderResult<(LogFiles, LogFiles)> {
 fn is_of_engine<F: EngineFiles>(_files: &F) {}
 
 /// Opens a folder without reading its files, and then the engine of a folder.
+///
+/// # Errors
+///
+/// Those of the opening.
 fn open_unread<'a, R: FolderHost + SharedFiles + Threads>(
     rt: &'a R,
     path: &'a str,
@@ -56,6 +68,10 @@ fn open_unread<'a, R: FolderHost + SharedFiles + Threads>(
 fn notes_found<F: NotesFound>(_files: &F) {}
 
 /// Opens a folder to read it, and makes each call of it.
+///
+/// # Errors
+///
+/// That of the first call that fails.
 fn read<'a, R: FolderHost>(rt: &'a R, path: &'a str) -> FolderResult<LogFiles> {
     let folder: ReadFolder<'a, R> = ReadFolder::open(rt, path)?;
     let _listed: Vec<FolderFile> = ReadFolder::list(&folder, LogQueue::Append)?;

@@ -31,7 +31,12 @@ fn parts() {
     let _readable_front: fn(&FilePart) -> (usize, Option<Error>) = readable_front;
 }
 
-/// Returns the first batch in the bytes of a file, which stand there from an offset below 2^32 on.
+/// Returns the first batch in the bytes of a file, which stand there from an offset below 2^32 on; `None` for
+/// 2^32 bytes or more.
+///
+/// # Errors
+///
+/// Those of `next_in`.
 fn next_in_of_parts(
     alloc: Global,
     file: &LogFileContext,

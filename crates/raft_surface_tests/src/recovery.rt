@@ -38,11 +38,19 @@ fn plans() {
 }
 
 /// Returns the plan that merges what two plans make.
+///
+/// # Errors
+///
+/// `AllocError` if there is no memory for the boxes.
 fn join_of_plans(alloc: Global, left: Plan, right: Plan) -> AllocResult<Plan> {
     Ok(Plan::Join(Box::new(alloc, left)?, Box::new(alloc, right)?))
 }
 
 /// Returns equal shares: at least one is asked for, of at least one byte.
+///
+/// # Errors
+///
+/// Those of `equal_shares`.
 fn equal_shares_of_plans(
     alloc: Global,
     segments: &[Segment],
@@ -75,7 +83,12 @@ fn merge_pieces_of_workers<M: ReplayMachine, F: Factory<M>, G: Gate, R: Threads 
     merge_pieces::<M, R>(rt, pieces, plan, queue)
 }
 
-/// Replays the batches in the bytes of a file, which stand there from an offset below 2^32 on.
+/// Replays the batches in the bytes of a file, which stand there from an offset below 2^32 on. Does nothing
+/// for 2^32 bytes or more.
+///
+/// # Errors
+///
+/// Those of `replay_bytes`.
 fn replay_bytes_of_machines<M: ReplayMachine>(
     machine: &mut M,
     alloc: Global,
@@ -91,6 +104,10 @@ fn replay_bytes_of_machines<M: ReplayMachine>(
 }
 
 /// Replays segments in a given schedule, with a given plan of merges.
+///
+/// # Errors
+///
+/// Those of `replay_scheduled`.
 fn replay_scheduled_of_schedules(
     alloc: Global,
     factory: &MemTableRecoverContextFactory,
@@ -104,6 +121,10 @@ fn replay_scheduled_of_schedules(
 }
 
 /// Replays segments by workers, each of which passes `gate` before it draws one.
+///
+/// # Errors
+///
+/// Those of `replay_segments`.
 fn replay_segments_of_workers<R: Threads + Sync, G: Gate>(
     rt: &R,
     alloc: Global,
@@ -146,6 +167,10 @@ fn run_of_programs_in_pieces<
 }
 
 /// Reads the first byte of a file, and returns the length of the file.
+///
+/// # Errors
+///
+/// Those of the files.
 fn read_of_files<S: SharedFiles>(
     files: &S,
     path: &str,
@@ -156,6 +181,10 @@ fn read_of_files<S: SharedFiles>(
 }
 
 /// Returns the words of the command line, or the status to end with if they can't be had.
+///
+/// # Errors
+///
+/// The status to end with, once the error is printed.
 fn words_of_programs<S: Env + AllocGlobal, E: Write>(
     rt: &S,
     err: &mut E,

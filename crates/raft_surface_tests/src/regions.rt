@@ -108,21 +108,37 @@ fn apply_rewrite_writes_of_items(
 }
 
 /// Applies items to the tables as new ones of the append queue, in the form in which a batch hands them out.
+///
+/// # Errors
+///
+/// Those of `MemTableAccessor::apply_append_writes`.
 fn appended_items(accessor: &mut MemTableAccessor, items: vec::IntoIter<LogItem>) -> Result<()> {
     MemTableAccessor::apply_append_writes(accessor, items)
 }
 
 /// Replays items into the tables as ones of the append queue, in the form in which a batch hands them out.
+///
+/// # Errors
+///
+/// Those of `MemTableAccessor::replay_append_writes`.
 fn replayed_items(accessor: &mut MemTableAccessor, items: vec::IntoIter<LogItem>) -> Result<()> {
     MemTableAccessor::replay_append_writes(accessor, items)
 }
 
 /// Replays items into the tables as ones of the rewrite queue, in the form in which a batch hands them out.
+///
+/// # Errors
+///
+/// Those of `MemTableAccessor::replay_rewrite_writes`.
 fn replayed_rewrites(accessor: &mut MemTableAccessor, items: vec::IntoIter<LogItem>) -> Result<()> {
     MemTableAccessor::replay_rewrite_writes(accessor, items)
 }
 
 /// Applies items to the tables as rewritten to a file, in the form in which a batch hands them out.
+///
+/// # Errors
+///
+/// Those of `MemTableAccessor::apply_rewrite_writes`.
 fn rewritten_items(
     accessor: &mut MemTableAccessor,
     items: vec::IntoIter<LogItem>,
@@ -141,6 +157,10 @@ fn fold_of_walks(accessor: &MemTableAccessor) -> u64 {
 }
 
 /// Returns the tables of the region `id`, from a walk over all tables.
+///
+/// # Errors
+///
+/// Those of `MemTableAccessor::collect`.
 fn collect_of_walks<'a>(accessor: &'a MemTableAccessor, id: u64) -> Result<Vec<&'a MemTable>> {
     MemTableAccessor::collect(accessor, |table: &MemTable| -> bool {
         table.region_id() == id
@@ -148,6 +168,10 @@ fn collect_of_walks<'a>(accessor: &'a MemTableAccessor, id: u64) -> Result<Vec<&
 }
 
 /// Returns how many tables there are after empty lists of items were applied: none.
+///
+/// # Errors
+///
+/// Those of the calls.
 fn met_in_none(alloc: Global) -> Result<u64> {
     let mut accessor = MemTableAccessor::new(alloc)?;
     apply_append_writes_of_items(&mut accessor, Vec::new(alloc))?;

@@ -77,6 +77,10 @@ fn get_or_insert_of_tables<R: Wait>(shared: &SharedAccessor, rt: &R, number: u64
 }
 
 /// Inserts the table of a region, by `SharedAccessor::insert`; a table of another region isn't inserted.
+///
+/// # Errors
+///
+/// Those of `SharedAccessor::insert`.
 fn insert_of_tables<R: Wait>(
     shared: &SharedAccessor,
     rt: &R,
@@ -97,6 +101,10 @@ fn with_table_of_tables<R: Wait>(shared: &SharedAccessor, rt: &R, number: u64) -
 }
 
 /// Drops all entries of a region but the last one, and returns how many were dropped.
+///
+/// # Errors
+///
+/// Those of `SharedAccessor::with_table_mut`.
 fn with_table_mut_of_tables<R: Wait>(shared: &SharedAccessor, rt: &R, number: u64) -> Result<u64> {
     let compact = |table: &MemTable| -> TableChange {
         match table.last_index() {
@@ -116,6 +124,10 @@ fn fold_of_tables<R: Wait>(shared: &SharedAccessor, rt: &R) -> u64 {
 }
 
 /// Returns the ids of the regions whose tables have no entries.
+///
+/// # Errors
+///
+/// Those of `SharedAccessor::collect`.
 fn collect_of_tables<R: Wait>(shared: &SharedAccessor, rt: &R) -> Result<Vec<u64>> {
     SharedAccessor::collect(shared, rt, |table: &MemTable| -> bool {
         table.last_index().is_none()
@@ -143,6 +155,10 @@ fn apply_rewrite_writes_of_items<R: Wait>(
 }
 
 /// Applies items to the tables as new ones of the append queue, in the form in which a batch hands them out.
+///
+/// # Errors
+///
+/// Those of `SharedAccessor::apply_append_writes`.
 fn appended_items<R: Wait>(
     shared: &SharedAccessor,
     rt: &R,
@@ -152,6 +168,10 @@ fn appended_items<R: Wait>(
 }
 
 /// Applies items to the tables as rewritten to a file, in the form in which a batch hands them out.
+///
+/// # Errors
+///
+/// Those of `SharedAccessor::apply_rewrite_writes`.
 fn rewritten_items<R: Wait>(
     shared: &SharedAccessor,
     rt: &R,
@@ -164,6 +184,10 @@ fn rewritten_items<R: Wait>(
 
 /// Applies a group of rewrite files, by `SharedAccessor::apply_rewrite_atomic_group`; nothing if it ends before it
 /// begins.
+///
+/// # Errors
+///
+/// Those of `SharedAccessor::apply_rewrite_atomic_group`.
 fn apply_rewrite_atomic_group_of_items<R: Wait>(
     shared: &SharedAccessor,
     rt: &R,
@@ -178,6 +202,10 @@ fn apply_rewrite_atomic_group_of_items<R: Wait>(
 }
 
 /// Takes the cleaned regions into an open batch, by `SharedAccessor::take_cleaned_region_logs`; none into another.
+///
+/// # Errors
+///
+/// Those of `SharedAccessor::take_cleaned_region_logs`.
 fn take_cleaned_region_logs_of_tables<R: Wait>(
     shared: &SharedAccessor,
     rt: &R,

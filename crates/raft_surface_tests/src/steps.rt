@@ -15,7 +15,12 @@ fn new_of_reads<'a>(alloc: Global, file: FileId) -> ReadBatch<'a> {
     ReadBatch::new(alloc, file)
 }
 
-/// Reads the first batch in the bytes of a file, which stand there from an offset below 2^32 on.
+/// Reads the first batch in the bytes of a file, which stand there from an offset below 2^32 on. Returns where
+/// the next one begins; `None` for 2^32 bytes or more, which aren't read.
+///
+/// # Errors
+///
+/// Those of `ReadBatch::read_next`.
 fn read_next_of_reads<'a>(
     batch: &mut ReadBatch<'a>,
     file: &LogFileContext,

@@ -84,6 +84,10 @@ fn get_of_keys<'a>(table: &'a MemTable, bytes: &[u8]) -> Option<&'a [u8]> {
 }
 
 /// Scans the keys between two bounds from the last one back, until the visitor returns `false`.
+///
+/// # Errors
+///
+/// Those of `MemTable::scan`.
 fn scan_of_keys(table: &MemTable, start: Option<&[u8]>, end: Option<&[u8]>) -> Result<()> {
     let reverse: bool = true;
     MemTable::scan(

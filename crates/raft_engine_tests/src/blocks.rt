@@ -64,6 +64,10 @@ fn rows_of_damage() -> &'static [Row] {
 }
 
 /// Opens an engine over the changed files of a row in a mode.
+///
+/// # Errors
+///
+/// Those of the opening; `Memory`.
 fn open_changed_files<R: Threads + Sync>(
     rt: &R,
     alloc: Global,
@@ -93,6 +97,10 @@ fn open_changed_files<R: Threads + Sync>(
 }
 
 /// Tests whether the opened engine holds `text`, and the opening named the batches at the offsets `named`.
+///
+/// # Errors
+///
+/// That of `opened`; `Memory`.
 fn is_held_and_named(
     alloc: Global,
     opened: Result<Opened<MemoryFiles>>,
@@ -107,6 +115,10 @@ fn is_held_and_named(
 }
 
 /// Tests whether an opening of the files of `row` in `mode` gives what the row says.
+///
+/// # Errors
+///
+/// That of the opening, unless it is one that the row says; `Memory`.
 fn is_row_answered<R: Threads + Sync>(
     rt: &R,
     alloc: Global,

@@ -48,6 +48,11 @@ impl FullOnce {
 impl EngineFiles for FullOnce {
     ghost asked = { λ f. f.files };
 
+    /// Appends `bytes` to the last file of `queue`, if there is room.
+    ///
+    /// # Errors
+    ///
+    /// `AsBefore` with `StorageFull` if there is no room; those of the files in memory.
     fn append(&mut self, queue: LogQueue, bytes: &[u8]) -> std::result::Result<(), AppendError> {
         if self.has_room() {
             return self.files.append(queue, bytes);
@@ -56,28 +61,57 @@ impl EngineFiles for FullOnce {
         Err(AppendError::AsBefore(Error::Io(full)))
     }
 
+    /// Begins the file `seq` of `queue`.
+    ///
+    /// # Errors
+    ///
+    /// Those of the files in memory.
     fn rotate(&mut self, queue: LogQueue, seq: FileSeq) -> Result<()> {
         self.files.rotate(queue, seq)
     }
 
+    /// Syncs `queue`.
+    ///
+    /// # Errors
+    ///
+    /// Those of the files in memory.
     fn sync(&mut self, queue: LogQueue) -> Result<()> {
         self.files.sync(queue)
     }
 
+    /// Deletes the oldest file of `queue`.
+    ///
+    /// # Errors
+    ///
+    /// Those of the files in memory.
     fn delete_oldest(&mut self, queue: LogQueue) -> Result<()> {
         self.files.delete_oldest(queue)
     }
 
+    /// Cuts the last file of `queue` to `len` bytes.
+    ///
+    /// # Errors
+    ///
+    /// Those of the files in memory.
     fn truncate(&mut self, queue: LogQueue, len: u64) -> Result<()> {
         self.files.truncate(queue, len)
     }
 
+    /// Returns the bytes at `place`.
+    ///
+    /// # Errors
+    ///
+    /// Those of the files in memory.
     fn read(&mut self, place: FileBlockHandle) -> Result<Vec<u8>> {
         self.files.read(place)
     }
 }
 
-/// Makes an engine over files of which one append finds no room, behind so many others.
+/// Makes an engine over files of which one append finds no room, behind `before` others.
+///
+/// # Errors
+///
+/// Those of [`Engine::new`].
 fn new_engine(alloc: Global, before: usize) -> Result<Engine<FullOnce>> {
     let files = FullOnce {
         files: MemoryFiles::new(alloc),
@@ -101,12 +135,21 @@ fn is_to_repeat<T: Drop>(engine: &Engine<FullOnce>, answer: Result<T>) -> Result
     }
 }
 
+/// Writes `batch`, and doesn't sync it.
+///
+/// # Errors
+///
+/// Those of [`Engine::write`].
 fn write_whole(engine: &mut Engine<FullOnce>, batch: &mut LogBatch) -> Result<()> {
     engine.write(batch, false)
 }
 
-/// Writes a batch of these parts; where it finds no room, once more. Returns whether it had its items in between, and none
+/// Writes a batch of `parts`, once more if there was no room. Returns whether it had its items in between, and none
 /// afterwards.
+///
+/// # Errors
+///
+/// Those of [`is_to_repeat`], and of the second write; `Memory`.
 fn is_written(alloc: Global, engine: &mut Engine<FullOnce>, parts: &[Part]) -> Result<bool> {
     let mut batch = batch_of_parts(alloc, parts)?;
     let answer = write_whole(engine, &mut batch);
@@ -119,7 +162,11 @@ fn is_written(alloc: Global, engine: &mut Engine<FullOnce>, parts: &[Part]) -> R
     Ok(batch.is_empty() && batch.is_open())
 }
 
-/// Moves all records to the rewrite queue; where there is no room, once more.
+/// Moves all records to the rewrite queue, once more if there was no room.
+///
+/// # Errors
+///
+/// Those of beginning a file, of [`is_to_repeat`], and of the second move.
 fn move_all(engine: &mut Engine<FullOnce>) -> Result<()> {
     rotate(engine)?;
     let answer = rewrite_up_to(engine, FileSeq::MAX);
@@ -129,7 +176,11 @@ fn move_all(engine: &mut Engine<FullOnce>) -> Result<()> {
     Ok(())
 }
 
-/// Purges the append queue; where there is no room for what has to be told, once more. Returns whether one file is left.
+/// Purges the append queue, once more if there was no room for what has to be told. Returns whether one file is left.
+///
+/// # Errors
+///
+/// Those of beginning a file, of [`is_to_repeat`], and of the second purge.
 fn purge_all(engine: &mut Engine<FullOnce>) -> Result<bool> {
     rotate(engine)?;
     let answer = purge_append_files(engine);
@@ -139,8 +190,12 @@ fn purge_all(engine: &mut Engine<FullOnce>) -> Result<bool> {
     Ok(engine.files().files.files(LogQueue::Append).len() == 1)
 }
 
-/// Moves all records to a new rewrite file, where there is no room, once more; and purges the others. Returns whether one is
-/// left.
+/// Moves all records to a new rewrite file, once more if there was no room, and purges the others. Returns whether one
+/// file is left.
+///
+/// # Errors
+///
+/// Those of [`is_to_repeat`], of the second move, and of the purge.
 fn move_again(engine: &mut Engine<FullOnce>) -> Result<bool> {
     let answer = rewrite_again(engine);
     if is_to_repeat(engine, answer)? {
@@ -150,7 +205,12 @@ fn move_again(engine: &mut Engine<FullOnce>) -> Result<bool> {
     Ok(engine.files().files.files(LogQueue::Rewrite).len() == 1)
 }
 
-/// Writes entries and a key, moves them, deletes the key, purges and moves the entries again. Returns whether all went well.
+/// Writes entries and a key, moves them, deletes the key, purges, and moves the entries again. Returns whether each
+/// call succeeded, at the second time at most, and left the files that it should.
+///
+/// # Errors
+///
+/// Those of [`is_to_repeat`], and of calls that are made once more; `Memory`.
 fn is_lived(alloc: Global, engine: &mut Engine<FullOnce>) -> Result<bool> {
     if !is_written(alloc, engine, &[Entries(1, 3), Put("v")])? {
         return Ok(false);
@@ -170,8 +230,12 @@ fn has_entries(engine: &Engine<FullOnce>) -> bool {
         && engine.get(REGION, b"k").is_none()
 }
 
-/// Tests whether the engine lives so where it finds no room behind so many appends, and holds what it should, before and after a
-/// restart.
+/// Tests whether an engine that finds no room once, behind `before` appends, goes on as [`is_lived`] says, and holds
+/// what it should, before and after a restart.
+///
+/// # Errors
+///
+/// Those of [`is_lived`], and of the opening; `Memory`.
 fn lives<R: Threads + Sync>(rt: &R, alloc: Global, before: usize) -> Result<bool> {
     let mut engine = new_engine(alloc, before)?;
     Ok(
@@ -183,12 +247,17 @@ fn lives<R: Threads + Sync>(rt: &R, alloc: Global, before: usize) -> Result<bool
 }
 
 /// Tests whether an engine that is opened over copies of the files holds the entries, and no key.
+///
+/// # Errors
+///
+/// Those of the opening; `Memory`.
 fn is_found<R: Threads + Sync>(rt: &R, alloc: Global, files: &MemoryFiles) -> Result<bool> {
     let append = files.copies(LogQueue::Append)?;
     let found = open_copies(rt, alloc, append, files.copies(LogQueue::Rewrite)?)?;
     has_text(alloc, &found, "[1,5)")
 }
 
+/// Tests that a call which finds no room leaves an intact engine, and succeeds when it is made again.
 #[test]
 fn an_engine_goes_on_once_there_is_room(rt: HostRuntime) {
     for before in 0usize..6 {

@@ -17,8 +17,12 @@ fn live_written_and_deleted(stats: &GlobalStats) -> [usize; 3] {
     ]
 }
 
-/// Tests the counts when a table of ten appended entries and a rewritten key is added, subtracted, and added again
+/// Asserts the counts when a table of ten appended entries and a rewritten key is added, subtracted, and added again
 /// where there is no room.
+///
+/// # Errors
+///
+/// `Full` if an addition that is to succeed has no room.
 fn check_adding_and_subtracting(rt: &impl Abort, table: &MemTable) -> Result<()> {
     let mut stats = GlobalStats::default();
     stats.add_table(table)?;
@@ -31,7 +35,11 @@ fn check_adding_and_subtracting(rt: &impl Abort, table: &MemTable) -> Result<()>
     Ok(())
 }
 
-/// Tests the counts of a table with appended entries and a rewritten key.
+/// Asserts the counts of a table with appended entries and a rewritten key.
+///
+/// # Errors
+///
+/// Those of [`check_adding_and_subtracting`], and of the table's calls; `Memory`.
 fn check_counts_of_table(rt: &impl Abort, alloc: Global) -> Result<()> {
     let calls = [Append((0, 10, 1)), Put(LogQueue::Rewrite, 5)];
     let store = LogStore::after_calls(alloc, &calls)?;

@@ -222,7 +222,11 @@ fn rows_of_calls() -> &'static [Row] {
     &CALLS
 }
 
-/// Makes a call of shared tables.
+/// Makes a call of shared tables, and returns its answer.
+///
+/// # Errors
+///
+/// Those of the call; `Failed` if shared tables don't have it; `Memory`.
 fn call_shared<R: Wait>(
     rt: &R,
     alloc: Global,
@@ -264,6 +268,10 @@ fn call_shared<R: Wait>(
 }
 
 /// Tests whether cleaned regions of one slot stay listed in order, each as often as it was cleaned.
+///
+/// # Errors
+///
+/// Those of the calls; `Memory`.
 fn is_cleaned_list_kept<R: Wait>(rt: &R, alloc: Global) -> Result<bool> {
     let mut core = MemTableAccessor::new(alloc)?;
     for &region in &[3, 73, 3, 3] {
@@ -275,6 +283,10 @@ fn is_cleaned_list_kept<R: Wait>(rt: &R, alloc: Global) -> Result<bool> {
 
 /// Tests whether regions that were cleaned are listed, and one that was written again has its table, also once the
 /// tables were shared and are an accessor's again.
+///
+/// # Errors
+///
+/// Those of the calls; `Memory`.
 fn is_rewritten_region_back(alloc: Global) -> Result<bool> {
     let shared = SharedAccessor::from_core(alloc, tables_after_calls(alloc, CLEANED_AND_WRITTEN)?)?;
     let mut core = shared.into_core()?;
@@ -285,6 +297,10 @@ fn is_rewritten_region_back(alloc: Global) -> Result<bool> {
 
 /// Tests whether the call of a row returns and leaves the same in shared tables and in an accessor, and is refused for
 /// the row's fault, or not at all.
+///
+/// # Errors
+///
+/// That of a call, unless it is a [`Fault`](crate::items::Fault); those of the calls before; `Memory`.
 fn is_row_alike<R: Wait>(rt: &R, alloc: Global, row: &Row) -> Result<bool> {
     let (made, call, fault) = *row;
     let shared = SharedAccessor::from_core(alloc, tables_after_calls(alloc, made)?)?;
@@ -299,6 +315,10 @@ fn is_row_alike<R: Wait>(rt: &R, alloc: Global, row: &Row) -> Result<bool> {
 }
 
 /// Tests whether the calls of all rows leave the same in shared tables and in an accessor.
+///
+/// # Errors
+///
+/// Those of [`is_row_alike`], [`is_cleaned_list_kept`] and [`is_rewritten_region_back`].
 fn are_all_rows_alike<R: Wait>(rt: &R, alloc: Global) -> Result<bool> {
     for row in rows_of_calls() {
         if !is_row_alike(rt, alloc, row)? {

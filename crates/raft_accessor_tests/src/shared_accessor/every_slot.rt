@@ -24,12 +24,20 @@ fn has_each_slot_a_region(third: u64) -> bool {
 }
 
 /// Returns a change that appends an entry to the table of a region. Its index differs for a thousand regions.
+///
+/// # Errors
+///
+/// `Memory` alone.
 fn append_change(alloc: Global, region: u64) -> Result<TableChange> {
     let index = region % 1000;
     Ok(TableChange::Append(new_run(alloc, index, index + 1, NEW)?))
 }
 
 /// Fills the table of a region in an accessor: appends an entry, and rewrites a key of its own.
+///
+/// # Errors
+///
+/// Those of the calls; `Memory`.
 fn fill_core(alloc: Global, core: &mut MemTableAccessor, region: u64) -> Result<()> {
     let key = [Item::PutOwnKey(region, NEW)];
     core.change(region, append_change(alloc, region)?)?;
@@ -38,6 +46,10 @@ fn fill_core(alloc: Global, core: &mut MemTableAccessor, region: u64) -> Result<
 }
 
 /// Fills the shared table of a region: appends an entry, and rewrites a key of its own.
+///
+/// # Errors
+///
+/// Those of the calls; `Memory`.
 fn fill_shared<R: Wait>(rt: &R, alloc: Global, shared: &SharedAccessor, region: u64) -> Result<()> {
     let key = [Item::PutOwnKey(region, NEW)];
     shared.change(rt, region, append_change(alloc, region)?)?;
@@ -46,6 +58,10 @@ fn fill_shared<R: Wait>(rt: &R, alloc: Global, shared: &SharedAccessor, region: 
 }
 
 /// Returns an accessor with all regions.
+///
+/// # Errors
+///
+/// Those of the calls; `Memory`.
 fn new_filled_accessor(alloc: Global) -> Result<MemTableAccessor> {
     let mut core = MemTableAccessor::new(alloc)?;
     for region in 0..REGIONS {
@@ -61,6 +77,10 @@ fn new_filled_accessor(alloc: Global) -> Result<MemTableAccessor> {
 }
 
 /// Fills shared tables by their own calls, and returns what they have.
+///
+/// # Errors
+///
+/// Those of the calls; `Memory`.
 fn see_filled_shared_tables<R: Wait>(rt: &R, alloc: Global) -> Result<Seen> {
     let shared = SharedAccessor::new(alloc);
     for region in 0..REGIONS {
@@ -74,6 +94,10 @@ fn see_filled_shared_tables<R: Wait>(rt: &R, alloc: Global) -> Result<Seen> {
 }
 
 /// Makes shared tables of an accessor with all regions, and returns what they have.
+///
+/// # Errors
+///
+/// Those of the calls; `Memory`.
 fn see_shared_from_accessor<R: Wait>(rt: &R, alloc: Global) -> Result<Seen> {
     let shared = SharedAccessor::from_core(alloc, new_filled_accessor(alloc)?)?;
     see_shared(rt, alloc, &shared)
@@ -81,6 +105,10 @@ fn see_shared_from_accessor<R: Wait>(rt: &R, alloc: Global) -> Result<Seen> {
 
 /// Tests whether both have what the accessor has: 734 tables with an entry and a key, 733 without records, and 733
 /// cleaned regions.
+///
+/// # Errors
+///
+/// Those of the calls; `Memory`.
 fn are_all_tables_seen<R: Wait>(rt: &R, alloc: Global) -> Result<bool> {
     let expected = see_core(alloc, &mut new_filled_accessor(alloc)?)?;
     Ok(
@@ -100,6 +128,10 @@ fn no_slot_is_left_out(rt: HostRuntime) {
 }
 
 /// Tests whether the tables of an accessor are as they were once they were shared and are an accessor's again.
+///
+/// # Errors
+///
+/// Those of the calls; `Memory`.
 fn are_tables_back(alloc: Global) -> Result<bool> {
     let shared = SharedAccessor::from_core(alloc, new_filled_accessor(alloc)?)?;
     let mut core = shared.into_core()?;
@@ -153,6 +185,10 @@ fn are_slot_counts_right(slot: &Slot, own: usize, core: &MemTableAccessor, taken
 }
 
 /// Tests whether each slot takes its own tables out of an accessor, with their counts, which then has none.
+///
+/// # Errors
+///
+/// Those of the calls; `Memory`.
 fn takes_each_slot_its_own(alloc: Global) -> Result<bool> {
     let before = new_filled_accessor(alloc)?;
     let mut core = new_filled_accessor(alloc)?;
@@ -179,6 +215,10 @@ fn each_slot_takes_its_tables(rt: HostRuntime) {
 
 /// Tests whether shared tables aren't empty exactly as long as a region has a table. It is made, removed, and listed as
 /// cleaned.
+///
+/// # Errors
+///
+/// Those of the calls; `Memory`.
 fn is_single_table_met<R: Wait>(rt: &R, shared: &SharedAccessor, region: u64) -> Result<bool> {
     let before = shared.is_empty(rt);
     shared.get_or_insert(rt, region)?;
@@ -189,6 +229,10 @@ fn is_single_table_met<R: Wait>(rt: &R, shared: &SharedAccessor, region: u64) ->
 
 /// Tests for each region whether shared tables with its table alone aren't empty: the first table is in a slot without
 /// cleaned regions, the others in one with some.
+///
+/// # Errors
+///
+/// Those of the calls; `Memory`.
 fn is_each_table_met<R: Wait>(rt: &R, alloc: Global) -> Result<bool> {
     let shared = SharedAccessor::new(alloc);
     for region in 0..REGIONS {

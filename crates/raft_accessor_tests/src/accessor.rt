@@ -1,7 +1,7 @@
 //! Tests that calls of an accessor answer, count and leave what their rows say, and that a region has the slot that
 //! raft-engine gives it.
 
-use crate::calls::{Call, call_core, tables_after_calls};
+use crate::calls::{Call, call_accessor, tables_after_calls};
 use crate::items::{Item, NEW, result_or_fault};
 use crate::rows::{Outline, Row, lists_of_rows};
 use crate::seen::{live_written_and_deleted, take_cleaned_of_accessor};
@@ -27,7 +27,7 @@ fn indexes_and_counts(table: &MemTable) -> Outline {
 /// That of the call, unless it is a [`Fault`](crate::items::Fault).
 fn is_call_as_row_says(alloc: Global, core: &mut MemTableAccessor, row: &Row) -> Result<bool> {
     let (call, expected, numbers, (region, table)) = *row;
-    let answer = result_or_fault(call_core(alloc, core, call))?.map(|answer| answer.0);
+    let answer = result_or_fault(call_accessor(alloc, core, call))?.map(|answer| answer.0);
     let is_counted = live_written_and_deleted(core.stats()) == numbers;
     Ok(answer == expected && is_counted && core.get(region).map(indexes_and_counts) == table)
 }
@@ -127,7 +127,7 @@ fn is_own_table_handed_out(
     row: &Handed,
 ) -> Result<bool> {
     let (call, region, _, _, count) = *row;
-    call_core(alloc, core, call)?;
+    call_accessor(alloc, core, call)?;
     let is_first = is_table_of_row(core.get_or_insert(region)?, row);
     let is_second = is_table_of_row(core.get_or_insert(region)?, row);
     let is_found = core

@@ -55,7 +55,7 @@ pub(crate) type Answer = (u64, Option<Shape>);
 /// # Errors
 ///
 /// That of the call.
-pub(crate) fn answer_of_unit(called: Result<()>) -> Result<Answer> {
+pub(crate) fn answer_without_value(called: Result<()>) -> Result<Answer> {
     called?;
     Ok((0, None))
 }
@@ -154,7 +154,11 @@ fn compact_in_accessor(alloc: Global, core: &mut MemTableAccessor, id: u64) -> R
 /// # Errors
 ///
 /// Those of the call; `Memory`.
-pub(crate) fn call_core(alloc: Global, core: &mut MemTableAccessor, call: Call) -> Result<Answer> {
+pub(crate) fn call_accessor(
+    alloc: Global,
+    core: &mut MemTableAccessor,
+    call: Call,
+) -> Result<Answer> {
     match call {
         Call::Nothing => Ok((0, None)),
         Call::WithTableMut(id) => answer_of_number(compact_in_accessor(alloc, core, id)),
@@ -171,13 +175,13 @@ pub(crate) fn call_core(alloc: Global, core: &mut MemTableAccessor, call: Call) 
             answer_of_table(core.insert(other.region_id(), other))
         }
         Call::Remove(id, is_listed) => answer_of_table(core.remove(id, is_listed)),
-        Call::AppendWrites(given) => answer_of_unit(core.apply_append_writes(to_log_items(
+        Call::AppendWrites(given) => answer_without_value(core.apply_append_writes(to_log_items(
             alloc, given,
         )?)),
         Call::RewriteWrites(given, gate, seq) => {
-            answer_of_unit(core.apply_rewrite_writes(to_log_items(alloc, given)?, gate, seq))
+            answer_without_value(core.apply_rewrite_writes(to_log_items(alloc, given)?, gate, seq))
         }
-        Call::AtomicGroup(id) => answer_of_unit(core.apply_rewrite_atomic_group(id, 49, 50)),
+        Call::AtomicGroup(id) => answer_without_value(core.apply_rewrite_atomic_group(id, 49, 50)),
         Call::TakeCleaned => Ok((take_cleaned_of_accessor(alloc, core)?.len() as u64, None)),
         _ => answer_of_number(make_accessor_only_call(alloc, core, call)),
     }
@@ -213,7 +217,7 @@ fn make_accessor_only_call(alloc: Global, core: &mut MemTableAccessor, call: Cal
 pub(crate) fn tables_after_calls(alloc: Global, calls: &[Call]) -> Result<MemTableAccessor> {
     let mut core = MemTableAccessor::new(alloc)?;
     for call in calls {
-        call_core(alloc, &mut core, *call)?;
+        call_accessor(alloc, &mut core, *call)?;
     }
     Ok(core)
 }

@@ -193,7 +193,7 @@ fn full_regions_of_accessor(alloc: Global, core: &MemTableAccessor) -> Result<Ve
 /// # Errors
 ///
 /// Those of [`take_cleaned_of_accessor`]; `Memory`.
-pub(crate) fn see_core(alloc: Global, core: &mut MemTableAccessor) -> Result<Seen> {
+pub(crate) fn summarize_accessor(alloc: Global, core: &mut MemTableAccessor) -> Result<Seen> {
     let mut cleaned = take_cleaned_of_accessor(alloc, core)?;
     cleaned.sort()?;
     let stats = core.stats();
@@ -254,7 +254,11 @@ fn full_regions_of_shared<R: Wait>(rt: &R, shared: &SharedAccessor) -> Result<Ve
 /// # Errors
 ///
 /// Those of [`take_cleaned_of_shared`]; `Memory`.
-pub(crate) fn see_shared<R: Wait>(rt: &R, alloc: Global, shared: &SharedAccessor) -> Result<Seen> {
+pub(crate) fn summarize_shared_tables<R: Wait>(
+    rt: &R,
+    alloc: Global,
+    shared: &SharedAccessor,
+) -> Result<Seen> {
     let mut seen = Seen {
         found: shape_of_shared_table(rt, shared, REGION),
         tables: shapes_of_shared_tables(rt, alloc, shared)?,

@@ -100,7 +100,10 @@ fn is_other_seen_in_change<R: Wait + Clock>(
 /// # Errors
 ///
 /// Those of [`is_other_seen_in_change`].
-fn do_writers_meet<R: Threads + Wait + Clock + Sync>(rt: &R, alloc: Global) -> Result<bool> {
+fn do_writers_of_two_slots_run_at_once<R: Threads + Wait + Clock + Sync>(
+    rt: &R,
+    alloc: Global,
+) -> Result<bool> {
     let shared = SharedAccessor::new(alloc);
     let (one, two) = (AtomicU64::new(0), AtomicU64::new(0));
     let (first, second) = thread::join(
@@ -197,12 +200,12 @@ fn do_closures_on_two_slots_meet<R: Threads + Wait + Clock + Sync>(
     rt: &R,
     alloc: Global,
 ) -> Result<bool> {
-    Ok(do_writers_meet(rt, alloc)? && do_reader_and_writer_meet(rt, alloc)?)
+    Ok(do_writers_of_two_slots_run_at_once(rt, alloc)? && do_reader_and_writer_meet(rt, alloc)?)
 }
 
 /// Tests that closures on tables of different slots run at the same time, where one may change a table, or both.
 #[test]
-fn slots_lock_apart(rt: HostRuntime) {
+fn slots_are_locked_one_by_one(rt: HostRuntime) {
     assert!(rt; slot_of(1) != slot_of(2));
     assert!(rt;
         matches!(

@@ -125,7 +125,7 @@ const ASKS: [(LogQueue, Ask); 12] = [
 /// # Errors
 ///
 /// Those of the call.
-fn make_asked_call<F: EngineFiles>(files: &mut F, queue: LogQueue, asked: Ask) -> Result<()> {
+fn make_call<F: EngineFiles>(files: &mut F, queue: LogQueue, asked: Ask) -> Result<()> {
     match asked {
         Ask::Rotate(seq) => files.rotate(queue, seq),
         Ask::Append(text) => Ok(files.append(queue, text.as_bytes())?),
@@ -142,7 +142,7 @@ fn make_asked_call<F: EngineFiles>(files: &mut F, queue: LogQueue, asked: Ask) -
 /// That of the first call that fails; no further one is made then.
 fn make_each_call_once<F: EngineFiles>(files: &mut F) -> Result<()> {
     for &(queue, asked) in &ASKS {
-        make_asked_call(files, queue, asked)?;
+        make_call(files, queue, asked)?;
     }
     Ok(())
 }
@@ -257,7 +257,7 @@ fn are_senseless_calls_refused(alloc: Global) -> Result<bool> {
     let mut files = MemoryFiles::new(alloc);
     let bytes = is_refused(&mut files, Ask::Append("a"));
     let cut = is_refused(&mut files, Ask::Truncate(0));
-    make_asked_call(&mut files, LogQueue::Append, Ask::Rotate(3))?;
+    make_call(&mut files, LogQueue::Append, Ask::Rotate(3))?;
     let number = is_refused(&mut files, Ask::Rotate(3));
     let last = is_refused(&mut files, Ask::DeleteOldest);
     Ok(
@@ -272,21 +272,21 @@ fn are_senseless_calls_refused(alloc: Global) -> Result<bool> {
 /// Tests whether a call of the append files is refused as `InvalidArgument`.
 fn is_refused(files: &mut MemoryFiles, asked: Ask) -> bool {
     matches!(
-        make_asked_call(files, LogQueue::Append, asked),
+        make_call(files, LogQueue::Append, asked),
         Err(Error::InvalidArgument(_))
     )
 }
 
 /// Tests that files in memory refuse calls that no file can carry out, such as a write where there is no file.
 #[test]
-fn memory_files_refuse_what_no_file_can_do(rt: HostRuntime) -> Result<()> {
+fn memory_files_refuse_impossible_calls(rt: HostRuntime) -> Result<()> {
     assert!(rt; are_senseless_calls_refused(rt.alloc())?);
     Ok(())
 }
 
 /// Tests that each call is noted and passed on, whether the files carry it out or fail.
 #[test]
-fn asks_are_noted(rt: HostRuntime) {
+fn calls_of_files_are_noted(rt: HostRuntime) {
     let mut files = Deaf {
         asked: Asked::new(),
         fails: false,

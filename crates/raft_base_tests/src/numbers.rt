@@ -469,7 +469,7 @@ impl Write for Limited {
 /// Tests that each of the fourteen numbers is written by a single write, whose error is passed on. A vector takes a
 /// write as a whole or not at all, so it never has a part of a number.
 #[test]
-fn numbers_are_written_at_once(rt: HostRuntime) {
+fn each_number_is_written_by_one_write(rt: HostRuntime) {
     for writes in 0..14 {
         let mut out = Limited { writes };
         assert!(rt;

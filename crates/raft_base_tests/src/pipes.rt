@@ -90,7 +90,7 @@ fn is_before(old: FileId, new: FileId) -> bool {
 }
 
 /// Returns the file that comes after the other.
-fn later_of(old: FileId, new: FileId) -> FileId {
+fn later_file_of(old: FileId, new: FileId) -> FileId {
     new.max(old)
 }
 
@@ -101,7 +101,7 @@ fn files_and_queues_have_numbers(rt: HostRuntime) {
     let new = FileId::new(LogQueue::Append, 0);
     assert!(rt; is_before(old, new));
     assert!(rt; is_before(new, FileId::new(LogQueue::Append, 1)));
-    assert!(rt; later_of(old, new) == new);
+    assert!(rt; later_file_of(old, new) == new);
     assert!(rt; LogQueue::Append as u8 == 0);
     assert!(rt; LogQueue::Rewrite as u8 == 1);
 }

@@ -87,7 +87,7 @@ fn read_size_value(alloc: Global, text: &str) -> Result<ReadableSize, SizeError>
 
 /// Tests that sizes are read from numbers and texts of TOML, and from no other value.
 #[test]
-fn values_are_read(rt: HostRuntime) {
+fn sizes_are_read_from_toml_values(rt: HostRuntime) {
     assert_eq!(rt;
         size_from_value(&Value::Integer(4096)),
         Ok(ReadableSize(4096))
@@ -130,7 +130,7 @@ fn make_two<T: Drop, F: Factory<T>>(alloc: Global, factory: &F) -> raft_base::Re
 
 /// Tests that a factory makes a value at each call.
 #[test]
-fn factories_give_targets(rt: HostRuntime) {
+fn a_factory_makes_a_value_at_each_call(rt: HostRuntime) {
     let both = make_two(rt.alloc(), &Sizes(512)).ok();
     assert_eq!(rt; both, Some((ReadableSize(512), ReadableSize(512))));
 }

@@ -101,7 +101,7 @@ fn open_changed_files<R: Threads + Sync>(
 /// # Errors
 ///
 /// That of `opened`; `Memory`.
-fn is_held_and_named(
+fn holds_text_and_names_batches(
     alloc: Global,
     opened: Result<Opened<MemoryFiles>>,
     text: &str,
@@ -127,7 +127,7 @@ fn is_row_answered<R: Threads + Sync>(
 ) -> Result<bool> {
     let opened = open_changed_files(rt, alloc, mode, row);
     match &row.2 {
-        Answer::Holds(text) => is_held_and_named(alloc, opened, text, row.3),
+        Answer::Holds(text) => holds_text_and_names_batches(alloc, opened, text, row.3),
         Answer::Says(text) => is_corruption_with_text(opened, text),
         Answer::Names(text) => is_invalid_argument_with_text(opened, text),
     }

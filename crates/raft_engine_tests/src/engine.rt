@@ -321,12 +321,12 @@ impl Engine {
         let Some(file) = self.files.last_mut() else {
             return Ok(());
         };
-        let part = part_with_file(file)?;
+        let part = part_with_copy_of_file(file)?;
         let (end, stopped) = readable_front(&part);
         let Some(reason) = stopped else {
             return Ok(());
         };
-        if matches!(reason, Error::Memory) || has_batch_behind(&part, end)? {
+        if matches!(reason, Error::Memory) || has_batch_after_unreadable_one(&part, end)? {
             return Err(reason);
         }
         file.bytes.truncate(end);
@@ -339,7 +339,7 @@ impl Engine {
         let Some(file) = self.files.last() else {
             return Ok(false);
         };
-        let part = part_with_file(file)?;
+        let part = part_with_copy_of_file(file)?;
         let (end, _) = readable_front(&part);
         for at in end..part.bytes().len() {
             if at > end && is_batch_readable(next_batch(&part, at))? {
@@ -426,7 +426,7 @@ impl Engine {
         let mut segment = Vec::new(self.alloc);
         for file in &self.files {
             if file.id.queue == queue {
-                segment.push(part_with_file(file)?)?;
+                segment.push(part_with_copy_of_file(file)?)?;
             }
         }
         Ok(segment)
@@ -447,7 +447,7 @@ fn entry_bytes_in_file(
     place: FileBlockHandle,
     entry: &EntryIndex,
 ) -> Result<Vec<u8>> {
-    let part = part_with_file(file)?;
+    let part = part_with_copy_of_file(file)?;
     let block = entries_block_in(&part, place)?;
     Ok(Vec::from_slice(alloc, entry_bytes(alloc, block, entry)?)?)
 }
@@ -455,7 +455,7 @@ fn entry_bytes_in_file(
 /// Tests whether a readable batch stands where the unreadable one at position `at` ends by its header. This is written without
 /// the engine under test, so that the test doesn't ask that whether it is right. Errors: `Memory` alone: any other error says
 /// that no batch can be read there.
-fn has_batch_behind(part: &FilePart, at: usize) -> Result<bool> {
+fn has_batch_after_unreadable_one(part: &FilePart, at: usize) -> Result<bool> {
     let mut bytes = part.bytes().get(at..).unwrap_or(b"");
     let Ok((_, _, len)) = LogBatch::decode_header(part.allocator(), &mut bytes) else {
         return Ok(false);
@@ -477,7 +477,7 @@ fn is_batch_readable<T: Drop>(read: Result<T>) -> Result<bool> {
 }
 
 /// Returns a copy of a file as a part. Errors: `Memory`; that of a file that is too long for a part.
-fn part_with_file(file: &LogFile) -> Result<FilePart> {
+fn part_with_copy_of_file(file: &LogFile) -> Result<FilePart> {
     FilePart::new(file.id, Version::V2, 0, file.bytes.clone()?)
 }
 

@@ -202,7 +202,7 @@ fn is_text_held<R: Threads + Sync>(
 
 /// Tests that groups whose batches follow one another are found, and stay when they move.
 #[test]
-fn groups_in_rows_are_found(rt: HostRuntime) {
+fn whole_groups_are_found(rt: HostRuntime) {
     for (row, (files, left)) in ROWS.iter().enumerate() {
         assert!(rt;
             holds!(are_groups_held(&rt, rt.alloc(), *files, left)),
@@ -226,7 +226,7 @@ fn are_rewrite_files_refused<R: Threads + Sync>(
 
 /// Tests that rewrite files are refused in which the batches of a group don't follow one another.
 #[test]
-fn groups_out_of_rows_are_refused(rt: HostRuntime) {
+fn interleaved_groups_are_refused(rt: HostRuntime) {
     for (row, files) in OUT.iter().enumerate() {
         assert!(rt;
             holds!(are_rewrite_files_refused(&rt, rt.alloc(), *files)),

@@ -126,7 +126,7 @@ fn new_engine(alloc: Global, before: usize) -> Result<Engine<FullOnce>> {
 /// # Errors
 ///
 /// `Failed` if it left one that isn't intact. Any other error is passed on.
-fn is_to_repeat<T: Drop>(engine: &Engine<FullOnce>, answer: Result<T>) -> Result<bool> {
+fn has_found_no_room<T: Drop>(engine: &Engine<FullOnce>, answer: Result<T>) -> Result<bool> {
     match answer {
         Ok(_) => Ok(false),
         Err(Error::Io(_)) if engine.is_intact() => Ok(true),
@@ -149,11 +149,15 @@ fn write_whole(engine: &mut Engine<FullOnce>, batch: &mut LogBatch) -> Result<()
 ///
 /// # Errors
 ///
-/// Those of [`is_to_repeat`], and of the second write; `Memory`.
-fn is_written(alloc: Global, engine: &mut Engine<FullOnce>, parts: &[Part]) -> Result<bool> {
+/// Those of [`has_found_no_room`], and of the second write; `Memory`.
+fn is_written_at_second_try(
+    alloc: Global,
+    engine: &mut Engine<FullOnce>,
+    parts: &[Part],
+) -> Result<bool> {
     let mut batch = batch_of_parts(alloc, parts)?;
     let answer = write_whole(engine, &mut batch);
-    if is_to_repeat(engine, answer)? {
+    if has_found_no_room(engine, answer)? {
         if batch.items().len() != parts.len() {
             return Ok(false);
         }
@@ -166,11 +170,11 @@ fn is_written(alloc: Global, engine: &mut Engine<FullOnce>, parts: &[Part]) -> R
 ///
 /// # Errors
 ///
-/// Those of beginning a file, of [`is_to_repeat`], and of the second move.
-fn move_all(engine: &mut Engine<FullOnce>) -> Result<()> {
+/// Those of beginning a file, of [`has_found_no_room`], and of the second move.
+fn move_all_at_second_try(engine: &mut Engine<FullOnce>) -> Result<()> {
     rotate(engine)?;
     let answer = rewrite_up_to(engine, FileSeq::MAX);
-    if is_to_repeat(engine, answer)? {
+    if has_found_no_room(engine, answer)? {
         rewrite_up_to(engine, FileSeq::MAX)?;
     }
     Ok(())
@@ -180,11 +184,11 @@ fn move_all(engine: &mut Engine<FullOnce>) -> Result<()> {
 ///
 /// # Errors
 ///
-/// Those of beginning a file, of [`is_to_repeat`], and of the second purge.
-fn purge_all(engine: &mut Engine<FullOnce>) -> Result<bool> {
+/// Those of beginning a file, of [`has_found_no_room`], and of the second purge.
+fn purge_append_files_at_second_try(engine: &mut Engine<FullOnce>) -> Result<bool> {
     rotate(engine)?;
     let answer = purge_append_files(engine);
-    if is_to_repeat(engine, answer)? {
+    if has_found_no_room(engine, answer)? {
         purge_append_files(engine)?;
     }
     Ok(engine.files().files.files(LogQueue::Append).len() == 1)
@@ -195,10 +199,10 @@ fn purge_all(engine: &mut Engine<FullOnce>) -> Result<bool> {
 ///
 /// # Errors
 ///
-/// Those of [`is_to_repeat`], of the second move, and of the purge.
-fn move_again(engine: &mut Engine<FullOnce>) -> Result<bool> {
+/// Those of [`has_found_no_room`], of the second move, and of the purge.
+fn rewrite_again_at_second_try(engine: &mut Engine<FullOnce>) -> Result<bool> {
     let answer = rewrite_again(engine);
-    if is_to_repeat(engine, answer)? {
+    if has_found_no_room(engine, answer)? {
         rewrite_again(engine)?;
     }
     purge_rewrite_files(engine)?;
@@ -210,39 +214,39 @@ fn move_again(engine: &mut Engine<FullOnce>) -> Result<bool> {
 ///
 /// # Errors
 ///
-/// Those of [`is_to_repeat`], and of calls that are made once more; `Memory`.
-fn is_lived(alloc: Global, engine: &mut Engine<FullOnce>) -> Result<bool> {
-    if !is_written(alloc, engine, &[Entries(1, 3), Put("v")])? {
+/// Those of [`has_found_no_room`], and of calls that are made once more; `Memory`.
+fn does_life_succeed(alloc: Global, engine: &mut Engine<FullOnce>) -> Result<bool> {
+    if !is_written_at_second_try(alloc, engine, &[Entries(1, 3), Put("v")])? {
         return Ok(false);
     }
-    move_all(engine)?;
-    if !is_written(alloc, engine, &[Entries(3, 5), Delete])? {
+    move_all_at_second_try(engine)?;
+    if !is_written_at_second_try(alloc, engine, &[Entries(3, 5), Delete])? {
         return Ok(false);
     }
-    move_all(engine)?;
-    Ok(purge_all(engine)? && move_again(engine)?)
+    move_all_at_second_try(engine)?;
+    Ok(purge_append_files_at_second_try(engine)? && rewrite_again_at_second_try(engine)?)
 }
 
 /// Tests whether an engine has the entries 1 to 4, and no key.
-fn has_entries(engine: &Engine<FullOnce>) -> bool {
+fn has_entries_1_to_4(engine: &Engine<FullOnce>) -> bool {
     engine.first_index(REGION) == Some(1)
         && engine.last_index(REGION) == Some(4)
         && engine.get(REGION, b"k").is_none()
 }
 
-/// Tests whether an engine that finds no room once, behind `before` appends, goes on as [`is_lived`] says, and holds
+/// Tests whether an engine that finds no room once, behind `before` appends, goes on as [`does_life_succeed`] says, and holds
 /// what it should, before and after a restart.
 ///
 /// # Errors
 ///
-/// Those of [`is_lived`], and of the opening; `Memory`.
+/// Those of [`does_life_succeed`], and of the opening; `Memory`.
 fn lives<R: Threads + Sync>(rt: &R, alloc: Global, before: usize) -> Result<bool> {
     let mut engine = new_engine(alloc, before)?;
     Ok(
-        is_lived(alloc, &mut engine)?
+        does_life_succeed(alloc, &mut engine)?
             && engine.files().was_full
-            && has_entries(&engine)
-            && is_found(rt, alloc, &engine.files().files)?,
+            && has_entries_1_to_4(&engine)
+            && are_entries_found_reopened(rt, alloc, &engine.files().files)?,
     )
 }
 
@@ -251,7 +255,11 @@ fn lives<R: Threads + Sync>(rt: &R, alloc: Global, before: usize) -> Result<bool
 /// # Errors
 ///
 /// Those of the opening; `Memory`.
-fn is_found<R: Threads + Sync>(rt: &R, alloc: Global, files: &MemoryFiles) -> Result<bool> {
+fn are_entries_found_reopened<R: Threads + Sync>(
+    rt: &R,
+    alloc: Global,
+    files: &MemoryFiles,
+) -> Result<bool> {
     let append = files.copies(LogQueue::Append)?;
     let found = open_copies(rt, alloc, append, files.copies(LogQueue::Rewrite)?)?;
     has_text(alloc, &found, "[1,5)")

@@ -125,7 +125,7 @@ fn count_opening(opened: OpenedInMode, file: &File, counts: &mut Counts) -> Resu
 /// # Errors
 ///
 /// Those of [`count_opening`]; `Memory`.
-fn is_zeroed_place_fine<R: Threads + Sync>(
+fn is_zeroed_page_refused_read_or_named<R: Threads + Sync>(
     rt: &R,
     alloc: Global,
     file: &File,
@@ -142,8 +142,11 @@ fn is_zeroed_place_fine<R: Threads + Sync>(
 ///
 /// # Errors
 ///
-/// Those of [`write_file_of_pages`] and [`is_zeroed_place_fine`].
-fn are_all_zeroed_places_fine<R: Threads + Sync>(rt: &R, alloc: Global) -> Result<bool> {
+/// Those of [`write_file_of_pages`] and [`is_zeroed_page_refused_read_or_named`].
+fn are_all_zeroed_pages_refused_read_or_named<R: Threads + Sync>(
+    rt: &R,
+    alloc: Global,
+) -> Result<bool> {
     let file = write_file_of_pages(alloc)?;
     let mut counts = Counts {
         opened: 0,
@@ -151,7 +154,7 @@ fn are_all_zeroed_places_fine<R: Threads + Sync>(rt: &R, alloc: Global) -> Resul
         refused: 0,
     };
     for place in 0..PLACES {
-        if !is_zeroed_place_fine(rt, alloc, &file, place, &mut counts)? {
+        if !is_zeroed_page_refused_read_or_named(rt, alloc, &file, place, &mut counts)? {
             return Ok(false);
         }
     }
@@ -165,5 +168,5 @@ fn are_all_zeroed_places_fine<R: Threads + Sync>(rt: &R, alloc: Global) -> Resul
 /// Tests that an opening never loses an entry silently if a page of the last file has zeros.
 #[test]
 fn what_a_page_of_zeros_leaves_is_read_or_named(rt: HostRuntime) {
-    assert!(rt; holds!(are_all_zeroed_places_fine(&rt, rt.alloc())));
+    assert!(rt; holds!(are_all_zeroed_pages_refused_read_or_named(&rt, rt.alloc())));
 }

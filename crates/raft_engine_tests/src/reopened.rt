@@ -418,7 +418,7 @@ fn are_both_refused<R: Threads + Sync>(rt: &R, alloc: Global, fronts: &Prefixes)
 
 /// Tests whether openings refuse a file of [`WRITES`] whose first batch is damaged, and two files of one number. Errors:
 /// that of an opening, unless it is `Corruption`; those of writing the file; `Memory`.
-fn is_what_no_crash_leaves_refused<R: Threads + Sync>(rt: &R, alloc: Global) -> Result<bool> {
+fn is_damage_or_equal_number_refused<R: Threads + Sync>(rt: &R, alloc: Global) -> Result<bool> {
     let fronts = write_prefixes(alloc)?;
     are_both_refused(rt, alloc, &fronts)
 }
@@ -426,5 +426,5 @@ fn is_what_no_crash_leaves_refused<R: Threads + Sync>(rt: &R, alloc: Global) -> 
 /// Tests that an opening refuses files that no crash leaves.
 #[test]
 fn what_no_crash_leaves_is_refused(rt: HostRuntime) {
-    assert!(rt; holds!(is_what_no_crash_leaves_refused(&rt, rt.alloc())));
+    assert!(rt; holds!(is_damage_or_equal_number_refused(&rt, rt.alloc())));
 }

@@ -15,7 +15,7 @@ use std::alloc::Global;
 use std::thread::Threads;
 
 /// Cites the law that says what an opening of the files of `engine` gives.
-fn state_that_what_is_left_is_opened(engine: &Engine<MemoryFiles>) {
+fn cite_law_of_opening(engine: &Engine<MemoryFiles>) {
     engine.what_is_left_is_opened();
 }
 
@@ -24,12 +24,12 @@ fn state_that_what_is_left_is_opened(engine: &Engine<MemoryFiles>) {
 /// # Errors
 ///
 /// Those of the opening; `Memory`.
-fn reopen_and_state<R: Threads + Sync>(
+fn reopen_and_cite_law<R: Threads + Sync>(
     rt: &R,
     alloc: Global,
     engine: &Engine<MemoryFiles>,
 ) -> Result<Engine<MemoryFiles>> {
-    state_that_what_is_left_is_opened(engine);
+    cite_law_of_opening(engine);
     reopen_over_copies(rt, alloc, engine)
 }
 
@@ -67,7 +67,7 @@ fn is_all_found_by_second<R: Threads + Sync>(
     alloc: Global,
     engine: &Engine<MemoryFiles>,
 ) -> Result<bool> {
-    let mut second = reopen_and_state(rt, alloc, engine)?;
+    let mut second = reopen_and_cite_law(rt, alloc, engine)?;
     write_parts(alloc, &mut second, &[Compact(3), Put("w")], true)?;
     is_all_found_by_third(rt, alloc, &second)
 }
@@ -82,8 +82,8 @@ fn is_all_found_by_third<R: Threads + Sync>(
     alloc: Global,
     second: &Engine<MemoryFiles>,
 ) -> Result<bool> {
-    let third = reopen_and_state(rt, alloc, second)?;
-    state_that_what_is_left_is_opened(&third);
+    let third = reopen_and_cite_law(rt, alloc, second)?;
+    cite_law_of_opening(&third);
     has_text(alloc, &third, "[3,6)k=w")
 }
 
@@ -196,7 +196,7 @@ fn reopen_with_removal<R: Threads + Sync>(
     removal: &Removal,
 ) -> Result<Engine<MemoryFiles>> {
     let engine = engine_with_removal(alloc, removal)?;
-    reopen_and_state(rt, alloc, &engine)
+    reopen_and_cite_law(rt, alloc, &engine)
 }
 
 /// Tests whether what was taken away stays away: in a restart, in a purge of the file with the batches, and in one more

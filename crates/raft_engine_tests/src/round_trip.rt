@@ -55,7 +55,7 @@ pub(crate) fn batch_cleaning_region_8(alloc: Global) -> Result<LogBatch> {
 }
 
 /// Gives the items of a batch their places in file 4 of the rewrite queue. Errors: `Failed` for one that isn't open; `Memory`; `Full`.
-fn give_places(mut batch: LogBatch) -> Result<LogBatch> {
+fn with_places_in_rewrite_file_4(mut batch: LogBatch) -> Result<LogBatch> {
     if !batch.is_open() {
         return Err(Error::Failed);
     }
@@ -95,7 +95,7 @@ fn write_both_files(alloc: Global, engine: &mut Engine<MemoryFiles>) -> Result<(
 }
 
 /// Cites the law that says what a recovery of the files of `engine` gives.
-fn state_that_what_was_written_is_recovered(engine: &Engine<MemoryFiles>) {
+fn cite_law_of_recovery(engine: &Engine<MemoryFiles>) {
     engine.what_was_written_is_recovered();
 }
 
@@ -162,7 +162,7 @@ fn are_tables_recovered_from<R: Threads + Sync>(
     alloc: Global,
     engine: &Engine<MemoryFiles>,
 ) -> Result<bool> {
-    state_that_what_was_written_is_recovered(engine);
+    cite_law_of_recovery(engine);
     Ok(
         engine.is_intact()
             && are_lines_printed(alloc, engine.accessor(), WRITTEN)?
@@ -218,7 +218,7 @@ fn has_written_tables<R: Threads + Sync>(
     alloc: Global,
     engine: &Engine<MemoryFiles>,
 ) -> Result<bool> {
-    state_that_what_was_written_is_recovered(engine);
+    cite_law_of_recovery(engine);
     Ok(
         engine.is_intact()
             && last_append_seq(engine) == Some(2)
@@ -236,7 +236,7 @@ fn recover_written_tables<R: Threads + Sync>(rt: &R, alloc: Global) -> Result<Me
 
 /// Moves the records of region 7 in `tables` to file 4 of the rewrite queue. Errors: those of the tables; `Memory`.
 fn rewrite_records(alloc: Global, tables: &mut MemTableAccessor) -> Result<()> {
-    let mut moved = give_places(batch_of_entry_and_key(alloc)?)?;
+    let mut moved = with_places_in_rewrite_file_4(batch_of_entry_and_key(alloc)?)?;
     tables.apply_rewrite_writes(moved.drain(), Some(1), 4)
 }
 
@@ -255,7 +255,7 @@ fn are_records_rewritten(alloc: Global, tables: &mut MemTableAccessor) -> Result
 
 /// Tests whether recovered tables take a rewriting that moves their records, and hand out the cleaned regions. Errors: those
 /// of the engine's calls, the recovery and the tables; `Memory`.
-fn is_rewriting_taken<R: Threads + Sync>(rt: &R, alloc: Global) -> Result<bool> {
+fn do_recovered_tables_take_rewriting<R: Threads + Sync>(rt: &R, alloc: Global) -> Result<bool> {
     let mut tables = recover_written_tables(rt, alloc)?;
     are_records_rewritten(alloc, &mut tables)
 }
@@ -285,7 +285,7 @@ fn do_records_move<R: Threads + Sync>(
     engine: &mut Engine<MemoryFiles>,
 ) -> Result<bool> {
     rewrite_up_to(engine, 1)?;
-    state_that_what_was_written_is_recovered(engine);
+    cite_law_of_recovery(engine);
     Ok(
         are_lines_printed(alloc, engine.accessor(), MOVED)?
             && is_recovered_by_workers(rt, alloc, engine, 4)?,
@@ -307,7 +307,7 @@ fn written_files_are_opened_with_their_tables(rt: HostRuntime) {
 /// Tests that tables of a recovery take a rewriting, and hand out their cleaned regions.
 #[test]
 fn recovered_tables_take_a_rewriting(rt: HostRuntime) {
-    assert!(rt; holds!(is_rewriting_taken(&rt, rt.alloc())));
+    assert!(rt; holds!(do_recovered_tables_take_rewriting(&rt, rt.alloc())));
 }
 
 /// Tests that an engine moves records to the rewrite file that it found, and its append files still have them.
@@ -321,12 +321,12 @@ fn an_engine_moves_records_to_the_rewrite_queue(rt: HostRuntime) {
 fn is_number_refused(alloc: Global, seq: FileSeq) -> Result<bool> {
     let engine = engine_with_two_files(alloc)?;
     let mut files = MemoryFiles::found(copy_files(&engine, LogQueue::Append)?, Vec::new(alloc));
-    are_files_left(alloc, &mut files, &engine, seq)
+    are_files_unchanged_by_refused_rotation(alloc, &mut files, &engine, seq)
 }
 
 /// Tests whether `files` refuse to begin the append file `seq`, and have the same files as before. Errors: that of the files,
 /// unless it is `InvalidArgument`; `Memory`.
-fn are_files_left(
+fn are_files_unchanged_by_refused_rotation(
     alloc: Global,
     files: &mut MemoryFiles,
     engine: &Engine<MemoryFiles>,
@@ -360,7 +360,7 @@ static NUMBERS: [(&[FileSeq], bool); 8] = [
 
 /// Tests whether an engine can be opened over empty append files with these numbers, or they are refused as damage, as
 /// `is_opened` says. Errors: that of the opening, unless it is `Corruption`; `Memory`.
-fn is_opened_or_refused<R: Threads + Sync>(
+fn are_file_numbers_accepted_as_expected<R: Threads + Sync>(
     rt: &R,
     alloc: Global,
     numbers: &[FileSeq],
@@ -379,20 +379,20 @@ fn is_opened_or_refused<R: Threads + Sync>(
 fn files_are_opened_whose_numbers_are_consecutive(rt: HostRuntime) {
     for (numbers, is_opened) in &NUMBERS {
         assert!(rt;
-            holds!(is_opened_or_refused(&rt, rt.alloc(), numbers, *is_opened)),
+            holds!(are_file_numbers_accepted_as_expected(&rt, rt.alloc(), numbers, *is_opened)),
             "{numbers:?}"
         );
     }
 }
 
 /// Tests whether an engine goes on to 300 append files. Errors: those of the engine's calls; `Memory`.
-fn has_many_files(alloc: Global) -> Result<bool> {
+fn can_have_300_files(alloc: Global) -> Result<bool> {
     let mut engine = new_engine(alloc)?;
-    begins_many_files(&mut engine)
+    does_rotate_to_300_files(&mut engine)
 }
 
 /// Begins append files up to number 300. Tests whether all of them are there. Errors: those of [`rotate`]; `Memory`.
-fn begins_many_files(engine: &mut Engine<MemoryFiles>) -> Result<bool> {
+fn does_rotate_to_300_files(engine: &mut Engine<MemoryFiles>) -> Result<bool> {
     for _ in 2..=300 {
         rotate(engine)?;
     }
@@ -405,7 +405,7 @@ fn begins_many_files(engine: &mut Engine<MemoryFiles>) -> Result<bool> {
 /// Tests that an engine can have hundreds of append files.
 #[test]
 fn an_engine_goes_on_to_300_append_files(rt: HostRuntime) {
-    assert!(rt; holds!(has_many_files(rt.alloc())));
+    assert!(rt; holds!(can_have_300_files(rt.alloc())));
 }
 
 /// Returns a batch with one entry of region 7, which has this text. Errors: those of [`batch_with_entry`].

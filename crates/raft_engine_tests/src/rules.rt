@@ -17,7 +17,7 @@ use std::process::Abort;
 /// # Errors
 ///
 /// Those of the steps and of reading the files; `Memory`.
-fn does_history_end_so(alloc: Global, case: &Case) -> Result<bool> {
+fn does_history_end_as_case_says(alloc: Global, case: &Case) -> Result<bool> {
     let mut engine = Engine::new(alloc)?;
     does_history_end_so_in(&mut engine, case)
 }
@@ -108,10 +108,10 @@ fn is_entry_not_found(answer: Result<()>) -> Result<bool> {
 }
 
 /// Asserts that each history of the table named `table` ends as its case says.
-fn assert_all_end_so(rt: &impl Abort, alloc: Global, table: &str, cases: &[Case]) {
+fn assert_histories_end_as_cases_say(rt: &impl Abort, alloc: Global, table: &str, cases: &[Case]) {
     for (row, case) in cases.iter().enumerate() {
         assert!(rt;
-            holds!(does_history_end_so(alloc, case)),
+            holds!(does_history_end_as_case_says(alloc, case)),
             "{table}: row {row}"
         );
     }
@@ -120,10 +120,10 @@ fn assert_all_end_so(rt: &impl Abort, alloc: Global, table: &str, cases: &[Case]
 /// Tests what each history keeps in its tables, and what a restart finds.
 #[test]
 fn histories_end_as_their_cases_say(rt: HostRuntime) {
-    assert_all_end_so(&rt, rt.alloc(), "removals", removals::cases());
-    assert_all_end_so(&rt, rt.alloc(), "groups", groups::cases());
-    assert_all_end_so(&rt, rt.alloc(), "rewritings", rewritings::cases());
-    assert_all_end_so(&rt, rt.alloc(), "failures", failures::cases());
+    assert_histories_end_as_cases_say(&rt, rt.alloc(), "removals", removals::cases());
+    assert_histories_end_as_cases_say(&rt, rt.alloc(), "groups", groups::cases());
+    assert_histories_end_as_cases_say(&rt, rt.alloc(), "rewritings", rewritings::cases());
+    assert_histories_end_as_cases_say(&rt, rt.alloc(), "failures", failures::cases());
 }
 
 /// Tests that a move is refused of entries that were replaced after they were read.
@@ -139,7 +139,7 @@ fn replaced_entries_are_not_moved(rt: HostRuntime) {
 
 /// Tests that an entry can't be read whose file was deleted too early.
 #[test]
-fn entries_of_deleted_files_are_missed(rt: HostRuntime) {
+fn entries_of_deleted_files_are_not_found(rt: HostRuntime) {
     for (row, steps) in histories_that_miss_a_file().iter().enumerate() {
         assert!(rt;
             holds!(does_last_step_miss_file(rt.alloc(), steps)),
@@ -312,7 +312,7 @@ fn write_unsynced_batches(engine: &mut Engine) -> Result<(usize, usize)> {
 /// # Errors
 ///
 /// Those of the steps and of reading the files; `Memory`.
-fn is_nothing_cut_for_hole(alloc: Global) -> Result<bool> {
+fn is_hole_left_uncut(alloc: Global) -> Result<bool> {
     let (mut engine, first, second) = engine_with_unsynced_batches(alloc)?;
     engine.lose_page(first.saturating_add(HEADER), second);
     is_cut_refused(&mut engine)
@@ -438,7 +438,7 @@ fn torn_tails_are_told_from_damage(rt: HostRuntime) {
 #[test]
 fn prefixes_are_opened_and_holes_refused(rt: HostRuntime) {
     let alloc = rt.alloc();
-    assert!(rt; holds!(is_nothing_cut_for_hole(alloc)));
+    assert!(rt; holds!(is_hole_left_uncut(alloc)));
     assert!(rt; holds!(is_synced_found_without_header(alloc)));
     assert!(rt; holds!(are_unsynced_prefixes_opened(alloc)));
     assert!(rt; holds!(is_synced_found_without_page(alloc)));

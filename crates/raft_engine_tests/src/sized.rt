@@ -154,7 +154,12 @@ fn bytes_of_two_files(alloc: Global) -> Result<(Vec<u8>, Vec<u8>)> {
 /// # Errors
 ///
 /// `Memory` alone.
-fn two_files_of_row(alloc: Global, first: &[u8], second: &[u8], row: &Row) -> Result<TwoFiles> {
+fn with_missing_bytes_of_row(
+    alloc: Global,
+    first: &[u8],
+    second: &[u8],
+    row: &Row,
+) -> Result<TwoFiles> {
     let (left, _) = second.split_at(second.len().saturating_sub(row.0));
     Ok(TwoFiles {
         first: Vec::from_slice(alloc, first)?,
@@ -222,7 +227,7 @@ fn is_row_opened<R: Threads + Sync>(
 fn are_rows_opened<R: Threads + Sync>(rt: &R, alloc: Global) -> Result<bool> {
     let (first, second) = bytes_of_two_files(alloc)?;
     for row in &ROWS {
-        let held = two_files_of_row(alloc, first.as_slice(), second.as_slice(), row)?;
+        let held = with_missing_bytes_of_row(alloc, first.as_slice(), second.as_slice(), row)?;
         if !is_row_opened(rt, alloc, &held, row)? {
             return Ok(false);
         }

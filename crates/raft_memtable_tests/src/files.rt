@@ -54,7 +54,7 @@ pub(crate) fn context_of_files(
 /// # Errors
 ///
 /// Those of [`ReadBatch::read_next`] and [`MemTableRecoverContext::replay_read`].
-pub(crate) fn read_and_replay(
+pub(crate) fn replay_without_copy(
     context: &mut MemTableRecoverContext,
     file: &FilePart,
     id: FileId,

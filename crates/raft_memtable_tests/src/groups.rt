@@ -69,7 +69,7 @@ pub(crate) fn part_with_marker(
 pub(crate) type Effect = ([bool; 4], Option<(u64, u64)>);
 
 /// Returns which keys the table of a region has, and the files of its last group.
-pub(crate) fn effect_on_region(accessor: &MemTableAccessor, region: u64) -> Effect {
+pub(crate) fn keys_and_group_of_region(accessor: &MemTableAccessor, region: u64) -> Effect {
     match accessor.get(region) {
         Some(table) => (
             KEYS.map(|key| table.get(key.as_slice()).is_some()),

@@ -1,7 +1,7 @@
 //! Tests contexts with many regions, many groups, long stretches, many deleted keys, long runs and many batches.
 
 use crate::files::{context_of_files, file_with_batch, replay_file};
-use crate::groups::{add_marker, effect_on_region, part_with_marker, rewrite_file};
+use crate::groups::{add_marker, keys_and_group_of_region, part_with_marker, rewrite_file};
 use crate::overlays::{Word, context_of_words};
 use AtomicGroupStatus::{Begin, End};
 use raft_memtable::{
@@ -69,7 +69,8 @@ fn do_all_groups_take_effect(alloc: Global) -> Result<bool> {
     for group in 0..GROUPS {
         let end = group.saturating_add(GROUPS / 2) % GROUPS;
         let files = (group.saturating_add(1), end.saturating_add(101));
-        all &= effect_on_region(&accessor, group) == ([true, true, false, false], Some(files));
+        all &= keys_and_group_of_region(&accessor, group)
+            == ([true, true, false, false], Some(files));
     }
     Ok(all)
 }

@@ -1,7 +1,7 @@
 //! Tests all lists of four group markers, read by one context and by several that are merged.
 
-use crate::files::{context_of_files, read_and_replay};
-use crate::groups::{Effect, KEYS, effect_on_region, part_with_marker};
+use crate::files::{context_of_files, replay_without_copy};
+use crate::groups::{Effect, KEYS, keys_and_group_of_region, part_with_marker};
 use AtomicGroupStatus::{Begin, End, Middle};
 use raft_memtable::{LogQueue, MemTableAccessor, MemTableRecoverContext, Result};
 use raft_records::{AtomicGroupStatus, FilePart};
@@ -153,7 +153,7 @@ fn tables_at_cutting(
 /// Tests whether the tables have this effect, and nothing else.
 fn have_effect(tables: &MemTableAccessor, effect: Effect) -> bool {
     let records = effect.0.iter().filter(|has| **has).count();
-    effect_on_region(tables, 5) == effect
+    keys_and_group_of_region(tables, 5) == effect
         && tables.get(9).is_none()
         && tables.stats().live_entries(LogQueue::Rewrite) == records
         && tables.is_empty() == (records == 0)
@@ -167,7 +167,7 @@ fn have_effect(tables: &MemTableAccessor, effect: Effect) -> bool {
 fn tables_of_one_context(alloc: Global, parts: &[FilePart]) -> Result<MemTableAccessor> {
     let mut context = MemTableRecoverContext::new(alloc)?;
     for part in parts {
-        read_and_replay(&mut context, part, part.id())?;
+        replay_without_copy(&mut context, part, part.id())?;
     }
     context.finish()
 }

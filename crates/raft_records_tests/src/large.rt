@@ -81,7 +81,7 @@ fn part_with_large_batch(alloc: Global) -> Result<FilePart> {
 }
 
 /// Tests whether there are `len` bytes, all of them equal to `byte`.
-fn are_equal_to(bytes: &[u8], len: usize, byte: u8) -> bool {
+fn are_all_bytes_equal(bytes: &[u8], len: usize, byte: u8) -> bool {
     for found in bytes {
         if *found != byte {
             return false;
@@ -106,7 +106,7 @@ fn has_entry_bytes(alloc: Global, part: &FilePart) -> Result<bool> {
     let mut index = 0u64;
     for text in entries.as_slice().chunks(LENGTH) {
         index = index.saturating_add(1);
-        if !are_equal_to(text, LENGTH, (index % 251) as u8) {
+        if !are_all_bytes_equal(text, LENGTH, (index % 251) as u8) {
             return Ok(false);
         }
     }
@@ -126,7 +126,7 @@ fn is_item_complete(item: &LogItem) -> bool {
             None => false,
         },
         LogItemContent::Kv(kv) => match &kv.value {
-            Some(value) => are_equal_to(value.as_slice(), VALUE, 0xab),
+            Some(value) => are_all_bytes_equal(value.as_slice(), VALUE, 0xab),
             None => false,
         },
         LogItemContent::Command(_) => false,
@@ -153,7 +153,7 @@ fn is_large_batch_read(alloc: Global) -> Result<bool> {
 
 /// Tests that a batch of large items is read as it was made, with the bytes of each entry.
 #[test]
-fn large_batches_are_read_again(rt: HostRuntime) {
+fn large_batches_are_read_as_they_were_written(rt: HostRuntime) {
     assert!(rt; matches!(again!(is_large_batch_read(rt.alloc())), Ok(true)));
 }
 
@@ -205,7 +205,7 @@ fn are_many_items_read(alloc: Global) -> Result<bool> {
 
 /// Tests that a batch of many items is read as it was made.
 #[test]
-fn many_items_are_read_again(rt: HostRuntime) {
+fn batches_of_many_items_are_read_as_they_were_written(rt: HostRuntime) {
     assert!(rt; matches!(again!(are_many_items_read(rt.alloc())), Ok(true)));
 }
 

@@ -321,7 +321,7 @@ fn make_numbered_call(alloc: Global, batch: &mut LogBatch, number: usize) -> Res
 
 /// Tests for each addition to a batch why it is refused, if it is, and that a refused one leaves the batch as it was.
 #[test]
-fn refused_additions_leave_the_batch(rt: HostRuntime) {
+fn refused_additions_leave_the_batch_unchanged(rt: HostRuntime) {
     assert!(rt; again!(check_each_refused_addition(&rt, rt.alloc())).is_ok());
 }
 
@@ -363,7 +363,7 @@ fn check_each_refused_addition(rt: &impl Abort, alloc: Global) -> Result<()> {
 
 /// Tests whether a batch whose bytes in a file are asked for is then equal to its clone that was signed for the same
 /// file. Errors: those of the batch's calls; `Memory`.
-fn is_only_signed(alloc: Global) -> Result<bool> {
+fn is_only_signed_by_asking_for_bytes(alloc: Global) -> Result<bool> {
     let mut batch = batch_with_each_kind_of_item(alloc)?;
     batch.finish_populate()?;
     let mut signed = batch.clone()?;
@@ -384,8 +384,13 @@ fn is_only_signed(alloc: Global) -> Result<bool> {
 
 /// Tests that asking a batch for its bytes in a file does no more than signing it for that file.
 #[test]
-fn asked_bytes_leave_the_batch(rt: HostRuntime) {
-    assert!(rt; matches!(again!(is_only_signed(rt.alloc())), Ok(true)));
+fn asking_for_bytes_only_signs_the_batch(rt: HostRuntime) {
+    assert!(rt;
+        matches!(
+            again!(is_only_signed_by_asking_for_bytes(rt.alloc())),
+            Ok(true)
+        )
+    );
 }
 
 /// The bytes, in file 12, of a batch that cleans region 8.
@@ -412,7 +417,7 @@ fn has_size_and_bytes(batch: &LogBatch, size: usize, bytes: &[u8]) -> Result<boo
 
 /// Tests whether a list whose second line can't be encoded is refused, and leaves an open batch with its items as it
 /// was. Errors: `Memory`.
-fn is_left_by_refusal(batch: &mut LogBatch) -> Result<bool> {
+fn is_left_unchanged_by_refusal(batch: &mut LogBatch) -> Result<bool> {
     let before = batch.clone()?;
     if !batch.is_open() {
         return Ok(false);
@@ -424,10 +429,10 @@ fn is_left_by_refusal(batch: &mut LogBatch) -> Result<bool> {
 
 /// Tests whether a batch has the bytes that it had before, after a list that was refused; and after the next list those
 /// that it would have without the refusal. An empty list then adds nothing. Errors: those of the batch's calls; `Memory`.
-fn goes_on_after_refusal(alloc: Global) -> Result<bool> {
+fn takes_items_after_refusal(alloc: Global) -> Result<bool> {
     let mut batch = LogBatch::default(alloc);
     batch.add_command(8, Command::Clean)?;
-    if !is_left_by_refusal(&mut batch)?
+    if !is_left_unchanged_by_refusal(&mut batch)?
         || !has_size_and_bytes(&batch, 42, BEFORE)?
         || !batch.is_open()
     {
@@ -440,8 +445,8 @@ fn goes_on_after_refusal(alloc: Global) -> Result<bool> {
 
 /// Tests that a list with a message that can't be encoded leaves the batch as it was, and that the batch goes on.
 #[test]
-fn refused_messages_leave_the_batch(rt: HostRuntime) {
-    assert!(rt; matches!(again!(goes_on_after_refusal(rt.alloc())), Ok(true)));
+fn refused_messages_leave_the_batch_unchanged(rt: HostRuntime) {
+    assert!(rt; matches!(again!(takes_items_after_refusal(rt.alloc())), Ok(true)));
 }
 
 /// Tests whether the builder of a group has the status of the last group marker that it has added. Errors: those of the

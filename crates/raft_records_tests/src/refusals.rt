@@ -339,7 +339,7 @@ fn row_holds(alloc: Global, row: &Row) -> Result<bool> {
 
 /// Tests that the bytes of each row are read, or are refused with its text and left unread.
 #[test]
-fn bytes_are_read_or_refused_and_left(rt: HostRuntime) {
+fn bytes_are_read_or_refused_and_left_unread(rt: HostRuntime) {
     assert!(rt; again!(check_each_refusal_row(&rt, rt.alloc())).is_ok());
 }
 

@@ -240,7 +240,7 @@ fn row_holds(alloc: Global, row: &Row) -> Result<bool> {
 /// Tests for each tail where the next sound batch is, where one signed for another file, and whether it is the rest
 /// of one batch.
 #[test]
-fn stops_are_told_apart(rt: HostRuntime) {
+fn torn_tails_are_told_from_damaged_batches(rt: HostRuntime) {
     assert!(rt; again!(check_each_tail_row(&rt, rt.alloc())).is_ok());
 }
 
@@ -259,7 +259,7 @@ fn check_each_tail_row(rt: &impl Abort, alloc: Global) -> Result<()> {
 
 /// Tests that each shorter prefix of a batch can be what is left of one batch, and that the whole batch can't.
 #[test]
-fn prefixes_of_a_batch_can_be_its_rest(rt: HostRuntime) {
+fn only_shorter_prefixes_can_be_the_rest_of_a_batch(rt: HostRuntime) {
     assert!(rt; again!(check_prefixes_of_a_batch(&rt, rt.alloc())).is_ok());
 }
 

@@ -323,8 +323,8 @@ fn merge_two_stores(
     newer: Call,
     is_append: bool,
 ) -> Result<(Answer, Shape, bool)> {
-    let mut store = LogStore::after_calls(alloc, &[older])?;
-    let mut table = LogStore::after_calls(alloc, &[newer])?.table;
+    let mut store = LogStore::with_calls(alloc, &[older])?;
+    let mut table = LogStore::with_calls(alloc, &[newer])?.table;
     let before = indexes_and_counts(&table);
     let given = store.merge(&mut table, is_append);
     let left = if given.is_ok() { EMPTY } else { before };
@@ -366,13 +366,13 @@ fn is_corruption_with_text(given: Result<u64>, text: &str) -> bool {
 /// Those of calls that are to succeed; `Memory`.
 fn are_holes_named(alloc: Global) -> Result<bool> {
     let (older, newer) = ((10, 20, 1), (25, 30, 2));
-    let mut store = LogStore::after_calls(alloc, &[Append(older)])?;
+    let mut store = LogStore::with_calls(alloc, &[Append(older)])?;
     let appended = is_corruption_with_text(store.call_by_method(Append(newer)), HOLE);
     let replayed = is_corruption_with_text(
         store.call_by_method(Replay(LogQueue::Append, newer)),
         HOLE,
     );
-    let mut table = LogStore::after_calls(alloc, &[Append(newer)])?.table;
+    let mut table = LogStore::with_calls(alloc, &[Append(newer)])?.table;
     let merged = is_corruption_with_text(store.merge(&mut table, false).map(|()| 0), HOLE);
     Ok(appended && replayed && merged)
 }

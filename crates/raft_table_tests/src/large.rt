@@ -79,8 +79,8 @@ fn rows_of_merges() -> &'static [MergeRow] {
 /// Those of the table's calls; `Memory`.
 fn is_row_merged(alloc: Global, row: &MergeRow) -> Result<bool> {
     let (older, newer, is_append, merged) = *row;
-    let mut store = LogStore::after_calls(alloc, &[older])?;
-    let mut table = LogStore::after_calls(alloc, &[newer])?.table;
+    let mut store = LogStore::with_calls(alloc, &[older])?;
+    let mut table = LogStore::with_calls(alloc, &[newer])?.table;
     store.merge(&mut table, is_append)?;
     Ok(indexes_and_counts(alloc, &store.table)? == merged)
 }

@@ -246,7 +246,7 @@ fn check_queries_of_both_queues(rt: &impl Abort, alloc: Global) -> Result<()> {
         Rewrite((0, 15, 50), Some(1)),
         Group(3, 7),
     ];
-    let store = LogStore::after_calls(alloc, &calls)?;
+    let store = LogStore::with_calls(alloc, &calls)?;
     let table = &store.table;
     assert!(rt; block_and_entry_counts(table) == (2, 10, 10));
     assert!(rt; table.atomic_group() == Some((3, 7)));

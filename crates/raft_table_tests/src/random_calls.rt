@@ -106,7 +106,7 @@ fn draw_change(numbers: &mut Numbers, list: &List) -> Change {
 ///
 /// Those of the table's calls; `Memory`.
 fn table_of_run(alloc: Global, queue: LogQueue, run: Run) -> Result<MemTable> {
-    Ok(LogStore::after_calls(alloc, &[Call::Replay(queue, run)])?.table)
+    Ok(LogStore::with_calls(alloc, &[Call::Replay(queue, run)])?.table)
 }
 
 /// Makes `change` of a store, by the calls of its table.
@@ -174,7 +174,7 @@ fn is_in_queue(entry: &EntryIndex, queue: LogQueue) -> bool {
 }
 
 /// Tests whether a rewriting may move an entry.
-fn can_move(entry: &EntryIndex, gate: Option<FileSeq>) -> bool {
+fn can_entry_move(entry: &EntryIndex, gate: Option<FileSeq>) -> bool {
     match (entry.entries, gate) {
         (Some(handle), Some(gate)) => handle.id.seq <= gate,
         (Some(handle), None) => handle.id.queue == LogQueue::Rewrite,
@@ -315,7 +315,7 @@ impl List {
     fn move_places(&mut self, run: Run, gate: Option<FileSeq>) {
         for entry in &mut self.entries {
             if run_has_index(run, entry.index) {
-                if !can_move(entry, gate) {
+                if !can_entry_move(entry, gate) {
                     return;
                 }
                 *entry = entry_of_run(LogQueue::Rewrite, run, entry.index);

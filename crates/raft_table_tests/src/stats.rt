@@ -42,7 +42,7 @@ fn check_adding_and_subtracting(rt: &impl Abort, table: &MemTable) -> Result<()>
 /// Those of [`check_adding_and_subtracting`], and of the table's calls; `Memory`.
 fn check_counts_of_table(rt: &impl Abort, alloc: Global) -> Result<()> {
     let calls = [Append((0, 10, 1)), Put(LogQueue::Rewrite, 5)];
-    let store = LogStore::after_calls(alloc, &calls)?;
+    let store = LogStore::with_calls(alloc, &calls)?;
     check_adding_and_subtracting(rt, &store.table)
 }
 
@@ -54,7 +54,7 @@ fn tables_are_added_to_the_counts_and_subtracted(rt: HostRuntime) -> Result<()> 
 
 /// Tests that records deleted from the rewrite queue make room for new ones where the count is at its highest number.
 #[test]
-fn deleted_records_make_room_once(rt: HostRuntime) -> Result<()> {
+fn deleted_records_make_room_for_new_ones(rt: HostRuntime) -> Result<()> {
     let mut stats = GlobalStats::default();
     stats.add(LogQueue::Rewrite, usize::MAX)?;
     stats.delete(LogQueue::Rewrite, 10);

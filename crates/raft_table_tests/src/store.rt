@@ -111,7 +111,7 @@ impl LogStore {
     /// # Errors
     ///
     /// That of the first call that fails; no further one is made then.
-    pub fn after_calls(alloc: Global, calls: &[Call]) -> Result<LogStore> {
+    pub fn with_calls(alloc: Global, calls: &[Call]) -> Result<LogStore> {
         let mut store = LogStore::new(alloc);
         for call in calls {
             store.call_by_method(*call)?;

@@ -1,7 +1,9 @@
 //! Tests tables and cleaned regions in each of the 128 slots: no call and no walk leaves a slot out.
 
 use crate::items::{Item, NEW, new_run, to_log_items};
-use crate::seen::{Seen, live_written_and_deleted, see_core, see_shared, shape_of_table};
+use crate::seen::{
+    Seen, live_written_and_deleted, shape_of_table, summarize_accessor, summarize_shared_tables,
+};
 use raft_memtable::{MemTableAccessor, Result, TableChange, slot_of};
 use raft_recover::{SharedAccessor, Slot};
 use raft_trials::again;
@@ -38,7 +40,7 @@ fn append_change(alloc: Global, region: u64) -> Result<TableChange> {
 /// # Errors
 ///
 /// Those of the calls; `Memory`.
-fn fill_core(alloc: Global, core: &mut MemTableAccessor, region: u64) -> Result<()> {
+fn fill_accessor(alloc: Global, core: &mut MemTableAccessor, region: u64) -> Result<()> {
     let key = [Item::PutOwnKey(region, NEW)];
     core.change(region, append_change(alloc, region)?)?;
     core.apply_append_writes(to_log_items(alloc, &key)?)?;
@@ -66,7 +68,7 @@ fn new_filled_accessor(alloc: Global) -> Result<MemTableAccessor> {
     let mut core = MemTableAccessor::new(alloc)?;
     for region in 0..REGIONS {
         match region % 3 {
-            0 => fill_core(alloc, &mut core, region)?,
+            0 => fill_accessor(alloc, &mut core, region)?,
             1 => {
                 core.change(region, TableChange::Keep)?;
             }
@@ -90,7 +92,7 @@ fn see_filled_shared_tables<R: Wait>(rt: &R, alloc: Global) -> Result<Seen> {
             _ => shared.apply_append_writes(rt, to_log_items(alloc, &[Item::Clean(region)])?)?,
         }
     }
-    see_shared(rt, alloc, &shared)
+    summarize_shared_tables(rt, alloc, &shared)
 }
 
 /// Makes shared tables of an accessor with all regions, and returns what they have.
@@ -100,7 +102,7 @@ fn see_filled_shared_tables<R: Wait>(rt: &R, alloc: Global) -> Result<Seen> {
 /// Those of the calls; `Memory`.
 fn see_shared_from_accessor<R: Wait>(rt: &R, alloc: Global) -> Result<Seen> {
     let shared = SharedAccessor::from_core(alloc, new_filled_accessor(alloc)?)?;
-    see_shared(rt, alloc, &shared)
+    summarize_shared_tables(rt, alloc, &shared)
 }
 
 /// Tests whether both have what the accessor has: 734 tables with an entry and a key, 733 without records, and 733
@@ -110,7 +112,7 @@ fn see_shared_from_accessor<R: Wait>(rt: &R, alloc: Global) -> Result<Seen> {
 ///
 /// Those of the calls; `Memory`.
 fn are_all_tables_seen<R: Wait>(rt: &R, alloc: Global) -> Result<bool> {
-    let expected = see_core(alloc, &mut new_filled_accessor(alloc)?)?;
+    let expected = summarize_accessor(alloc, &mut new_filled_accessor(alloc)?)?;
     Ok(
         expected.has(1_467, 733, (734, 734))
             && see_filled_shared_tables(rt, alloc)? == expected
@@ -136,7 +138,7 @@ fn are_tables_back(alloc: Global) -> Result<bool> {
     let shared = SharedAccessor::from_core(alloc, new_filled_accessor(alloc)?)?;
     let mut core = shared.into_core()?;
     let mut expected = new_filled_accessor(alloc)?;
-    Ok(see_core(alloc, &mut core)? == see_core(alloc, &mut expected)?)
+    Ok(summarize_accessor(alloc, &mut core)? == summarize_accessor(alloc, &mut expected)?)
 }
 
 /// Tests that tables that were shared are an accessor's again, as they were before.

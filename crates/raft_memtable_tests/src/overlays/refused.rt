@@ -5,7 +5,7 @@ use super::{
     NONE, Shape, Word, context_of_words, overlay_of_words, part_with_word, replay_words,
     shape_of_region_1,
 };
-use crate::files::{read_and_replay, replay_file};
+use crate::files::{replay_file, replay_without_copy};
 use raft_memtable::{Error, FileId, Kept, LogQueue, MemTableRecoverContext, Result};
 use raft_trials::again;
 use std::alloc::Global;
@@ -84,7 +84,7 @@ fn is_batch_refused(
 ) -> Result<bool> {
     let mut context = context_of_words(alloc, first, &[Put, Put])?;
     let file = part_with_word(alloc, 1, Put, own)?;
-    let answer = read_and_replay(&mut context, &file, given);
+    let answer = replay_without_copy(&mut context, &file, given);
     let refused = is_refused_as(answer, Refusal::Corruption(reason))?;
     let again = is_refused_as(replay_file(&mut context, &file), Refusal::Failed)?;
     let failed = matches!(context.finish(), Err(Error::Failed));
@@ -189,7 +189,7 @@ fn is_other_context_refused(
 /// # Errors
 ///
 /// `Memory` alone.
-fn refuses_all(alloc: Global, context: &mut MemTableRecoverContext) -> Result<bool> {
+fn refuses_all_calls(alloc: Global, context: &mut MemTableRecoverContext) -> Result<bool> {
     let answer = replay_words(alloc, context, LogQueue::Append, 1, &[Put]);
     let replayed = is_refused_as(answer, Refusal::Failed)?;
     let answer = context.merge(MemTableRecoverContext::new(alloc)?, LogQueue::Append);
@@ -204,7 +204,7 @@ fn refuses_all(alloc: Global, context: &mut MemTableRecoverContext) -> Result<bo
 ///
 /// `Memory` alone.
 fn has_failed(alloc: Global, mut context: MemTableRecoverContext) -> Result<bool> {
-    let refuses = refuses_all(alloc, &mut context)?;
+    let refuses = refuses_all_calls(alloc, &mut context)?;
     let kept = matches!(context.kept(), Err(Error::Failed));
     Ok(refuses && kept && matches!(context.finish(), Err(Error::Failed)))
 }

@@ -25,6 +25,8 @@ const TARGET: [(&str, &str); 3] = [
     ("CARGO_CFG_TARGET_ENV", "gnu"),
 ];
 
+/// Tells cargo to link the library and, without the feature `global-allocator`, the toolchain's heap. For another target nothing is
+/// linked. A warning says what is missing.
 fn main() {
     let is_ours = |(variable, value)| env::var(variable).is_ok_and(|of_target| of_target == value);
     if !TARGET.into_iter().all(is_ours) {

@@ -83,6 +83,7 @@ impl TryFrom<u8> for ErrorKind {
 }
 
 impl fmt::Display for ErrorKind {
+    /// Shows the kind in plain words, in lower case.
     fn fmt(&self, f: &mut fmt::Formatter<'_>) -> fmt::Result {
         f.pad(match self {
             ErrorKind::InvalidArgument => "invalid argument",
@@ -367,6 +368,7 @@ impl PartialEq for Error {
 impl Eq for Error {}
 
 impl Hash for Error {
+    /// Hashes all but the source, so that equal errors have equal hashes.
     fn hash<H: Hasher>(&self, state: &mut H) {
         (self.kind, &self.text, self.file, self.offset).hash(state);
         (self.region, self.index, self.item).hash(state);
@@ -374,6 +376,7 @@ impl Hash for Error {
 }
 
 impl fmt::Display for Error {
+    /// Shows the text.
     fn fmt(&self, f: &mut fmt::Formatter<'_>) -> fmt::Result {
         f.pad(&self.text)
     }

@@ -476,6 +476,7 @@ impl Slot {
 impl Deref for Slot {
     type Target = Tables;
 
+    /// Returns the tables of the slot.
     fn deref(&self) -> &Tables {
         &self.tables
     }

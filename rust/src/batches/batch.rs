@@ -168,6 +168,7 @@ impl<'a> IntoIterator for &'a Batch {
     type Item = Item;
     type IntoIter = BatchIter<'a>;
 
+    /// Returns the iterator of [`Batch::iter`].
     fn into_iter(self) -> BatchIter<'a> {
         self.iter()
     }
@@ -177,6 +178,7 @@ impl IntoIterator for Batch {
     type Item = Item;
     type IntoIter = BatchIntoIter;
 
+    /// Returns an iterator over the items, in order, which owns the batch.
     fn into_iter(self) -> BatchIntoIter {
         let rest = 0..self.len();
         BatchIntoIter { batch: self, rest }

@@ -143,17 +143,20 @@ impl Entries {
 impl Iterator for Entries {
     type Item = Vec<u8>;
 
+    /// Returns a copy of the bytes of the first entry that is left; `None` where none is.
     fn next(&mut self) -> Option<Vec<u8>> {
         let place = self.rest.next()?;
         Some(self.bytes_at(&place).to_vec())
     }
 
+    /// Returns how many entries are left, exactly.
     fn size_hint(&self) -> (usize, Option<usize>) {
         self.rest.size_hint()
     }
 }
 
 impl DoubleEndedIterator for Entries {
+    /// Returns a copy of the bytes of the last entry that is left; `None` where none is.
     fn next_back(&mut self) -> Option<Vec<u8>> {
         let place = self.rest.next_back()?;
         Some(self.bytes_at(&place).to_vec())

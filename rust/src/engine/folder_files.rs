@@ -227,6 +227,11 @@ impl FolderFiles {
 }
 
 impl Files for FolderFiles {
+    /// Returns the number of each file of a queue, and the length that it has now, oldest first.
+    ///
+    /// # Errors
+    ///
+    /// Those of the system, where a length can't be read.
     fn list(&self, queue: Queue) -> io::Result<Vec<(u64, u64)>> {
         let files = locks::lock_to_read(&self.files);
         let of_queue = files.range(ids_of_queue(queue));
@@ -235,6 +240,12 @@ impl Files for FolderFiles {
             .collect()
     }
 
+    /// Writes bytes at the end of a file. Where there is no room for all of them the file is cut back to its old length.
+    ///
+    /// # Errors
+    ///
+    /// Those of the system; any error, where changes are refused. Unless [`Files::is_as_before`] is true then, some bytes may
+    /// be in the file, and all further changes are refused.
     fn write(&self, file: FileId, bytes: &[u8]) -> io::Result<()> {
         self.make_change(|unsynced| {
             unsynced.insert(file);
@@ -242,10 +253,21 @@ impl Files for FolderFiles {
         })
     }
 
+    /// Syncs the files of a queue that have bytes that aren't synced.
+    ///
+    /// # Errors
+    ///
+    /// Those of the system; any error, where changes are refused. Further changes are refused then.
     fn sync(&self, queue: Queue) -> io::Result<()> {
         self.make_change(|unsynced| Ok(self.sync_unsynced(queue, unsynced)?))
     }
 
+    /// Syncs the files of the queue, makes an empty file, and syncs its name.
+    ///
+    /// # Errors
+    ///
+    /// Those of the system, also where there is a file of that name; any error, where changes are refused. Further changes are
+    /// refused then, unless there was no room for the file: then it isn't there.
     fn rotate(&self, file: FileId) -> io::Result<()> {
         self.free_deleted(); // none is left, but where this is wrapped in files that don't hand the call on
         self.make_change(|unsynced| {
@@ -264,6 +286,12 @@ impl Files for FolderFiles {
         })
     }
 
+    /// Deletes a file, and syncs the folder. The file stays open, so that its room on the disk is given back only by
+    /// [`Files::free_deleted`].
+    ///
+    /// # Errors
+    ///
+    /// Those of the system; any error, where changes are refused. Further changes are refused then, and the file may be gone.
     fn delete(&self, file: FileId) -> io::Result<()> {
         self.make_change(|unsynced| {
             unsynced.remove(&file);
@@ -274,6 +302,13 @@ impl Files for FolderFiles {
         })
     }
 
+    /// Cuts a file to `len` bytes, if it has more, and syncs it. What is cut off is first kept in a file beside, which is
+    /// synced too.
+    ///
+    /// # Errors
+    ///
+    /// Those of the system; any error, where changes are refused. Further changes are refused then, and the file may be cut or
+    /// not.
     fn truncate(&self, file: FileId, len: u64) -> io::Result<()> {
         self.make_change(|unsynced| {
             let opened = self.open_file(file)?;
@@ -291,15 +326,22 @@ impl Files for FolderFiles {
         })
     }
 
+    /// Closes the deleted files, so that the system gives back their room.
     fn free_deleted(&self) {
         let deleted = mem::take(&mut *locks::lock(&self.deleted));
         drop(deleted); // without the lock
     }
 
+    /// Fills all of `bytes` with those of a file from `offset` on.
+    ///
+    /// # Errors
+    ///
+    /// `NotFound` where the folder has no such file; those of the system, also where the file ends before `bytes` are full.
     fn read(&self, file: FileId, offset: u64, bytes: &mut [u8]) -> io::Result<()> {
         read_at(self.open_file(file)?.as_ref(), bytes, offset)
     }
 
+    /// Tests whether changes aren't refused: the last one that failed, if any did, left all as it was.
     fn is_as_before(&self) -> bool {
         locks::lock(&self.changes).refused.is_none()
     }

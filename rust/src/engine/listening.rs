@@ -131,6 +131,7 @@ struct Line {
 struct Telling<'a>(&'a Mutex<Line>);
 
 impl Drop for Telling<'_> {
+    /// Gives the right back, so that a thread may tell the listener of the next event.
     fn drop(&mut self) {
         locks::lock(self.0).is_telling = false;
     }
@@ -183,6 +184,7 @@ impl Events {
 }
 
 impl fmt::Debug for Events {
+    /// Shows the name of the type alone: a listener can't be shown.
     fn fmt(&self, f: &mut fmt::Formatter<'_>) -> fmt::Result {
         f.debug_struct("Events").finish_non_exhaustive()
     }

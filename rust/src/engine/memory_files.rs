@@ -202,6 +202,7 @@ impl MemoryFiles {
 }
 
 impl Files for MemoryFiles {
+    /// Returns the number and the length of each file of a queue, oldest first. It never fails.
     fn list(&self, queue: Queue) -> io::Result<Vec<(u64, u64)>> {
         let held = locks::lock(&self.held);
         let files = held.files[queue_position(queue)].iter();
@@ -210,6 +211,11 @@ impl Files for MemoryFiles {
             .collect())
     }
 
+    /// Appends bytes to the last file of its queue, and notes the ask.
+    ///
+    /// # Errors
+    ///
+    /// `InvalidInput` where `file` isn't the last one of its queue. Nothing has changed then.
     fn write(&self, file: FileId, bytes: &[u8]) -> io::Result<()> {
         let mut held = locks::lock(&self.held);
         held.last_bytes(file)?.extend_from_slice(bytes);
@@ -217,11 +223,17 @@ impl Files for MemoryFiles {
         Ok(())
     }
 
+    /// Notes that a sync of a queue was asked. It never fails.
     fn sync(&self, queue: Queue) -> io::Result<()> {
         locks::lock(&self.held).asks.push(Ask::Sync(queue));
         Ok(())
     }
 
+    /// Makes an empty last file, and notes the ask.
+    ///
+    /// # Errors
+    ///
+    /// `InvalidInput` where the queue has a file whose number isn't less. Nothing has changed then.
     fn rotate(&self, file: FileId) -> io::Result<()> {
         let mut held = locks::lock(&self.held);
         let files = &mut held.files[queue_position(file.queue)];
@@ -233,6 +245,11 @@ impl Files for MemoryFiles {
         Ok(())
     }
 
+    /// Deletes the oldest file of a queue, and notes the ask.
+    ///
+    /// # Errors
+    ///
+    /// `InvalidInput` where `file` isn't the oldest one, or is the only one. Nothing has changed then.
     fn delete(&self, file: FileId) -> io::Result<()> {
         let mut held = locks::lock(&self.held);
         let files = &mut held.files[queue_position(file.queue)];
@@ -244,6 +261,11 @@ impl Files for MemoryFiles {
         Ok(())
     }
 
+    /// Cuts the last file of its queue to `len` bytes, if it has more, and notes the ask.
+    ///
+    /// # Errors
+    ///
+    /// `InvalidInput` where `file` isn't the last one of its queue. Nothing has changed then.
     fn truncate(&self, file: FileId, len: u64) -> io::Result<()> {
         let mut held = locks::lock(&self.held);
         cut_bytes(held.last_bytes(file)?, len);
@@ -251,6 +273,12 @@ impl Files for MemoryFiles {
         Ok(())
     }
 
+    /// Fills all of `bytes` with those of a file from `offset` on.
+    ///
+    /// # Errors
+    ///
+    /// `NotFound` where there is no such file; `UnexpectedEof` where it ends before `bytes` are full. `bytes` stay as they are
+    /// then.
     fn read(&self, file: FileId, offset: u64, bytes: &mut [u8]) -> io::Result<()> {
         let held = locks::lock(&self.held);
         let mut files = held.files[queue_position(file.queue)].iter();

@@ -16,6 +16,7 @@ pub(super) struct Turn<'a, F: Files> {
 }
 
 impl<F: Files> Drop for Turn<'_, F> {
+    /// Ends the turn. If the thread is panicking, the engine has failed from then on.
     fn drop(&mut self) {
         if thread::panicking() {
             self.engine.fail(Error::new(

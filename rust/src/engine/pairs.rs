@@ -124,17 +124,20 @@ impl Pairs {
 impl Iterator for Pairs {
     type Item = (Vec<u8>, Vec<u8>);
 
+    /// Returns a copy of the first pair that is left; `None` where none is.
     fn next(&mut self) -> Option<(Vec<u8>, Vec<u8>)> {
         let place = self.rest.next()?;
         Some(self.copy_pair(place))
     }
 
+    /// Returns how many pairs are left, exactly.
     fn size_hint(&self) -> (usize, Option<usize>) {
         self.rest.size_hint()
     }
 }
 
 impl DoubleEndedIterator for Pairs {
+    /// Returns a copy of the last pair that is left; `None` where none is.
     fn next_back(&mut self) -> Option<(Vec<u8>, Vec<u8>)> {
         let place = self.rest.next_back()?;
         Some(self.copy_pair(place))

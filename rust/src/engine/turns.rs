@@ -40,6 +40,7 @@ impl Turns {
 }
 
 impl Drop for TurnGuard<'_> {
+    /// Ends the turn, and wakes the threads that wait for theirs.
     fn drop(&mut self) {
         let mut line = locks::lock(&self.0.line);
         line.now += 1;

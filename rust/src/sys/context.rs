@@ -190,6 +190,7 @@ impl ContextHandle {
 }
 
 impl Drop for ContextHandle {
+    /// Frees the context.
     fn drop(&mut self) {
         // SAFETY: `held`: the handle holds a context, which is given away.
         unsafe { raft_ffi_context_drop(self.0) }

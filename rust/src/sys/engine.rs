@@ -409,6 +409,7 @@ impl EngineHandle {
 }
 
 impl Drop for EngineHandle {
+    /// Frees the engine. Orders that weren't taken are lost.
     fn drop(&mut self) {
         // SAFETY: `held`: the handle holds an engine, which is given away.
         unsafe { raft_ffi_engine_drop(self.handle) }
@@ -416,6 +417,7 @@ impl Drop for EngineHandle {
 }
 
 impl From<PlaceNumbers> for Block {
+    /// Makes the block whose place the library has filled in.
     fn from(place: PlaceNumbers) -> Block {
         Block {
             file: FileId::new(queue_from_flag(place.is_rewrite), place.seq),

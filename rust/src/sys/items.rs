@@ -201,6 +201,7 @@ impl ItemsHandle {
 }
 
 impl Drop for ItemsHandle {
+    /// Frees the items.
     fn drop(&mut self) {
         // SAFETY: `held`: the handle holds items, which are given away.
         unsafe { raft_ffi_items_drop(self.0.get()) }

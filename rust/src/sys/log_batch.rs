@@ -404,6 +404,7 @@ impl LogBatchHandle {
 }
 
 impl Drop for LogBatchHandle {
+    /// Frees the batch.
     fn drop(&mut self) {
         // SAFETY: `held`: the handle holds a batch, which is given away.
         unsafe { raft_ffi_batch_drop(self.0.get()) }

@@ -45,6 +45,7 @@ pub(super) struct EntryNumbers {
 }
 
 impl From<LogFile> for File {
+    /// Makes the file as the library takes it: checksums are signed in version 2.
     fn from(file: LogFile) -> File {
         File {
             seq: file.seq,
@@ -55,6 +56,7 @@ impl From<LogFile> for File {
 }
 
 impl From<Option<u64>> for Maybe {
+    /// Makes the number as the library takes it; it is 0 where there is none.
     fn from(number: Option<u64>) -> Maybe {
         Maybe {
             is_some: number.is_some(),
@@ -71,6 +73,7 @@ impl Maybe {
 }
 
 impl From<SummaryNumbers> for Summary {
+    /// Makes the summary that the library has filled in.
     fn from(summary: SummaryNumbers) -> Summary {
         Summary {
             entries: summary.entries,
@@ -83,6 +86,7 @@ impl From<SummaryNumbers> for Summary {
 }
 
 impl From<&Entry> for EntryNumbers {
+    /// Makes the entry as the library takes it. It has a place.
     fn from(entry: &Entry) -> EntryNumbers {
         EntryNumbers {
             index: entry.index,

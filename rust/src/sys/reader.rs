@@ -189,6 +189,7 @@ impl ReaderHandle {
 }
 
 impl Drop for ReaderHandle {
+    /// Frees the reader.
     fn drop(&mut self) {
         // SAFETY: `held`: the handle holds a reader, which is given away.
         unsafe { raft_ffi_reader_drop(self.0) }
@@ -277,6 +278,7 @@ struct Tail {
 }
 
 impl Default for Tail {
+    /// Makes room in which nothing is said yet: no tail was cut off.
     fn default() -> Tail {
         Tail {
             numbers: TailNumbers::default(),

@@ -561,6 +561,7 @@ impl TablesHandle {
 }
 
 impl Drop for TablesHandle {
+    /// Frees the tables.
     fn drop(&mut self) {
         // SAFETY: `held`: the handle holds tables, which are given away.
         unsafe { raft_ffi_tables_drop(self.0.get()) }

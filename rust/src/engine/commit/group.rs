@@ -83,6 +83,7 @@ impl<'a> Group<'a> {
 }
 
 impl Drop for Group<'_> {
+    /// Lets the threads of all batches go on, but for those whose sync is left to another thread, and ends the leading.
     fn drop(&mut self) {
         self.commits.change_line(|line| {
             line.over.append(&mut self.taken);

@@ -71,7 +71,7 @@ pub struct Tables {
 }
 
 impl Tables {
-    /// Makes the tables of a handle that holds some.
+    /// Makes tables of the library's handle of them.
     pub(crate) fn from_handle(handle: TablesHandle) -> Tables {
         Tables { handle }
     }

@@ -86,7 +86,7 @@ impl FolderFiles {
     /// isn't one, or is that of something else than a file; `Io`.
     pub fn open(path: impl AsRef<Path>) -> Result<FolderFiles> {
         let path = path.as_ref();
-        let about = |e| Error::system(path.display(), e);
+        let about = |e| Error::io(path.display(), e);
         match fs::create_dir(path) {
             Err(e) if e.kind() != io::ErrorKind::AlreadyExists => return Err(about(e)),
             _ => {}
@@ -128,7 +128,7 @@ impl FolderFiles {
     /// but isn't one, or is that of something else than a file; `Io`, also where there is no folder.
     pub fn open_read_only(path: impl AsRef<Path>) -> Result<FolderFiles> {
         let path = path.as_ref();
-        let path = fs::canonicalize(path).map_err(|e| Error::system(path.display(), e))?;
+        let path = fs::canonicalize(path).map_err(|e| Error::io(path.display(), e))?;
         let locked = LockedFolder::lock_shared(&path)?;
         let files = open_log_files(&path, File::open)?;
         let changes = Changes {
@@ -174,12 +174,12 @@ impl FolderFiles {
         self.path.join(log_file_name(file))
     }
 
-    /// Returns the open log file with an id.
+    /// Returns the open log file that has the id `id`.
     ///
     /// # Errors
     ///
     /// `NotFound` where the folder has no such file, or it was deleted.
-    fn open_file(&self, id: FileId) -> io::Result<Arc<File>> {
+    fn get_open_file(&self, id: FileId) -> io::Result<Arc<File>> {
         let files = locks::lock_to_read(&self.files);
         let file = files.get(&id).cloned();
         file.ok_or_else(|| io::Error::new(io::ErrorKind::NotFound, "the file isn't there"))
@@ -193,14 +193,14 @@ impl FolderFiles {
     /// Those of the system. The files that are still in `unsynced` may not be synced.
     fn sync_unsynced(&self, queue: Queue, unsynced: &mut BTreeSet<FileId>) -> io::Result<()> {
         while let Some(file) = unsynced.range(ids_of_queue(queue)).next().copied() {
-            self.open_file(file)?.sync_data()?;
+            self.get_open_file(file)?.sync_data()?;
             unsynced.remove(&file);
         }
         Ok(())
     }
 
-    /// Makes one change of the files, under the lock of changes. `change` makes it; it gets the set of files with bytes that
-    /// aren't synced, to bring it up to date. As long as `change` hasn't returned `Ok` or `AsBefore`, the change counts as half
+    /// Makes one change of the files by `change`, under the lock of changes. `change` gets the set of files with bytes that
+    /// aren't synced, to bring it up to date. As long as it hasn't returned `Ok` or `AsBefore`, the change counts as half
     /// made, also where it panics.
     ///
     /// # Errors
@@ -249,7 +249,7 @@ impl Files for FolderFiles {
     fn write(&self, file: FileId, bytes: &[u8]) -> io::Result<()> {
         self.make_change(|unsynced| {
             unsynced.insert(file);
-            write_all_or_nothing(self.open_file(file)?.as_ref(), bytes)
+            write_all_or_nothing(self.get_open_file(file)?.as_ref(), bytes)
         })
     }
 
@@ -311,7 +311,7 @@ impl Files for FolderFiles {
     /// not.
     fn truncate(&self, file: FileId, len: u64) -> io::Result<()> {
         self.make_change(|unsynced| {
-            let opened = self.open_file(file)?;
+            let opened = self.get_open_file(file)?;
             let old = opened.metadata()?.len();
             if len < old {
                 let mut tail = vec![0; (old - len) as usize];
@@ -338,7 +338,7 @@ impl Files for FolderFiles {
     ///
     /// `NotFound` where the folder has no such file; those of the system, also where the file ends before `bytes` are full.
     fn read(&self, file: FileId, offset: u64, bytes: &mut [u8]) -> io::Result<()> {
-        read_at(self.open_file(file)?.as_ref(), bytes, offset)
+        read_at(self.get_open_file(file)?.as_ref(), bytes, offset)
     }
 
     /// Tests whether changes aren't refused: the last one that failed, if any did, left all as it was.
@@ -366,13 +366,13 @@ fn open_log_files(
     folder: &Path,
     open: impl Fn(PathBuf) -> io::Result<File>,
 ) -> Result<BTreeMap<FileId, Arc<File>>> {
-    let about = |e| Error::system(folder.display(), e);
+    let about = |e| Error::io(folder.display(), e);
     let mut files = BTreeMap::new();
     for entry in fs::read_dir(folder).map_err(about)? {
         let entry = entry.map_err(about)?;
         if let Some(id) = parse_log_file_name(&entry.file_name().to_string_lossy())? {
             let path = entry.path();
-            let about = |e| Error::system(path.display(), e);
+            let about = |e| Error::io(path.display(), e);
             if !fs::metadata(&path).map_err(about)?.is_file() {
                 let text = format!("{} isn't a file", path.display());
                 return Err(Error::invalid_argument(&text)); // to open a pipe might take for ever

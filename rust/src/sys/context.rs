@@ -1,6 +1,6 @@
 //! Handles of contexts.
 
-use super::{File, Handle, Status, TablesHandle, check_call, check_memory};
+use super::{File, Handle, Status, TablesHandle, check_call, check_memory_code};
 use crate::{FilePart, Kept, Queue, Result};
 use std::cell::Cell;
 use std::mem;
@@ -87,7 +87,7 @@ impl ContextHandle {
     pub(crate) fn new() -> Result<ContextHandle> {
         let mut handle = Handle::EMPTY;
         // SAFETY: `empty`: the handle is empty.
-        check_memory(unsafe { raft_ffi_context_new(&mut handle) })?;
+        check_memory_code(unsafe { raft_ffi_context_new(&mut handle) })?;
         Ok(ContextHandle(handle))
     }
 

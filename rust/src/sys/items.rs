@@ -1,7 +1,7 @@
 //! Handles of the items of a batch.
 
 use super::{
-    EntryNumbers, File, Handle, Status, check_call, list_if_found, to_entries, with_handle,
+    EntryNumbers, File, Handle, Status, check_call, fill_list_if_found, to_entries, with_handle,
 };
 use crate::{Content, Entry, FilePart, Item, Result};
 use std::cell::Cell;
@@ -168,7 +168,7 @@ impl ItemsHandle {
 
     /// Returns the entries of the item at position `i`, which has to be one of entries.
     fn entries(&self, i: usize) -> Vec<Entry> {
-        let list = list_if_found(|room, len, count| {
+        let list = fill_list_if_found(|room, len, count| {
             // SAFETY: `held`: the handle holds items.
             with_handle(&self.0, |items| unsafe {
                 raft_ffi_items_entries(items, i, room, len, count)
@@ -179,7 +179,7 @@ impl ItemsHandle {
 
     /// Returns the key of the item at position `i`, which has to change a key.
     fn key(&self, i: usize) -> Vec<u8> {
-        list_if_found(|room, len, count| {
+        fill_list_if_found(|room, len, count| {
             // SAFETY: `held`: the handle holds items.
             with_handle(&self.0, |items| unsafe {
                 raft_ffi_items_key(items, i, room, len, count)
@@ -190,7 +190,7 @@ impl ItemsHandle {
 
     /// Returns the value of the item at position `i`, which has to put a key.
     fn value(&self, i: usize) -> Vec<u8> {
-        list_if_found(|room, len, count| {
+        fill_list_if_found(|room, len, count| {
             // SAFETY: `held`: the handle holds items.
             with_handle(&self.0, |items| unsafe {
                 raft_ffi_items_value(items, i, room, len, count)

@@ -126,12 +126,12 @@ impl From<EntryNumbers> for Entry {
     }
 }
 
-/// Returns entries as the library takes them.
+/// Makes of each entry the numbers that the library takes, in the same order.
 pub(super) fn to_entry_numbers(entries: &[Entry]) -> Vec<EntryNumbers> {
     entries.iter().map(EntryNumbers::from).collect()
 }
 
-/// Returns the entries that the library has filled in, each of which must have a place.
+/// Makes the entries that the library has filled in, in the same order. It panics where one has no place.
 pub(super) fn to_entries(numbers: Vec<EntryNumbers>) -> Vec<Entry> {
     numbers.into_iter().map(Entry::from).collect()
 }

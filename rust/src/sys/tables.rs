@@ -14,8 +14,9 @@ use super::table_calls::{
     raft_ffi_tables_summary, raft_ffi_tables_truncate, raft_ffi_tables_value,
 };
 use super::{
-    EntryNumbers, Handle, ItemsHandle, LogBatchHandle, SummaryNumbers, check_call, check_memory,
-    list, list_if_found, list_pairs, to_entries, to_entry_numbers, with_handle,
+    EntryNumbers, Handle, ItemsHandle, LogBatchHandle, SummaryNumbers, check_call,
+    check_memory_code, fill_list, fill_list_if_found, fill_pairs, to_entries, to_entry_numbers,
+    with_handle,
 };
 use crate::{Entry, FileId, Pair, Queue, Result, Summary};
 use std::cell::Cell;
@@ -34,7 +35,7 @@ impl TablesHandle {
     pub(crate) fn new() -> Result<TablesHandle> {
         let mut handle = Handle::EMPTY;
         // SAFETY: `empty`: the handle is empty.
-        check_memory(unsafe { raft_ffi_tables_new(&mut handle) })?;
+        check_memory_code(unsafe { raft_ffi_tables_new(&mut handle) })?;
         Ok(TablesHandle(Cell::new(handle)))
     }
 
@@ -68,9 +69,9 @@ impl TablesHandle {
     /// Returns the numbers of the regions that have a table, in rising order. The only error is
     /// `Memory`.
     pub(crate) fn regions(&self) -> Result<Vec<u64>> {
-        list(|room, len, count| {
+        fill_list(|room, len, count| {
             // SAFETY: `held`: the handle holds tables.
-            check_memory(with_handle(&self.0, |tables| unsafe {
+            check_memory_code(with_handle(&self.0, |tables| unsafe {
                 raft_ffi_tables_regions(tables, room, len, count)
             }))
         })
@@ -78,7 +79,7 @@ impl TablesHandle {
 
     /// Returns the list of cleaned regions, in the order in which they were cleaned.
     pub(crate) fn cleaned(&self) -> Vec<u64> {
-        list_if_found(|room, len, count| {
+        fill_list_if_found(|room, len, count| {
             // SAFETY: `held`: the handle holds tables.
             *count = with_handle(&self.0, |tables| unsafe {
                 raft_ffi_tables_cleaned(tables, room, len)
@@ -112,7 +113,7 @@ impl TablesHandle {
         range: Range<u64>,
         max_size: Option<u64>,
     ) -> Result<Vec<Entry>> {
-        let list = list(|room, len, count| {
+        let list = fill_list(|room, len, count| {
             check_call(|text, text_len| {
                 // SAFETY: `held`: the handle holds tables.
                 with_handle(&self.0, |tables| unsafe {
@@ -137,9 +138,9 @@ impl TablesHandle {
     /// Returns the appended entries of a region, from the first one on, as long as their file is
     /// numbered at or below `gate`. The only error is `Memory`.
     pub(crate) fn entries_before(&self, region: u64, gate: u64) -> Result<Vec<Entry>> {
-        let list = list(|room, len, count| {
+        let list = fill_list(|room, len, count| {
             // SAFETY: `held`: the handle holds tables.
-            check_memory(with_handle(&self.0, |tables| unsafe {
+            check_memory_code(with_handle(&self.0, |tables| unsafe {
                 raft_ffi_tables_entries_before(tables, region, gate, room, len, count)
             }))
         })?;
@@ -149,9 +150,9 @@ impl TablesHandle {
     /// Returns the entries of a region that are in rewrite files, in order. The only error is
     /// `Memory`.
     pub(crate) fn rewritten_entries(&self, region: u64) -> Result<Vec<Entry>> {
-        let list = list(|room, len, count| {
+        let list = fill_list(|room, len, count| {
             // SAFETY: `held`: the handle holds tables.
-            check_memory(with_handle(&self.0, |tables| unsafe {
+            check_memory_code(with_handle(&self.0, |tables| unsafe {
                 raft_ffi_tables_rewritten_entries(tables, region, room, len, count)
             }))
         })?;
@@ -160,7 +161,7 @@ impl TablesHandle {
 
     /// Returns a copy of the value of a region's key; `None` where it has none.
     pub(crate) fn value(&self, region: u64, key: &[u8]) -> Option<Vec<u8>> {
-        list_if_found(|room, len, count| {
+        fill_list_if_found(|room, len, count| {
             // SAFETY: `held`: the handle holds tables.
             with_handle(&self.0, |tables| unsafe {
                 raft_ffi_tables_value(tables, region, key.as_ptr(), key.len(), room, len, count)
@@ -171,9 +172,9 @@ impl TablesHandle {
     /// Returns the keys of a region that are in append files numbered at or below `gate`, with
     /// their values, in the order of the keys. The only error is `Memory`.
     pub(crate) fn pairs_before(&self, region: u64, gate: u64) -> Result<Vec<Pair>> {
-        list_pairs(|lens, lens_len, count, bytes, bytes_len, len| {
+        fill_pairs(|lens, lens_len, count, bytes, bytes_len, len| {
             // SAFETY: `held`: the handle holds tables.
-            check_memory(with_handle(&self.0, |tables| unsafe {
+            check_memory_code(with_handle(&self.0, |tables| unsafe {
                 raft_ffi_tables_pairs_before(
                     tables, region, gate, lens, lens_len, count, bytes, bytes_len, len,
                 )
@@ -184,9 +185,9 @@ impl TablesHandle {
     /// Returns the keys of a region that are in rewrite files, with their values, in the order of
     /// the keys. The only error is `Memory`.
     pub(crate) fn rewritten_pairs(&self, region: u64) -> Result<Vec<Pair>> {
-        list_pairs(|lens, lens_len, count, bytes, bytes_len, len| {
+        fill_pairs(|lens, lens_len, count, bytes, bytes_len, len| {
             // SAFETY: `held`: the handle holds tables.
-            check_memory(with_handle(&self.0, |tables| unsafe {
+            check_memory_code(with_handle(&self.0, |tables| unsafe {
                 raft_ffi_tables_rewritten_pairs(
                     tables, region, lens, lens_len, count, bytes, bytes_len, len,
                 )
@@ -198,9 +199,9 @@ impl TablesHandle {
     /// `Memory`.
     pub(crate) fn pairs(&self, region: u64) -> Result<Vec<Pair>> {
         let none: &[u8] = &[];
-        list_pairs(|lens, lens_len, count, bytes, bytes_len, len| {
+        fill_pairs(|lens, lens_len, count, bytes, bytes_len, len| {
             // SAFETY: `held`: the handle holds tables.
-            check_memory(with_handle(&self.0, |tables| unsafe {
+            check_memory_code(with_handle(&self.0, |tables| unsafe {
                 raft_ffi_tables_scan(
                     tables,
                     region,
@@ -259,7 +260,7 @@ impl TablesHandle {
     pub(crate) fn take_cleaned_logs(&mut self) -> Result<LogBatchHandle> {
         let mut batch = Handle::EMPTY;
         // SAFETY: `held`, `empty`: the one handle holds tables, and the other one is empty.
-        check_memory(unsafe { raft_ffi_tables_cleaned_logs(self.0.as_ptr(), &mut batch) })?;
+        check_memory_code(unsafe { raft_ffi_tables_cleaned_logs(self.0.as_ptr(), &mut batch) })?;
         Ok(LogBatchHandle::from_raw(batch))
     }
 
@@ -420,7 +421,9 @@ impl TablesHandle {
     pub(crate) fn set_atomic_group(&mut self, region: u64, start: u64, end: u64) -> Result<()> {
         assert!(start <= end, "an atomic group starts behind its end");
         // SAFETY: `held`, `range`: the handle holds tables, and the files are in order.
-        check_memory(unsafe { raft_ffi_tables_atomic_group(self.0.as_ptr(), region, start, end) })
+        check_memory_code(unsafe {
+            raft_ffi_tables_atomic_group(self.0.as_ptr(), region, start, end)
+        })
     }
 
     /// Removes the table of a region, and returns whether there was one. With `is_listed` it lists
@@ -428,7 +431,7 @@ impl TablesHandle {
     pub(crate) fn remove(&mut self, region: u64, is_listed: bool) -> Result<bool> {
         let mut is_found = false;
         // SAFETY: `held`: the handle holds tables.
-        check_memory(unsafe {
+        check_memory_code(unsafe {
             raft_ffi_tables_remove(self.0.as_ptr(), region, is_listed, &mut is_found)
         })?;
         Ok(is_found)

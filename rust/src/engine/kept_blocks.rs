@@ -37,7 +37,8 @@ struct KeptBlock {
 }
 
 impl KeptBlocks {
-    /// Returns the entry bytes of a block; `None` where they aren't kept. The block then counts as the one that was read last.
+    /// Returns the entry bytes of a block, which counts as the one that was read last from then on; `None` where they aren't
+    /// kept.
     pub(super) fn get(&self, block: &Block) -> Option<Arc<Vec<u8>>> {
         let mut all = locks::lock(&self.0);
         all.readings += 1;

@@ -19,7 +19,7 @@ impl<F: Files> Drop for Turn<'_, F> {
     /// Ends the turn. If the thread is panicking, the engine has failed from then on.
     fn drop(&mut self) {
         if thread::panicking() {
-            self.engine.fail(Error::new(
+            self.engine.fail_engine(Error::new(
                 ErrorKind::Other,
                 "Other Error: a thread panicked in its turn",
             ));
@@ -62,9 +62,11 @@ impl<F: Files> Turn<'_, F> {
         let result = call(&mut tables);
         if !tables.is_intact() {
             let reason = result.err().unwrap_or_else(Error::failed);
-            return Err(self.engine.fail(reason));
+            return Err(self.engine.fail_engine(reason));
         }
-        let orders = tables.take_orders().map_err(|e| self.engine.fail(e))?;
+        let orders = tables
+            .take_orders()
+            .map_err(|e| self.engine.fail_engine(e))?;
         self.note_unwritten_bytes(&orders); // before a reader can find what isn't written yet
         drop(tables);
         self.carry_out(orders.into())?;

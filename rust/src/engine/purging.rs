@@ -146,7 +146,7 @@ impl<F: Files> Engine<F> {
         let regions = self.lock_tables().regions()?;
         Ok(!regions
             .into_iter()
-            .any(|region| needs_file(&mut self.lock_tables_after_waiters(), region, oldest)))
+            .any(|region| region_needs_file(&mut self.lock_tables_after_waiters(), region, oldest)))
     }
 
     /// Returns the regions that need the oldest append file, by rising numbers, each with what it has there. None where there is
@@ -162,7 +162,8 @@ impl<F: Files> Engine<F> {
         let regions = self.lock_tables().regions()?;
         let holders = regions.into_iter().filter_map(|region| {
             let mut tables = self.lock_tables_after_waiters();
-            needs_file(&mut tables, region, oldest).then(|| holder_of(&mut tables, region, oldest))
+            region_needs_file(&mut tables, region, oldest)
+                .then(|| holder_of(&mut tables, region, oldest))
         });
         Ok(holders.collect())
     }
@@ -231,8 +232,8 @@ impl<F: Files> Engine<F> {
     }
 }
 
-/// Tests whether a region has a record in a file, or in an older one of the same queue.
-fn needs_file(tables: &mut EngineHandle, region: u64, file: FileId) -> bool {
+/// Tests whether the table of `region` has a record in `file`, or in an older file of the same queue.
+fn region_needs_file(tables: &mut EngineHandle, region: u64, file: FileId) -> bool {
     let oldest = tables.summary(region).and_then(|summary| match file.queue {
         Queue::Append => summary.append_seq,
         Queue::Rewrite => summary.rewrite_seq,

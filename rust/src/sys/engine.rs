@@ -50,7 +50,7 @@ pub(crate) struct EngineHandle {
 unsafe impl Send for EngineHandle {}
 
 impl EngineHandle {
-    /// Makes the owner of the engine that a handle holds. The handle isn't empty.
+    /// Makes the owner of the engine that `handle` holds. `handle` must not be empty, and must have no other owner.
     pub(super) fn from_raw(handle: Handle) -> EngineHandle {
         EngineHandle {
             handle,
@@ -261,8 +261,8 @@ impl EngineHandle {
         Ok(places.into_iter().map(Block::from).collect())
     }
 
-    /// Lends the bytes of a block to the next call that moves records. The library copies them. The only error is
-    /// `Memory`.
+    /// Lends the bytes of a block to the next call that moves records. The library copies them. The only error is `Memory`:
+    /// the block isn't lent then.
     pub(crate) fn lend_block(&mut self, block: Block, bytes: &[u8]) -> Result<()> {
         let is_rewrite = block.file.queue == Queue::Rewrite;
         // SAFETY: `held`: the handle holds an engine.

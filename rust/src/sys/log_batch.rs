@@ -126,7 +126,7 @@ impl LogBatchHandle {
         Ok(LogBatchHandle::from_raw(handle))
     }
 
-    /// Makes the owner of the batch that a handle holds. The handle isn't empty.
+    /// Makes the owner of the batch that `handle` holds. `handle` must not be empty, and must have no other owner.
     pub(super) fn from_raw(handle: Handle) -> LogBatchHandle {
         LogBatchHandle(Cell::new(handle))
     }
@@ -136,7 +136,7 @@ impl LogBatchHandle {
         self.0.as_ptr()
     }
 
-    /// Returns the library's handle. Its value has to be freed by the caller, or given to the
+    /// Gives up the ownership, and returns the library's handle. The caller has to free its value, or to give it to the
     /// library.
     fn into_raw(self) -> Handle {
         let handle = self.0.get();
@@ -144,7 +144,7 @@ impl LogBatchHandle {
         handle
     }
 
-    /// Returns whether the batch is open, encoded or signed.
+    /// Returns how far the batch has come: open, encoded or signed.
     pub(crate) fn stage(&self) -> Stage {
         // SAFETY: `held`: the handle holds a batch.
         match with_handle(&self.0, |batch| unsafe { raft_ffi_batch_stage(batch) }) {

@@ -181,7 +181,8 @@ impl ReaderHandle {
         batches.collect()
     }
 
-    /// Returns the library's handle. Its value has to be freed by the caller, or given to the library.
+    /// Gives up the ownership, and returns the library's handle. The caller has to free its value, or to give it to the
+    /// library.
     fn into_raw(self) -> Handle {
         let handle = self.0;
         mem::forget(self);

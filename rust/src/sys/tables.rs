@@ -39,7 +39,7 @@ impl TablesHandle {
         Ok(TablesHandle(Cell::new(handle)))
     }
 
-    /// Returns the library's handle. Its value has to be freed by the caller, or given to the
+    /// Gives up the ownership, and returns the library's handle. The caller has to free its value, or to give it to the
     /// library.
     fn into_raw(self) -> Handle {
         let handle = self.0.get();
@@ -264,8 +264,8 @@ impl TablesHandle {
         Ok(LogBatchHandle::from_raw(batch))
     }
 
-    /// Puts new entries of the append queue behind the entries of a region that are below their
-    /// first index. All other entries of the region are dropped.
+    /// Appends `entries`, which stand in the append queue and have consecutive indexes, to those of a region. The region's
+    /// entries from the first new index on are dropped.
     ///
     /// # Errors
     ///
@@ -309,8 +309,8 @@ impl TablesHandle {
         Ok(dropped)
     }
 
-    /// Gives a key of a region a value. Both are copied; `file` is the one to which they were
-    /// written.
+    /// Puts `key` with `value` into the table of a region, in place of an older value. Both are copied; `file` is the one to
+    /// which they were written.
     ///
     /// # Errors
     ///
@@ -416,8 +416,8 @@ impl TablesHandle {
         })
     }
 
-    /// Sets the first and the last rewrite file of a region's last atomic group. `start` must be at
-    /// most `end`. The only error is `Memory`: the tables are as they were then.
+    /// Notes the numbers of the rewrite files in which a region's last atomic group begins and ends, `start` and `end`.
+    /// `start` must be at most `end`. The only error is `Memory`: the tables are as they were then.
     pub(crate) fn set_atomic_group(&mut self, region: u64, start: u64, end: u64) -> Result<()> {
         assert!(start <= end, "an atomic group starts behind its end");
         // SAFETY: `held`, `range`: the handle holds tables, and the files are in order.
@@ -437,8 +437,7 @@ impl TablesHandle {
         Ok(is_found)
     }
 
-    /// Moves the table of a region, if there is one, to the tables `to`, in place of the one that
-    /// the region has there.
+    /// Moves the table of a region, if there is one, to the tables `to`, where it replaces the one that the region has.
     ///
     /// # Errors
     ///

@@ -199,8 +199,8 @@ impl LogBatch {
         Ok(())
     }
 
-    /// Notes that the library has written the batch, and taken all its items: forgets what they were, since the batch is empty
-    /// and open now.
+    /// Notes that the library has written the batch and taken its items, so that it is empty and open: forgets the shapes of
+    /// these items.
     pub(crate) fn note_written(&mut self) {
         self.shapes.clear();
     }

@@ -95,7 +95,7 @@ impl Commits {
             }
             if line.is_led || (!sync && !line.unsynced.is_empty()) {
                 line.sleepers += 1;
-                line = locks::wait(&self.is_over, line);
+                line = locks::wait_for_notification(&self.is_over, line);
                 line.sleepers -= 1;
                 continue;
             }

@@ -244,7 +244,7 @@ impl Files for FolderFiles {
     ///
     /// # Errors
     ///
-    /// Those of the system; any error, where changes are refused. Unless [`Files::is_as_before`] is true then, some bytes may
+    /// Those of the system; `Other` where changes are refused. Unless [`Files::is_as_before`] is true then, some bytes may
     /// be in the file, and all further changes are refused.
     fn write(&self, file: FileId, bytes: &[u8]) -> io::Result<()> {
         self.make_change(|unsynced| {
@@ -257,7 +257,7 @@ impl Files for FolderFiles {
     ///
     /// # Errors
     ///
-    /// Those of the system; any error, where changes are refused. Further changes are refused then.
+    /// Those of the system; `Other` where changes are refused. Further changes are refused then.
     fn sync(&self, queue: Queue) -> io::Result<()> {
         self.make_change(|unsynced| Ok(self.sync_unsynced(queue, unsynced)?))
     }
@@ -266,7 +266,7 @@ impl Files for FolderFiles {
     ///
     /// # Errors
     ///
-    /// Those of the system, also where there is a file of that name; any error, where changes are refused. Further changes are
+    /// Those of the system, also where there is a file of that name; `Other` where changes are refused. Further changes are
     /// refused then, unless there was no room for the file: then it isn't there.
     fn rotate(&self, file: FileId) -> io::Result<()> {
         self.free_deleted(); // none is left, but where this is wrapped in files that don't hand the call on
@@ -291,7 +291,7 @@ impl Files for FolderFiles {
     ///
     /// # Errors
     ///
-    /// Those of the system; any error, where changes are refused. Further changes are refused then, and the file may be gone.
+    /// Those of the system; `Other` where changes are refused. Further changes are refused then, and the file may be gone.
     fn delete(&self, file: FileId) -> io::Result<()> {
         self.make_change(|unsynced| {
             unsynced.remove(&file);
@@ -307,7 +307,7 @@ impl Files for FolderFiles {
     ///
     /// # Errors
     ///
-    /// Those of the system; any error, where changes are refused. Further changes are refused then, and the file may be cut or
+    /// Those of the system; `Other` where changes are refused. Further changes are refused then, and the file may be cut or
     /// not.
     fn truncate(&self, file: FileId, len: u64) -> io::Result<()> {
         self.make_change(|unsynced| {

@@ -21,6 +21,9 @@ pub(super) fn lock_to_change<T>(lock: &RwLock<T>) -> RwLockWriteGuard<'_, T> {
 
 /// Unlocks the mutex of `guard`, waits until `notified` is notified, and returns the mutex locked again. It may also return
 /// without a notification.
-pub(super) fn wait<'a, T>(notified: &Condvar, guard: MutexGuard<'a, T>) -> MutexGuard<'a, T> {
+pub(super) fn wait_for_notification<'a, T>(
+    notified: &Condvar,
+    guard: MutexGuard<'a, T>,
+) -> MutexGuard<'a, T> {
     notified.wait(guard).unwrap_or_else(PoisonError::into_inner)
 }

@@ -229,7 +229,7 @@ impl Files for MemoryFiles {
         Ok(())
     }
 
-    /// Makes an empty last file, and notes the ask.
+    /// Makes an empty file, which becomes the last one of its queue, and notes the ask.
     ///
     /// # Errors
     ///
@@ -293,7 +293,7 @@ impl Files for MemoryFiles {
 }
 
 impl State {
-    /// Returns the bytes of a file, which has to be the last one of its queue.
+    /// Lends the bytes of `file`, to be changed. It has to be the last file of its queue.
     ///
     /// # Errors
     ///

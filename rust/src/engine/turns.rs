@@ -33,7 +33,7 @@ impl Turns {
         let number = line.next;
         line.next += 1;
         while line.now != number {
-            line = locks::wait(&self.is_over, line);
+            line = locks::wait_for_notification(&self.is_over, line);
         }
         TurnGuard(self)
     }

@@ -174,8 +174,8 @@ impl EngineHandle {
         check_call(|text, text_len| call(&mut self.handle, text, text_len))
     }
 
-    /// Takes all orders, and returns them in their order. Orders that follow one another and write to the same queue
-    /// become one. The only error is `Memory`.
+    /// Takes all orders, and returns them in their order. Orders that follow one another and write to the same queue become
+    /// one. The only error is `Memory`: the orders that were taken by then are lost.
     pub(crate) fn take_orders(&mut self) -> Result<Vec<Order>> {
         let mut orders = Vec::new();
         let mut none = Vec::new();

@@ -102,7 +102,8 @@ impl From<&Entry> for EntryNumbers {
 }
 
 impl From<EntryNumbers> for Entry {
-    /// Makes the entry. It panics where the entry has no place; those of tables, of read batches and of written ones have one.
+    /// Makes the entry that the library has filled in. It panics where the entry has no place; those of tables, of read
+    /// batches and of written ones have one.
     fn from(entry: EntryNumbers) -> Entry {
         assert!(entry.is_placed, "entry {} has no place", entry.index);
         let queue = if entry.is_rewrite {

@@ -77,7 +77,8 @@ impl TablesHandle {
         })
     }
 
-    /// Returns the list of cleaned regions, in the order in which they were cleaned.
+    /// Returns the list of cleaned regions, in the order in which they were cleaned. Without memory for the list the program
+    /// ends.
     pub(crate) fn cleaned(&self) -> Vec<u64> {
         fill_list_if_found(|room, len, count| {
             // SAFETY: `held`: the handle holds tables.

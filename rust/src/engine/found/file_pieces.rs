@@ -41,7 +41,7 @@ pub(super) struct Piece<'r> {
 }
 
 impl<'a, F: Files> FilePieces<'a, F> {
-    /// Makes the pieces of a file of `len` bytes, from its start on. Nothing is read yet.
+    /// Makes a reading of the pieces of a file of `len` bytes, from its start on. Nothing is read yet.
     pub(super) fn new(files: &'a F, file: FileId, len: u64) -> FilePieces<'a, F> {
         FilePieces {
             files,

@@ -25,6 +25,8 @@ const TARGET: [(&str, &str); 3] = [
     ("CARGO_CFG_TARGET_ENV", "gnu"),
 ];
 
+/// Tells cargo to link the library and, without the feature `global-allocator`, the toolchain's heap. For another target
+/// nothing is linked. A warning says what is missing.
 fn main() {
     let is_ours = |(variable, value)| env::var(variable).is_ok_and(|of_target| of_target == value);
     if !TARGET.into_iter().all(is_ours) {
@@ -33,7 +35,7 @@ fn main() {
              for this target the crate can be checked and documented, and not linked"
         );
     }
-    link("RAFT_FFI_ARCHIVE", || {
+    link_archive("RAFT_FFI_ARCHIVE", || {
         let library = PathBuf::from(LIBRARY);
         if !library.is_file() {
             println!(
@@ -44,8 +46,8 @@ fn main() {
         library
     });
     if env::var_os("CARGO_FEATURE_GLOBAL_ALLOCATOR").is_none() {
-        link("RATTLE_HEAP_ARCHIVE", || {
-            toolchain_heap().unwrap_or_else(|| {
+        link_archive("RATTLE_HEAP_ARCHIVE", || {
+            find_toolchain_heap().unwrap_or_else(|| {
                 println!(
                     "cargo::warning=the toolchain's heap isn't found: put `rt` on the PATH, \
                      or take the feature `global-allocator`"
@@ -57,7 +59,7 @@ fn main() {
 }
 
 /// Returns the path of the toolchain's heap, `liblibc_c.a`; `None` where there is no `rt`, or no such file beside its page.
-fn toolchain_heap() -> Option<PathBuf> {
+fn find_toolchain_heap() -> Option<PathBuf> {
     println!("cargo::rerun-if-env-changed=PATH");
     let page = Command::new("rt").arg("doc").output().ok()?;
     let page = String::from_utf8(page.stdout).ok()?;
@@ -67,7 +69,7 @@ fn toolchain_heap() -> Option<PathBuf> {
 
 /// Tells cargo to link the archive that a variable names, or, where the variable isn't set, the one that `otherwise` returns. An
 /// archive that the variable names and that isn't there is an error.
-fn link(variable: &str, otherwise: impl FnOnce() -> PathBuf) {
+fn link_archive(variable: &str, otherwise: impl FnOnce() -> PathBuf) {
     println!("cargo::rerun-if-env-changed={variable}");
     let archive = match env::var_os(variable).map(PathBuf::from) {
         Some(named) => match named.canonicalize() {

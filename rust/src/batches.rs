@@ -107,6 +107,8 @@ impl<'a> Batches<'a> {
 impl Iterator for Batches<'_> {
     type Item = Result<Batch>;
 
+    /// Reads the next batch, and returns its items, or the error for which it can't be read; `None` at the end of the part,
+    /// and behind an error.
     fn next(&mut self) -> Option<Result<Batch>> {
         let at = self.at.take()?;
         match ItemsHandle::read_batch_at(self.part, at) {

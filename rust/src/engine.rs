@@ -261,7 +261,8 @@ impl<F: Files> Engine<F> {
         Engine::open_files(files, options, None)
     }
 
-    /// Opens an engine over files, and tells `listener`, if there is one, what the opening does to them.
+    /// Opens an engine over files, for [`Engine::with_files`] and [`Engine::with_files_and_listener`]. It tells `listener`, if
+    /// there is one, what the opening does to them.
     ///
     /// # Errors
     ///
@@ -363,7 +364,7 @@ impl<F: Files> Engine<F> {
         &self.recovered
     }
 
-    /// Returns the files that the engine was opened over.
+    /// Returns the [`Files`] implementation that the engine was opened over.
     ///
     /// ```
     /// # use raft_recover::{Engine, MemoryFiles, Options};
@@ -391,7 +392,7 @@ impl<F: Files> Engine<F> {
         self.is_read_only
     }
 
-    /// Checks that the engine isn't open for reading only. `call` is the name of the call that would change something, for the
+    /// Checks that the engine isn't open for reading only. `call` is the name of the public call that asks, and stands in the
     /// error.
     ///
     /// # Errors

@@ -83,6 +83,7 @@ impl TryFrom<u8> for ErrorKind {
 }
 
 impl fmt::Display for ErrorKind {
+    /// Shows the kind in plain words, in lower case.
     fn fmt(&self, f: &mut fmt::Formatter<'_>) -> fmt::Result {
         f.pad(match self {
             ErrorKind::InvalidArgument => "invalid argument",
@@ -190,7 +191,7 @@ impl Error {
         let Ok(Ok(kind)) = kind else {
             unreachable!("the library has no error of number {code}")
         };
-        let place = Place::parse(&text);
+        let place = ErrorPlace::parse(&text);
         Error {
             file: place.file.map(|(file, _)| file),
             offset: place.file.map(|(_, offset)| offset),
@@ -248,8 +249,8 @@ impl Error {
         Error::new(ErrorKind::Corruption, format!("Corruption: {text}")).with_place(file, offset)
     }
 
-    /// Makes the error of kind `Io` for a call that the system refused. `about` says what was refused.
-    pub(crate) fn system(about: impl fmt::Display, source: io::Error) -> Error {
+    /// Makes the error of kind `Io` for a call that the system refused, by the error `source`. `about` says what was refused.
+    pub(crate) fn io(about: impl fmt::Display, source: io::Error) -> Error {
         let text = format!("IO Error: {about}: {source}");
         Error {
             source: Some(Arc::new(Source(source.into()))),
@@ -312,16 +313,16 @@ impl Error {
 /// The place that stands between the kind and the reason in the text of an error: a file and an offset, as in `Corruption: append
 /// file 3, offset 17: ..`, with the entry before them, as in `Corruption: region 7, index 12, append file 3, offset 17: ..`.
 #[derive(Default)]
-struct Place {
+struct ErrorPlace {
     region: Option<u64>,
     index: Option<u64>,
     file: Option<(FileId, u64)>,
 }
 
-impl Place {
-    /// Reads the place from the text of an error. Each part that isn't there is `None`.
-    fn parse(text: &str) -> Place {
-        let mut place = Place::default();
+impl ErrorPlace {
+    /// Reads the place that stands in `text`, the text of an error. Each part that isn't there is `None`.
+    fn parse(text: &str) -> ErrorPlace {
+        let mut place = ErrorPlace::default();
         let Some((_, words)) = text.split_once(": ") else {
             return place;
         };
@@ -367,6 +368,7 @@ impl PartialEq for Error {
 impl Eq for Error {}
 
 impl Hash for Error {
+    /// Hashes all but the source, so that equal errors have equal hashes.
     fn hash<H: Hasher>(&self, state: &mut H) {
         (self.kind, &self.text, self.file, self.offset).hash(state);
         (self.region, self.index, self.item).hash(state);
@@ -374,6 +376,7 @@ impl Hash for Error {
 }
 
 impl fmt::Display for Error {
+    /// Shows the text.
     fn fmt(&self, f: &mut fmt::Formatter<'_>) -> fmt::Result {
         f.pad(&self.text)
     }

@@ -25,6 +25,7 @@ pub enum Queue {
 }
 
 impl fmt::Display for Queue {
+    /// Shows the word `append` or `rewrite`.
     fn fmt(&self, f: &mut fmt::Formatter<'_>) -> fmt::Result {
         f.pad(match self {
             Queue::Append => "append",
@@ -89,6 +90,7 @@ pub enum Version {
 }
 
 impl fmt::Display for Version {
+    /// Shows `V1` or `V2`.
     fn fmt(&self, f: &mut fmt::Formatter<'_>) -> fmt::Result {
         f.pad(match self {
             Version::V1 => "V1",
@@ -148,12 +150,14 @@ impl FileId {
 }
 
 impl fmt::Display for FileId {
+    /// Shows the queue and the number, as in `append file 3`.
     fn fmt(&self, f: &mut fmt::Formatter<'_>) -> fmt::Result {
         write!(f, "{} file {}", self.queue, self.seq)
     }
 }
 
 impl From<LogFile> for FileId {
+    /// Returns the id of a log file, which leaves out its format.
     fn from(file: LogFile) -> FileId {
         FileId::new(file.queue, file.seq)
     }

@@ -66,7 +66,7 @@ pub struct LogBatch {
 }
 
 impl LogBatch {
-    /// Makes the batch of a handle that holds an open batch without items.
+    /// Makes a log batch of the library's handle of an open batch without items.
     fn from_handle(handle: LogBatchHandle) -> LogBatch {
         LogBatch {
             handle,
@@ -76,7 +76,7 @@ impl LogBatch {
         }
     }
 
-    /// Makes the batch of a handle that holds an open batch with a `Clean` for each of `regions`, in this order.
+    /// Makes a log batch of the library's handle of an open batch that has a `Clean` for each of `regions`, in this order.
     pub(crate) fn from_cleans(handle: LogBatchHandle, regions: &[u64]) -> LogBatch {
         let mut batch = LogBatch::from_handle(handle);
         for region in regions {
@@ -85,12 +85,12 @@ impl LogBatch {
         batch
     }
 
-    /// Returns the handle of the library, for calls that only read the batch.
+    /// Returns the library's handle of this batch, for calls that only read it.
     pub(crate) fn handle(&self) -> &LogBatchHandle {
         &self.handle
     }
 
-    /// Returns the handle of the library, for calls that change the batch.
+    /// Returns the library's handle of this batch, for calls that change it.
     pub(crate) fn handle_mut(&mut self) -> &mut LogBatchHandle {
         &mut self.handle
     }
@@ -199,14 +199,15 @@ impl LogBatch {
         Ok(())
     }
 
-    /// Notes that the library has written the batch, and taken all its items, so that it is empty and open.
+    /// Notes that the library has written the batch and taken its items, so that it is empty and open: forgets the shapes of
+    /// these items.
     pub(crate) fn note_written(&mut self) {
         self.shapes.clear();
     }
 
-    /// Returns an error with the item that is its reason, if that is `Corruption`: the first item whose entries don't fit those
-    /// of their region. Only regions for which `is_tested` is true are looked at. `summary` returns what a region has before the
-    /// batch. An error of another kind is returned as it is.
+    /// Adds to `refused`, if it is of kind `Corruption`, the item that is its reason, and returns it: the first item whose
+    /// entries don't fit those of their region. Only regions for which `is_tested` is true are looked at. `summary` returns
+    /// what a region has before the batch. An error of another kind, or without such an item, is returned as it is.
     pub(crate) fn name_refused_item(
         &self,
         refused: Error,

@@ -80,11 +80,13 @@ pub trait Message: Sized {
 impl Message for Vec<u8> {
     type Error = Infallible;
 
+    /// Appends the bytes as they are. It never fails.
     fn encode(&self, bytes: &mut Vec<u8>) -> Result<(), Infallible> {
         bytes.extend_from_slice(self);
         Ok(())
     }
 
+    /// Returns a copy of the bytes. It never fails.
     fn decode(bytes: &[u8]) -> Result<Vec<u8>, Infallible> {
         Ok(bytes.to_vec())
     }
@@ -94,11 +96,17 @@ impl Message for Vec<u8> {
 impl Message for String {
     type Error = FromUtf8Error;
 
+    /// Appends the text's bytes in UTF-8. It never fails.
     fn encode(&self, bytes: &mut Vec<u8>) -> Result<(), FromUtf8Error> {
         bytes.extend_from_slice(self.as_bytes());
         Ok(())
     }
 
+    /// Returns the text that the bytes encode.
+    ///
+    /// # Errors
+    ///
+    /// That of `String::from_utf8`, where the bytes aren't UTF-8.
     fn decode(bytes: &[u8]) -> Result<String, FromUtf8Error> {
         String::from_utf8(bytes.to_vec())
     }

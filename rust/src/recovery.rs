@@ -105,8 +105,8 @@ fn replay_parts(parts: &[FilePart<'_>]) -> Result<Context> {
     Ok(context)
 }
 
-/// Makes two calls at once, the second one on a new thread, and returns what both return. Where no thread can be started it makes
-/// the second call after the first. A panic of either is passed on.
+/// Makes the calls `first` and `second` at once, the latter on a new thread, and returns what both return. Where no thread can
+/// be started it makes `second` after `first`. A panic of either is passed on.
 fn call_both<A, B: Send>(
     first: impl FnOnce() -> A,
     second: impl FnOnce() -> B + Copy + Send,

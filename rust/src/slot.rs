@@ -129,8 +129,8 @@ impl Slot {
         self.number
     }
 
-    /// Puts new entries of the append queue, with consecutive indexes, behind the entries of a region that are below their first
-    /// index. All other entries of the region are dropped. Without new entries nothing changes.
+    /// Appends `entries`, which stand in the append queue and have consecutive indexes, to those of a region. The region's
+    /// entries from the first new index on are dropped. Without new entries nothing changes.
     ///
     /// ```
     /// # use raft_recover::{Block, Entry, FileId, Queue, Slot, slot_of};
@@ -197,7 +197,8 @@ impl Slot {
         self.tables.truncate(region, index)
     }
 
-    /// Gives a key of a region a value. Both are copied; `file` is the one to which they were written.
+    /// Puts `key` with `value` into the table of a region, in place of an older value. Both are copied; `file` is the one to
+    /// which they were written.
     ///
     /// ```
     /// # use raft_recover::{FileId, Queue, Slot, slot_of};
@@ -286,7 +287,8 @@ impl Slot {
         self.tables.rewrite_key(region, key, gate, seq)
     }
 
-    /// Sets the first and the last rewrite file of a region's last atomic group, once the end of that group is written.
+    /// Notes the numbers of the rewrite files in which a region's last atomic group begins and ends, `start` and `end`, once
+    /// the end of that group is written.
     ///
     /// ```
     /// # use raft_recover::{FileId, Queue, Slot, slot_of};
@@ -476,6 +478,7 @@ impl Slot {
 impl Deref for Slot {
     type Target = Tables;
 
+    /// Returns the tables of the slot.
     fn deref(&self) -> &Tables {
         &self.tables
     }

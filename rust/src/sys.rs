@@ -47,7 +47,9 @@ pub(crate) use packed::Packed;
 pub(crate) use reader::{ReadFiles, ReaderHandle, Size, open_engine};
 pub(crate) use tables::TablesHandle;
 
-use lists::{list, list_if_found, list_packed_pairs, list_pairs, list_with_room, make_room};
+use lists::{
+    fill_list, fill_list_if_found, fill_list_with_room, fill_packed_pairs, fill_pairs, make_room,
+};
 use numbers::{EntryNumbers, File, Maybe, SummaryNumbers, to_entries, to_entry_numbers};
 
 /// A pointer to a value of the library; null where there is none.
@@ -94,22 +96,23 @@ unsafe extern "C" {
 /// How many bytes of an error's text are kept at most.
 const TEXT_LEN: usize = 256;
 
-/// Makes a call of the library, with room for the text of its error: a pointer and a length. Returns the error; `None` where the
-/// call succeeded.
+/// Makes `call`, a call of the library, which gets room for the text of its error: a pointer and a length. Returns the error;
+/// `None` where the call succeeded.
 fn error_of_call(call: impl FnOnce(*mut u8, usize) -> Status) -> Option<Error> {
     let mut text = [0u8; TEXT_LEN];
     let status = call(text.as_mut_ptr(), text.len());
     (status.code != 0).then(|| error_with_text(status.code, status.text_len, &text))
 }
 
-/// Makes the error of a number that isn't 0. `text` begins with the error's text, which has `text_len` bytes, or with as many of
-/// these as there was room for.
+/// Makes the error whose kind has the number `code`, which isn't 0. `text` begins with the error's text, which has `text_len`
+/// bytes, or with as many of these as there was room for.
 fn error_with_text(code: u32, text_len: usize, text: &[u8; TEXT_LEN]) -> Error {
     let text = &text[..text_len.min(TEXT_LEN)];
     Error::from_library(code, String::from_utf8_lossy(text).into_owned())
 }
 
-/// Makes a call of the library, with room for the text of its error: a pointer and a length.
+/// Makes `call`, a call of the library, which gets room for the text of its error, a pointer and a length; and turns its
+/// status into a result.
 ///
 /// # Errors
 ///
@@ -118,12 +121,12 @@ fn check_call(call: impl FnOnce(*mut u8, usize) -> Status) -> Result<()> {
     error_of_call(call).map_or(Ok(()), Err)
 }
 
-/// Turns the number of a call that can only fail for lack of memory into a result.
+/// Turns `code`, the answer of a call that can only fail for lack of memory, into a result.
 ///
 /// # Errors
 ///
 /// `Memory` where it isn't 0.
-fn check_memory(code: u32) -> Result<()> {
+fn check_memory_code(code: u32) -> Result<()> {
     match code {
         0 => Ok(()),
         _ => Err(Error::memory()),
@@ -137,7 +140,7 @@ impl Handle {
     };
 }
 
-/// Lends the handle in a cell to a call, puts what the call leaves of it back, and returns what the call returns.
+/// Lends the handle in `cell` to `call`, puts it back as `call` leaves it, and returns what `call` returns.
 fn with_handle<A>(cell: &Cell<Handle>, call: impl FnOnce(*mut Handle) -> A) -> A {
     let mut handle = cell.get();
     let answer = call(&mut handle);

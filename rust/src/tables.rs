@@ -71,7 +71,7 @@ pub struct Tables {
 }
 
 impl Tables {
-    /// Makes the tables of a handle that holds some.
+    /// Makes tables of the library's handle of them.
     pub(crate) fn from_handle(handle: TablesHandle) -> Tables {
         Tables { handle }
     }
@@ -202,6 +202,12 @@ impl fmt::Debug for Tables {
 }
 
 impl fmt::Display for Tables {
+    /// Writes a line for each region that has a table, one for the cleaned regions, and one with how many records are live in
+    /// each queue.
+    ///
+    /// # Errors
+    ///
+    /// The writer's; an error too where there is no memory for the list of regions.
     fn fmt(&self, f: &mut fmt::Formatter<'_>) -> fmt::Result {
         for region in self.regions().map_err(|_| fmt::Error)? {
             self.write_region(region, f)?;

@@ -139,17 +139,17 @@ impl Batch {
         Vec::from_iter(numbers)
     }
 
-    /// Makes a batch of a handle that holds items.
+    /// Makes a batch of the library's handle of its items.
     pub(crate) fn from_handle(handle: ItemsHandle) -> Batch {
         Batch { handle }
     }
 
-    /// Returns the handle of the items.
+    /// Returns the library's handle of the items, for calls that only read them.
     pub(crate) fn handle(&self) -> &ItemsHandle {
         &self.handle
     }
 
-    /// Returns the handle of the items, to be given to the library.
+    /// Returns the library's handle of the items, for a call that takes them.
     pub(crate) fn into_handle(self) -> ItemsHandle {
         self.handle
     }
@@ -168,6 +168,7 @@ impl<'a> IntoIterator for &'a Batch {
     type Item = Item;
     type IntoIter = BatchIter<'a>;
 
+    /// Returns the iterator of [`Batch::iter`].
     fn into_iter(self) -> BatchIter<'a> {
         self.iter()
     }
@@ -177,6 +178,7 @@ impl IntoIterator for Batch {
     type Item = Item;
     type IntoIter = BatchIntoIter;
 
+    /// Returns an iterator over the items, in order, which owns the batch.
     fn into_iter(self) -> BatchIntoIter {
         let rest = 0..self.len();
         BatchIntoIter { batch: self, rest }

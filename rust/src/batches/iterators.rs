@@ -48,16 +48,19 @@ pub struct BatchIntoIter {
 impl Iterator for BatchIter<'_> {
     type Item = Item;
 
+    /// Returns a copy of the first item that is left; `None` where none is. It panics where [`Batch::get`] does.
     fn next(&mut self) -> Option<Item> {
         self.batch.get(self.rest.next()?)
     }
 
+    /// Returns how many items are left, exactly.
     fn size_hint(&self) -> (usize, Option<usize>) {
         self.rest.size_hint()
     }
 }
 
 impl DoubleEndedIterator for BatchIter<'_> {
+    /// Returns a copy of the last item that is left; `None` where none is. It panics where [`Batch::get`] does.
     fn next_back(&mut self) -> Option<Item> {
         self.batch.get(self.rest.next_back()?)
     }
@@ -70,16 +73,19 @@ impl FusedIterator for BatchIter<'_> {}
 impl Iterator for BatchIntoIter {
     type Item = Item;
 
+    /// Returns the first item that is left; `None` where none is. It panics where [`Batch::get`] does.
     fn next(&mut self) -> Option<Item> {
         self.batch.get(self.rest.next()?)
     }
 
+    /// Returns how many items are left, exactly.
     fn size_hint(&self) -> (usize, Option<usize>) {
         self.rest.size_hint()
     }
 }
 
 impl DoubleEndedIterator for BatchIntoIter {
+    /// Returns the last item that is left; `None` where none is. It panics where [`Batch::get`] does.
     fn next_back(&mut self) -> Option<Item> {
         self.batch.get(self.rest.next_back()?)
     }

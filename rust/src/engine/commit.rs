@@ -55,7 +55,7 @@ pub(super) struct Commit {
 impl Commit {
     /// Writes the batch to the tables, which order that its bytes are written. An error is noted as the result; the batch is then
     /// as it was, unless the tables have failed.
-    pub(super) fn write(&mut self, tables: &mut EngineHandle) {
+    pub(super) fn write_to_tables(&mut self, tables: &mut EngineHandle) {
         let has_items = !self.batch.is_empty();
         match tables.write(self.batch.handle_mut()) {
             Ok(()) => {
@@ -71,15 +71,15 @@ impl Commit {
 }
 
 impl Commits {
-    /// Hands in a batch, and waits until a thread has written it. `sync` says whether it is to be synced too. Where no other
-    /// thread leads, this one does, by the call `lead`; but a thread that wants no sync doesn't lead while batches wait for one.
+    /// Hands in a batch, and waits until a thread has written it, and synced it, if `sync` is true. Where no other thread
+    /// leads, this one does, by the call `lead`; but a thread that wants no sync doesn't lead while batches wait for one.
     /// After an `Ok` the batch is empty.
     ///
     /// # Errors
     ///
-    /// The result that was noted with the batch, which is then as the leader left it; `Failed` where none was; `Memory`, before
-    /// anything is done.
-    pub(super) fn write(
+    /// The error that the leader noted with the batch, which is then as the leader left it; `Failed` where the leader ended
+    /// without noting a result; `Memory`, before the batch is handed in.
+    pub(super) fn hand_in_and_wait(
         &self,
         batch: &mut LogBatch,
         sync: bool,
@@ -87,7 +87,7 @@ impl Commits {
     ) -> Result<()> {
         let mut line = locks::lock(&self.line);
         let spare = line.spare.pop().map_or_else(LogBatch::new, Ok)?;
-        let ticket = line.hand_in(mem::replace(batch, spare), sync);
+        let ticket = line.push_batch(mem::replace(batch, spare), sync);
         loop {
             if let Some(over) = line.take_finished(ticket) {
                 line.spare.push(mem::replace(batch, over.batch));
@@ -95,20 +95,20 @@ impl Commits {
             }
             if line.is_led || (!sync && !line.unsynced.is_empty()) {
                 line.sleepers += 1;
-                line = locks::wait(&self.is_over, line);
+                line = locks::wait_for_notification(&self.is_over, line);
                 line.sleepers -= 1;
                 continue;
             }
             line.is_led = true;
             drop(line);
-            lead(&mut Group::led_by(self, ticket));
+            lead(&mut Group::with_leader(self, ticket));
             line = locks::lock(&self.line);
         }
     }
 
-    /// Changes the line of batches by `change`, and wakes the threads that wait, if there are any. (To wake nobody would cost a
-    /// call of the system too.)
-    fn change_line(&self, change: impl FnOnce(&mut Line)) {
+    /// Changes the line of batches by `change`, and wakes the threads that wait for a change of it. If there are none, no call
+    /// of the system is made.
+    fn change_line_and_wake(&self, change: impl FnOnce(&mut Line)) {
         let mut line = locks::lock(&self.line);
         change(&mut line);
         let is_awaited = line.sleepers > 0;
@@ -121,7 +121,7 @@ impl Commits {
 
 impl Line {
     /// Puts a batch at the end of the line, and returns its ticket. `sync` says whether it is to be synced.
-    fn hand_in(&mut self, batch: LogBatch, sync: bool) -> u64 {
+    fn push_batch(&mut self, batch: LogBatch, sync: bool) -> u64 {
         let ticket = self.next_ticket;
         self.next_ticket += 1;
         self.waiting.push(Commit {

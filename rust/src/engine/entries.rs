@@ -35,12 +35,12 @@ pub struct Entries {
     /// The entry bytes of the blocks that have the entries.
     blocks: Vec<Arc<Vec<u8>>>,
     /// The entries that are left.
-    rest: vec::IntoIter<Place>,
+    rest: vec::IntoIter<EntryPlace>,
 }
 
 /// An entry, and where its bytes are among those of [`Entries`].
 #[derive(Clone)]
-struct Place {
+struct EntryPlace {
     index: u64,
     /// The position of its block.
     block: usize,
@@ -77,7 +77,7 @@ impl Entries {
                 .ok_or_else(|| lacking_bytes_error(entry))
                 .map_err(with_entry)?;
             let index = entry.index;
-            places.push(Place {
+            places.push(EntryPlace {
                 index,
                 block,
                 bytes,
@@ -135,7 +135,7 @@ impl Entries {
     }
 
     /// Returns the bytes of the entry that `place` describes.
-    fn bytes_at(&self, place: &Place) -> &[u8] {
+    fn bytes_at(&self, place: &EntryPlace) -> &[u8] {
         &self.blocks[place.block][place.bytes.clone()]
     }
 }
@@ -143,17 +143,20 @@ impl Entries {
 impl Iterator for Entries {
     type Item = Vec<u8>;
 
+    /// Returns a copy of the bytes of the first entry that is left; `None` where none is.
     fn next(&mut self) -> Option<Vec<u8>> {
         let place = self.rest.next()?;
         Some(self.bytes_at(&place).to_vec())
     }
 
+    /// Returns how many entries are left, exactly.
     fn size_hint(&self) -> (usize, Option<usize>) {
         self.rest.size_hint()
     }
 }
 
 impl DoubleEndedIterator for Entries {
+    /// Returns a copy of the bytes of the last entry that is left; `None` where none is.
     fn next_back(&mut self) -> Option<Vec<u8>> {
         let place = self.rest.next_back()?;
         Some(self.bytes_at(&place).to_vec())
@@ -183,8 +186,12 @@ pub(super) struct EntryBytes {
 }
 
 impl EntryBytes {
-    /// Returns the bytes of an entry from the kept blocks; `None` where its block isn't kept, or doesn't have these bytes.
-    pub(super) fn from_kept<F: Files>(engine: &Engine<F>, entry: &Entry) -> Option<EntryBytes> {
+    /// Returns the bytes of an entry from the kept block that has them; `None` where its block isn't kept, or ends before
+    /// them.
+    pub(super) fn from_kept_block<F: Files>(
+        engine: &Engine<F>,
+        entry: &Entry,
+    ) -> Option<EntryBytes> {
         let block = engine.kept_blocks.get(&entry.block)?;
         let bytes = range_in_block(entry, block.len())?;
         Some(EntryBytes { block, bytes })
@@ -217,8 +224,8 @@ impl EntryBytes {
     }
 }
 
-/// Returns `len` bytes of zero. The only error is `Memory`.
-pub(super) fn zeros(len: usize) -> Result<Vec<u8>> {
+/// Allocates `len` bytes of zero, and returns them. The only error is `Memory`.
+pub(super) fn allocate_zeros(len: usize) -> Result<Vec<u8>> {
     let mut bytes = Vec::new();
     bytes.try_reserve_exact(len).map_err(|_| Error::memory())?;
     bytes.resize(len, 0);
@@ -232,12 +239,12 @@ pub(super) fn zeros(len: usize) -> Result<Vec<u8>> {
 ///
 /// `Io` with the file and the offset of the block; `Memory`.
 pub(super) fn read_block<F: Files>(engine: &Engine<F>, block: Block) -> Result<Vec<u8>> {
-    let mut bytes = zeros(block.len)?;
+    let mut bytes = allocate_zeros(block.len)?;
     if block.len > 0 {
         engine
             .read_at(block.file, block.offset, &mut bytes)
             .map_err(|e| {
-                Error::system("the block can't be read", e).with_place(block.file, block.offset)
+                Error::io("the block can't be read", e).with_place(block.file, block.offset)
             })?;
     }
     Ok(bytes)

@@ -38,18 +38,19 @@ impl<F: Files> Engine<F> {
         }
     }
 
-    /// Notes that the engine has failed, and can't be read any more. Returns the reason, as it is.
-    pub(super) fn fail(&self, reason: Error) -> Error {
+    /// Notes that the engine has failed, for `reason`, and can't be read any more. Returns `reason` as it is. A failure that
+    /// was noted before stays.
+    pub(super) fn fail_engine(&self, reason: Error) -> Error {
         self.note_failure(reason, false)
     }
 
-    /// Notes that the files have failed. All that the tables have can still be read: bytes that were ordered and not written are
-    /// read from memory. Returns the reason, as it is.
+    /// Notes that the files have failed, for `reason`. All that the tables have can still be read: bytes that were ordered and
+    /// not written are read from memory. Returns `reason` as it is. A failure that was noted before stays.
     pub(super) fn fail_files(&self, reason: Error) -> Error {
         self.note_failure(reason, true)
     }
 
-    /// Notes why the engine has failed, and whether it can still be read, unless a failure is noted already. Returns the reason,
+    /// Notes why the engine has failed, and whether it can still be read, unless a failure is noted already. Returns `reason`
     /// as it is.
     fn note_failure(&self, reason: Error, is_readable: bool) -> Error {
         let failure = Failure {

@@ -240,38 +240,47 @@ pub trait Files: Send + Sync {
 
 /// Hands each call on to the files in the `Arc`.
 impl<F: Files + ?Sized> Files for Arc<F> {
+    /// Lists the files of a queue, as the files in the `Arc` do.
     fn list(&self, queue: Queue) -> io::Result<Vec<(u64, u64)>> {
         (**self).list(queue)
     }
 
+    /// Writes bytes at the end of a file, as the files in the `Arc` do.
     fn write(&self, file: FileId, bytes: &[u8]) -> io::Result<()> {
         (**self).write(file, bytes)
     }
 
+    /// Syncs a queue, as the files in the `Arc` do.
     fn sync(&self, queue: Queue) -> io::Result<()> {
         (**self).sync(queue)
     }
 
+    /// Makes a new last file, as the files in the `Arc` do.
     fn rotate(&self, file: FileId) -> io::Result<()> {
         (**self).rotate(file)
     }
 
+    /// Deletes the oldest file of a queue, as the files in the `Arc` do.
     fn delete(&self, file: FileId) -> io::Result<()> {
         (**self).delete(file)
     }
 
+    /// Cuts the last file of a queue, as the files in the `Arc` do.
     fn truncate(&self, file: FileId, len: u64) -> io::Result<()> {
         (**self).truncate(file, len)
     }
 
+    /// Gives back the room of deleted files, as the files in the `Arc` do.
     fn free_deleted(&self) {
         (**self).free_deleted();
     }
 
+    /// Reads bytes of a file, as the files in the `Arc` do.
     fn read(&self, file: FileId, offset: u64, bytes: &mut [u8]) -> io::Result<()> {
         (**self).read(file, offset, bytes)
     }
 
+    /// Asks the files in the `Arc` whether a call that failed left all as it was.
     fn is_as_before(&self) -> bool {
         (**self).is_as_before()
     }

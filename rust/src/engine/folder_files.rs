@@ -86,7 +86,7 @@ impl FolderFiles {
     /// isn't one, or is that of something else than a file; `Io`.
     pub fn open(path: impl AsRef<Path>) -> Result<FolderFiles> {
         let path = path.as_ref();
-        let about = |e| Error::system(path.display(), e);
+        let about = |e| Error::io(path.display(), e);
         match fs::create_dir(path) {
             Err(e) if e.kind() != io::ErrorKind::AlreadyExists => return Err(about(e)),
             _ => {}
@@ -128,7 +128,7 @@ impl FolderFiles {
     /// but isn't one, or is that of something else than a file; `Io`, also where there is no folder.
     pub fn open_read_only(path: impl AsRef<Path>) -> Result<FolderFiles> {
         let path = path.as_ref();
-        let path = fs::canonicalize(path).map_err(|e| Error::system(path.display(), e))?;
+        let path = fs::canonicalize(path).map_err(|e| Error::io(path.display(), e))?;
         let locked = LockedFolder::lock_shared(&path)?;
         let files = open_log_files(&path, File::open)?;
         let changes = Changes {
@@ -174,12 +174,12 @@ impl FolderFiles {
         self.path.join(log_file_name(file))
     }
 
-    /// Returns the open log file with an id.
+    /// Returns the open log file that has the id `id`.
     ///
     /// # Errors
     ///
     /// `NotFound` where the folder has no such file, or it was deleted.
-    fn open_file(&self, id: FileId) -> io::Result<Arc<File>> {
+    fn get_open_file(&self, id: FileId) -> io::Result<Arc<File>> {
         let files = locks::lock_to_read(&self.files);
         let file = files.get(&id).cloned();
         file.ok_or_else(|| io::Error::new(io::ErrorKind::NotFound, "the file isn't there"))
@@ -193,14 +193,14 @@ impl FolderFiles {
     /// Those of the system. The files that are still in `unsynced` may not be synced.
     fn sync_unsynced(&self, queue: Queue, unsynced: &mut BTreeSet<FileId>) -> io::Result<()> {
         while let Some(file) = unsynced.range(ids_of_queue(queue)).next().copied() {
-            self.open_file(file)?.sync_data()?;
+            self.get_open_file(file)?.sync_data()?;
             unsynced.remove(&file);
         }
         Ok(())
     }
 
-    /// Makes one change of the files, under the lock of changes. `change` makes it; it gets the set of files with bytes that
-    /// aren't synced, to bring it up to date. As long as `change` hasn't returned `Ok` or `AsBefore`, the change counts as half
+    /// Makes one change of the files by `change`, under the lock of changes. `change` gets the set of files with bytes that
+    /// aren't synced, to bring it up to date. As long as it hasn't returned `Ok` or `AsBefore`, the change counts as half
     /// made, also where it panics.
     ///
     /// # Errors
@@ -227,6 +227,11 @@ impl FolderFiles {
 }
 
 impl Files for FolderFiles {
+    /// Returns the number of each file of a queue, and the length that it has now, oldest first.
+    ///
+    /// # Errors
+    ///
+    /// Those of the system, where a length can't be read.
     fn list(&self, queue: Queue) -> io::Result<Vec<(u64, u64)>> {
         let files = locks::lock_to_read(&self.files);
         let of_queue = files.range(ids_of_queue(queue));
@@ -235,17 +240,34 @@ impl Files for FolderFiles {
             .collect()
     }
 
+    /// Writes bytes at the end of a file. Where there is no room for all of them the file is cut back to its old length.
+    ///
+    /// # Errors
+    ///
+    /// Those of the system; `Other` where changes are refused. Unless [`Files::is_as_before`] is true then, some bytes may
+    /// be in the file, and all further changes are refused.
     fn write(&self, file: FileId, bytes: &[u8]) -> io::Result<()> {
         self.make_change(|unsynced| {
             unsynced.insert(file);
-            write_all_or_nothing(self.open_file(file)?.as_ref(), bytes)
+            write_all_or_nothing(self.get_open_file(file)?.as_ref(), bytes)
         })
     }
 
+    /// Syncs the files of a queue that have bytes that aren't synced.
+    ///
+    /// # Errors
+    ///
+    /// Those of the system; `Other` where changes are refused. Further changes are refused then.
     fn sync(&self, queue: Queue) -> io::Result<()> {
         self.make_change(|unsynced| Ok(self.sync_unsynced(queue, unsynced)?))
     }
 
+    /// Syncs the files of the queue, makes an empty file, and syncs its name.
+    ///
+    /// # Errors
+    ///
+    /// Those of the system, also where there is a file of that name; `Other` where changes are refused. Further changes are
+    /// refused then, unless there was no room for the file: then it isn't there.
     fn rotate(&self, file: FileId) -> io::Result<()> {
         self.free_deleted(); // none is left, but where this is wrapped in files that don't hand the call on
         self.make_change(|unsynced| {
@@ -264,6 +286,12 @@ impl Files for FolderFiles {
         })
     }
 
+    /// Deletes a file, and syncs the folder. The file stays open, so that its room on the disk is given back only by
+    /// [`Files::free_deleted`].
+    ///
+    /// # Errors
+    ///
+    /// Those of the system; `Other` where changes are refused. Further changes are refused then, and the file may be gone.
     fn delete(&self, file: FileId) -> io::Result<()> {
         self.make_change(|unsynced| {
             unsynced.remove(&file);
@@ -274,9 +302,16 @@ impl Files for FolderFiles {
         })
     }
 
+    /// Cuts a file to `len` bytes, if it has more, and syncs it. What is cut off is first kept in a file beside, which is
+    /// synced too.
+    ///
+    /// # Errors
+    ///
+    /// Those of the system; `Other` where changes are refused. Further changes are refused then, and the file may be cut or
+    /// not.
     fn truncate(&self, file: FileId, len: u64) -> io::Result<()> {
         self.make_change(|unsynced| {
-            let opened = self.open_file(file)?;
+            let opened = self.get_open_file(file)?;
             let old = opened.metadata()?.len();
             if len < old {
                 let mut tail = vec![0; (old - len) as usize];
@@ -291,15 +326,22 @@ impl Files for FolderFiles {
         })
     }
 
+    /// Closes the deleted files, so that the system gives back their room.
     fn free_deleted(&self) {
         let deleted = mem::take(&mut *locks::lock(&self.deleted));
         drop(deleted); // without the lock
     }
 
+    /// Fills all of `bytes` with those of a file from `offset` on.
+    ///
+    /// # Errors
+    ///
+    /// `NotFound` where the folder has no such file; those of the system, also where the file ends before `bytes` are full.
     fn read(&self, file: FileId, offset: u64, bytes: &mut [u8]) -> io::Result<()> {
-        read_at(self.open_file(file)?.as_ref(), bytes, offset)
+        read_at(self.get_open_file(file)?.as_ref(), bytes, offset)
     }
 
+    /// Tests whether changes aren't refused: the last one that failed, if any did, left all as it was.
     fn is_as_before(&self) -> bool {
         locks::lock(&self.changes).refused.is_none()
     }
@@ -324,13 +366,13 @@ fn open_log_files(
     folder: &Path,
     open: impl Fn(PathBuf) -> io::Result<File>,
 ) -> Result<BTreeMap<FileId, Arc<File>>> {
-    let about = |e| Error::system(folder.display(), e);
+    let about = |e| Error::io(folder.display(), e);
     let mut files = BTreeMap::new();
     for entry in fs::read_dir(folder).map_err(about)? {
         let entry = entry.map_err(about)?;
         if let Some(id) = parse_log_file_name(&entry.file_name().to_string_lossy())? {
             let path = entry.path();
-            let about = |e| Error::system(path.display(), e);
+            let about = |e| Error::io(path.display(), e);
             if !fs::metadata(&path).map_err(about)?.is_file() {
                 let text = format!("{} isn't a file", path.display());
                 return Err(Error::invalid_argument(&text)); // to open a pipe might take for ever

@@ -12,7 +12,7 @@ mod queue_reading;
 mod stretches;
 mod worker;
 
-use damaged_tail::damaged_tail;
+use damaged_tail::find_damaged_tail;
 use queue_reading::read_queue;
 
 /// The files of both queues that were found, read to their ends, or up to a batch that can't be read, with the length of each.
@@ -42,22 +42,26 @@ impl Found {
     ///
     /// `Io` where files can't be listed; `Corruption` where one is missing between two others; those of [`read_queue()`].
     pub(super) fn read(files: &impl Files, options: &Options) -> Result<Found> {
-        Found::read_before(files, options, None)
+        Found::read_up_to_cut(files, options, None)
     }
 
-    /// Lists the files of both queues, and reads them, as [`Found::read`] does. Where there is a `cut`, its file is read as if it
-    /// ended there.
+    /// Lists and reads the files of both queues, as [`Found::read`] does; but the file of `cut`, where there is one, only up
+    /// to the offset of the cut. `numbers` keeps the full length of that file, which isn't cut yet.
     ///
     /// # Errors
     ///
     /// Those of [`Found::read`].
-    fn read_before(files: &impl Files, options: &Options, cut: Option<&CutTail>) -> Result<Found> {
+    fn read_up_to_cut(
+        files: &impl Files,
+        options: &Options,
+        cut: Option<&CutTail>,
+    ) -> Result<Found> {
         let mut numbers = Numbers::default();
         let mut read = |queue| {
             let mut listed = files
                 .list(queue)
-                .map_err(|e| Error::system(format_args!("the {queue} files can't be listed"), e))?;
-            check_none_is_missing(queue, &listed)?;
+                .map_err(|e| Error::io(format_args!("the {queue} files can't be listed"), e))?;
+            check_no_file_is_missing(queue, &listed)?;
             for (seq, len) in &mut listed {
                 let file = FileId::new(queue, *seq);
                 numbers.set_len(file, *len);
@@ -96,8 +100,9 @@ impl Found {
 }
 
 impl Opened {
-    /// Cuts off the last append file all batches at its end whose entries are damaged, if no sound batch stands behind them: the
-    /// files are read once more, without these. Nothing is done to the files.
+    /// Leaves out all batches at the end of the last append file whose entries are damaged, if no sound batch stands behind
+    /// them: the files are read once more without these, and `orders` begins with the cut of that file and a sync of its
+    /// queue. Nothing is done to the files yet.
     ///
     /// # Errors
     ///
@@ -112,14 +117,14 @@ impl Opened {
             return Ok(self);
         };
         let end = self.recovered.append.as_ref().map_or(len, |cut| cut.offset);
-        let Some(cut) = damaged_tail(files, &self.recovered.damaged, end, len)? else {
+        let Some(cut) = find_damaged_tail(files, &self.recovered.damaged, end, len)? else {
             return Ok(self);
         };
         if options.recovery_mode == RecoveryMode::AbsoluteConsistency {
             return Err(cut.reason.unwrap_or_else(Error::failed));
         }
         drop(self); // its tables are freed before others are made
-        let mut opened = Found::read_before(files, options, Some(&cut))?.open(options)?;
+        let mut opened = Found::read_up_to_cut(files, options, Some(&cut))?.open(options)?;
         let (cut_off, sync) = (
             Order::Cut(Queue::Append, cut.offset),
             Order::Sync(Queue::Append),
@@ -130,14 +135,13 @@ impl Opened {
     }
 }
 
-/// Checks that no file is missing between two others. `listed` has the number and the length of each file of a queue, oldest
-/// first. Each new file gets the next number, and the oldest file is deleted first, so a gap means that somebody took a file
-/// away.
+/// Checks that no file of a queue is missing between two others. `listed` has the number and the length of each, oldest first.
+/// Each new file gets the next number, and the oldest file is deleted first, so a gap means that somebody took a file away.
 ///
 /// # Errors
 ///
 /// `Corruption`, with the first file that is missing.
-fn check_none_is_missing(queue: Queue, listed: &[(u64, u64)]) -> Result<()> {
+fn check_no_file_is_missing(queue: Queue, listed: &[(u64, u64)]) -> Result<()> {
     for pair in listed.windows(2) {
         let (before, after) = (pair[0].0, pair[1].0);
         if after > before && after - before > 1 {

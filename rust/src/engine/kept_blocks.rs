@@ -14,11 +14,11 @@ const KEPT_BLOCKS: usize = 16;
 /// block, since the next reading often goes on there. What stands at a place never changes while an engine is open, so no block
 /// gets stale.
 #[derive(Default)]
-pub(super) struct KeptBlocks(Mutex<Kept>);
+pub(super) struct KeptBlocks(Mutex<BlockCache>);
 
-/// The kept blocks, in no order.
+/// The kept blocks, in no order, and a clock that says which were read last.
 #[derive(Default)]
-struct Kept {
+struct BlockCache {
     blocks: Vec<KeptBlock>,
     /// How many bytes the blocks have together.
     len: usize,
@@ -37,7 +37,8 @@ struct KeptBlock {
 }
 
 impl KeptBlocks {
-    /// Returns the entry bytes of a block; `None` where they aren't kept. The block then counts as the one that was read last.
+    /// Returns the entry bytes of a block, which counts as the one that was read last from then on; `None` where they aren't
+    /// kept.
     pub(super) fn get(&self, block: &Block) -> Option<Arc<Vec<u8>>> {
         let mut all = locks::lock(&self.0);
         all.readings += 1;
@@ -70,7 +71,7 @@ impl KeptBlocks {
     }
 }
 
-impl Kept {
+impl BlockCache {
     /// Drops the block that was read longest ago, if there is one.
     fn drop_oldest(&mut self) {
         let by_age = self.blocks.iter().enumerate();

@@ -128,16 +128,17 @@ struct Line {
 }
 
 /// The right of a thread to call the listener, until this is dropped, also where the listener panics.
-struct Telling<'a>(&'a Mutex<Line>);
+struct ListenerGuard<'a>(&'a Mutex<Line>);
 
-impl Drop for Telling<'_> {
+impl Drop for ListenerGuard<'_> {
+    /// Gives the right back, so that a thread may tell the listener of the next event.
     fn drop(&mut self) {
         locks::lock(self.0).is_telling = false;
     }
 }
 
 impl Events {
-    /// Makes the events for a listener, if there is one. None waits yet.
+    /// Makes an empty queue of events for `listener`; with `None`, events are dropped.
     pub(super) fn new(listener: Option<Arc<dyn Listener>>) -> Events {
         Events {
             listener,
@@ -152,13 +153,13 @@ impl Events {
         }
     }
 
-    /// Tells the listener of all events that wait. Where another thread is just doing so it returns at once, since that thread
-    /// goes on with these.
+    /// Tells the listener of all events that wait, oldest first. Where another thread is just doing so it returns at once:
+    /// that thread tells of these too.
     fn tell_waiting(&self) {
         let Some(listener) = self.listener.as_deref() else {
             return;
         };
-        while let Some((event, _telling)) = self.take_next() {
+        while let Some((event, _guard)) = self.take_next_event() {
             match event {
                 Event::Begun(file) => listener.on_begin(file),
                 Event::Synced(file, took) => listener.on_sync(file, took),
@@ -171,18 +172,19 @@ impl Events {
 
     /// Takes the oldest event that waits, with the right to tell the listener of it; `None` where none waits, or another thread
     /// has that right.
-    fn take_next(&self) -> Option<(Event, Telling<'_>)> {
+    fn take_next_event(&self) -> Option<(Event, ListenerGuard<'_>)> {
         let mut line = locks::lock(&self.line);
         if line.is_telling {
             return None;
         }
         let event = line.waiting.pop_front()?;
         line.is_telling = true;
-        Some((event, Telling(&self.line)))
+        Some((event, ListenerGuard(&self.line)))
     }
 }
 
 impl fmt::Debug for Events {
+    /// Shows the name of the type alone: a listener can't be shown.
     fn fmt(&self, f: &mut fmt::Formatter<'_>) -> fmt::Result {
         f.debug_struct("Events").finish_non_exhaustive()
     }
@@ -260,12 +262,12 @@ impl<F: Files> Engine<F> {
         Engine::open_files(files, options, Some(listener))
     }
 
-    /// Makes a call that may change something, tells the listener what was done, also where the call was refused, and returns
-    /// what the call returned.
+    /// Makes `call`, which may change something, then tells the listener what was done, also where `call` was refused, and
+    /// returns what `call` returned.
     ///
     /// # Errors
     ///
-    /// Those of the call.
+    /// Those of `call`.
     pub(super) fn tell_after<T>(&self, call: impl FnOnce() -> Result<T>) -> Result<T> {
         let result = call();
         self.events.tell_waiting();

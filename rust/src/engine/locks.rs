@@ -9,17 +9,21 @@ pub(super) fn lock<T>(mutex: &Mutex<T>) -> MutexGuard<'_, T> {
     mutex.lock().unwrap_or_else(PoisonError::into_inner)
 }
 
-/// Locks what is guarded to read it, once no thread has it locked to change it. Several may read it at a time.
+/// Locks `lock` to read what it guards, once no thread has it locked to change that. Several threads may read at a time.
 pub(super) fn lock_to_read<T>(lock: &RwLock<T>) -> RwLockReadGuard<'_, T> {
     lock.read().unwrap_or_else(PoisonError::into_inner)
 }
 
-/// Locks what is guarded to change it, once no other thread has it locked.
+/// Locks `lock` to change what it guards, once no other thread has it locked.
 pub(super) fn lock_to_change<T>(lock: &RwLock<T>) -> RwLockWriteGuard<'_, T> {
     lock.write().unwrap_or_else(PoisonError::into_inner)
 }
 
-/// Unlocks a mutex until a notification comes, and returns it locked again. It may also return without a notification.
-pub(super) fn wait<'a, T>(notified: &Condvar, guard: MutexGuard<'a, T>) -> MutexGuard<'a, T> {
+/// Unlocks the mutex of `guard`, waits until `notified` is notified, and returns the mutex locked again. It may also return
+/// without a notification.
+pub(super) fn wait_for_notification<'a, T>(
+    notified: &Condvar,
+    guard: MutexGuard<'a, T>,
+) -> MutexGuard<'a, T> {
     notified.wait(guard).unwrap_or_else(PoisonError::into_inner)
 }

@@ -7,13 +7,13 @@ use std::sync::{Arc, Mutex};
 use std::{fmt, io};
 
 mod ask;
-mod left;
+mod queue_at_crash;
 mod unsynced;
 
 pub use ask::Ask;
 pub use unsynced::Unsynced;
 
-use left::Left;
+use queue_at_crash::QueueAtCrash;
 
 /// The files of both queues in memory, for tests. They keep a list of all changes that were asked of them, the *asks*, so that a
 /// test can make what any crash would have left.
@@ -44,12 +44,12 @@ use left::Left;
 /// ```
 #[derive(Clone, Default)]
 pub struct MemoryFiles {
-    held: Arc<Mutex<Held>>,
+    state: Arc<Mutex<State>>,
 }
 
 /// The state of the files that all clones share. Arrays have the append queue first, then the rewrite queue.
 #[derive(Default)]
-struct Held {
+struct State {
     /// The files before the first ask: the number and the bytes of each, oldest first.
     found: [Vec<(u64, Vec<u8>)>; 2],
     /// The files now.
@@ -87,13 +87,13 @@ impl MemoryFiles {
     pub fn found(append: Vec<(u64, Vec<u8>)>, rewrite: Vec<(u64, Vec<u8>)>) -> MemoryFiles {
         let found = [append, rewrite];
         let files = found.clone().map(VecDeque::from);
-        let held = Held {
+        let state = State {
             found,
             files,
             asks: Vec::new(),
         };
         MemoryFiles {
-            held: Arc::new(Mutex::new(held)),
+            state: Arc::new(Mutex::new(state)),
         }
     }
 
@@ -110,8 +110,8 @@ impl MemoryFiles {
     /// ```
     #[must_use]
     pub fn files(&self, queue: Queue) -> Vec<(u64, Vec<u8>)> {
-        let held = locks::lock(&self.held);
-        held.files[queue_position(queue)].iter().cloned().collect()
+        let state = locks::lock(&self.state);
+        state.files[queue_position(queue)].iter().cloned().collect()
     }
 
     /// Returns a copy of the list of asks, oldest first. It has the changes that succeeded.
@@ -128,7 +128,7 @@ impl MemoryFiles {
     /// ```
     #[must_use]
     pub fn asks(&self) -> Vec<Ask> {
-        locks::lock(&self.held).asks.clone()
+        locks::lock(&self.state).asks.clone()
     }
 
     /// Returns how many asks there are.
@@ -144,7 +144,7 @@ impl MemoryFiles {
     /// ```
     #[must_use]
     pub fn asked(&self) -> usize {
-        locks::lock(&self.held).asks.len()
+        locks::lock(&self.state).asks.len()
     }
 
     /// Returns how much of a queue isn't synced once the first `asks` asks are done.
@@ -162,8 +162,8 @@ impl MemoryFiles {
     /// ```
     #[must_use]
     pub fn unsynced(&self, asks: usize, queue: Queue) -> Unsynced {
-        let held = locks::lock(&self.held);
-        let asks = held.asks.iter().take(asks);
+        let state = locks::lock(&self.state);
+        let asks = state.asks.iter().take(asks);
         asks.filter(|ask| ask.queue() == queue)
             .fold(Unsynced::default(), |unsynced, ask| unsynced.with_ask(ask))
     }
@@ -186,10 +186,10 @@ impl MemoryFiles {
     /// ```
     #[must_use]
     pub fn left(&self, asks: usize, append: Unsynced, rewrite: Unsynced) -> MemoryFiles {
-        let held = locks::lock(&self.held);
+        let state = locks::lock(&self.state);
         let left = |queue, stays| {
-            let mut queue_left = Left::from_found(&held.found[queue_position(queue)]);
-            for ask in held.asks.iter().take(asks) {
+            let mut queue_left = QueueAtCrash::from_found(&state.found[queue_position(queue)]);
+            for ask in state.asks.iter().take(asks) {
                 if ask.queue() == queue {
                     queue_left.apply_ask(ask);
                 }
@@ -202,58 +202,86 @@ impl MemoryFiles {
 }
 
 impl Files for MemoryFiles {
+    /// Returns the number and the length of each file of a queue, oldest first. It never fails.
     fn list(&self, queue: Queue) -> io::Result<Vec<(u64, u64)>> {
-        let held = locks::lock(&self.held);
-        let files = held.files[queue_position(queue)].iter();
+        let state = locks::lock(&self.state);
+        let files = state.files[queue_position(queue)].iter();
         Ok(files
             .map(|(seq, bytes)| (*seq, bytes.len() as u64))
             .collect())
     }
 
+    /// Appends bytes to the last file of its queue, and notes the ask.
+    ///
+    /// # Errors
+    ///
+    /// `InvalidInput` where `file` isn't the last one of its queue. Nothing has changed then.
     fn write(&self, file: FileId, bytes: &[u8]) -> io::Result<()> {
-        let mut held = locks::lock(&self.held);
-        held.last_bytes(file)?.extend_from_slice(bytes);
-        held.asks.push(Ask::Write(file, bytes.to_vec()));
+        let mut state = locks::lock(&self.state);
+        state.bytes_of_last_file(file)?.extend_from_slice(bytes);
+        state.asks.push(Ask::Write(file, bytes.to_vec()));
         Ok(())
     }
 
+    /// Notes that a sync of a queue was asked. It never fails.
     fn sync(&self, queue: Queue) -> io::Result<()> {
-        locks::lock(&self.held).asks.push(Ask::Sync(queue));
+        locks::lock(&self.state).asks.push(Ask::Sync(queue));
         Ok(())
     }
 
+    /// Makes an empty file, which becomes the last one of its queue, and notes the ask.
+    ///
+    /// # Errors
+    ///
+    /// `InvalidInput` where the queue has a file whose number isn't less. Nothing has changed then.
     fn rotate(&self, file: FileId) -> io::Result<()> {
-        let mut held = locks::lock(&self.held);
-        let files = &mut held.files[queue_position(file.queue)];
+        let mut state = locks::lock(&self.state);
+        let files = &mut state.files[queue_position(file.queue)];
         if files.back().is_some_and(|(last, _)| *last >= file.seq) {
             return refuse("a new file has a greater number than the last one");
         }
         files.push_back((file.seq, Vec::new()));
-        held.asks.push(Ask::Begin(file));
+        state.asks.push(Ask::Begin(file));
         Ok(())
     }
 
+    /// Deletes the oldest file of a queue, and notes the ask.
+    ///
+    /// # Errors
+    ///
+    /// `InvalidInput` where `file` isn't the oldest one, or is the only one. Nothing has changed then.
     fn delete(&self, file: FileId) -> io::Result<()> {
-        let mut held = locks::lock(&self.held);
-        let files = &mut held.files[queue_position(file.queue)];
+        let mut state = locks::lock(&self.state);
+        let files = &mut state.files[queue_position(file.queue)];
         if files.len() < 2 || files[0].0 != file.seq {
             return refuse("the oldest file goes first, and the last one stays");
         }
         files.pop_front();
-        held.asks.push(Ask::Delete(file));
+        state.asks.push(Ask::Delete(file));
         Ok(())
     }
 
+    /// Cuts the last file of its queue to `len` bytes, if it has more, and notes the ask.
+    ///
+    /// # Errors
+    ///
+    /// `InvalidInput` where `file` isn't the last one of its queue. Nothing has changed then.
     fn truncate(&self, file: FileId, len: u64) -> io::Result<()> {
-        let mut held = locks::lock(&self.held);
-        cut_bytes(held.last_bytes(file)?, len);
-        held.asks.push(Ask::Cut(file, len));
+        let mut state = locks::lock(&self.state);
+        cut_bytes(state.bytes_of_last_file(file)?, len);
+        state.asks.push(Ask::Cut(file, len));
         Ok(())
     }
 
+    /// Fills all of `bytes` with those of a file from `offset` on.
+    ///
+    /// # Errors
+    ///
+    /// `NotFound` where there is no such file; `UnexpectedEof` where it ends before `bytes` are full. `bytes` stay as they are
+    /// then.
     fn read(&self, file: FileId, offset: u64, bytes: &mut [u8]) -> io::Result<()> {
-        let held = locks::lock(&self.held);
-        let mut files = held.files[queue_position(file.queue)].iter();
+        let state = locks::lock(&self.state);
+        let mut files = state.files[queue_position(file.queue)].iter();
         let Some((_, held)) = files.find(|(seq, _)| *seq == file.seq) else {
             return Err(io::ErrorKind::NotFound.into());
         };
@@ -264,13 +292,13 @@ impl Files for MemoryFiles {
     }
 }
 
-impl Held {
-    /// Returns the bytes of a file, which has to be the last one of its queue.
+impl State {
+    /// Lends the bytes of `file`, to be changed. It has to be the last file of its queue.
     ///
     /// # Errors
     ///
     /// `InvalidInput` where it isn't.
-    fn last_bytes(&mut self, file: FileId) -> io::Result<&mut Vec<u8>> {
+    fn bytes_of_last_file(&mut self, file: FileId) -> io::Result<&mut Vec<u8>> {
         match self.files[queue_position(file.queue)].back_mut() {
             Some((seq, bytes)) if *seq == file.seq => Ok(bytes),
             _ => refuse("the file isn't the last one of its queue"),
@@ -300,7 +328,7 @@ fn cut_bytes(bytes: &mut Vec<u8>, len: u64) {
     bytes.truncate(usize::try_from(len).unwrap_or(usize::MAX));
 }
 
-/// Returns an error of kind `InvalidInput`, for a change that no engine asks. `why` names the rule.
+/// Returns an `Err` of kind `InvalidInput`, for a change that no engine asks. `why` is the rule that it breaks.
 fn refuse<T>(why: &str) -> io::Result<T> {
     Err(io::Error::new(io::ErrorKind::InvalidInput, why))
 }

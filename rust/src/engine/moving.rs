@@ -46,7 +46,10 @@ impl<F: Files> Engine<F> {
     /// Nothing has changed then. `Io`, `Failed`: the engine has failed, unless a folder has no room.
     pub fn rotate(&self) -> Result<()> {
         self.check_writable("rotate")?;
-        self.tell_after(|| self.wait_for_turn()?.call(EngineHandle::rotate))
+        self.tell_after(|| {
+            self.wait_for_turn()?
+                .call_and_carry_out(EngineHandle::rotate)
+        })
     }
 
     /// Begins a new file of the append queue, in the given turn, where the last one has reached
@@ -55,7 +58,7 @@ impl<F: Files> Engine<F> {
     pub(super) fn rotate_if_due(&self, turn: &Turn<'_, F>) {
         let last = locks::lock(&self.numbers).last_file(Queue::Append);
         if last.is_some_and(|(_, len)| len > 0 && len >= self.options.target_file_size) {
-            let _ = turn.call(EngineHandle::rotate);
+            let _ = turn.call_and_carry_out(EngineHandle::rotate);
         }
     }
 
@@ -125,7 +128,7 @@ impl<F: Files> Engine<F> {
         let read = self.read_blocks_ahead(Some(gate), LISTED_AT_ONCE)?;
         let turn = self.wait_for_turn()?;
         let lent = self.lend_blocks(Some(gate), LISTED_AT_ONCE, read)?;
-        match self.note_moves(&turn, Queue::Append, |tables| tables.rewrite(gate)) {
+        match self.call_and_note_moves(&turn, Queue::Append, |tables| tables.rewrite(gate)) {
             Ok(()) => Ok(true),
             Err(e) if e.kind == ErrorKind::TryAgain => {
                 let left = self
@@ -173,9 +176,9 @@ impl<F: Files> Engine<F> {
     fn rewrite_blocks(&self, gate: u64, read: &[(Block, Vec<u8>)]) -> Result<bool> {
         let turn = self.wait_for_turn()?;
         for (block, bytes) in read {
-            self.lock_tables().lend(*block, bytes)?;
+            self.lock_tables().lend_block(*block, bytes)?;
         }
-        match self.note_moves(&turn, Queue::Append, |tables| tables.rewrite(gate)) {
+        match self.call_and_note_moves(&turn, Queue::Append, |tables| tables.rewrite(gate)) {
             Ok(()) => Ok(true),
             Err(e) if e.kind == ErrorKind::TryAgain => Ok(false),
             Err(e) => {
@@ -224,24 +227,24 @@ impl<F: Files> Engine<F> {
             let read = self.read_blocks_ahead(None, usize::MAX)?;
             let turn = self.wait_for_turn()?;
             let lent = self.lend_blocks(None, usize::MAX, read)?;
-            self.note_moves(&turn, Queue::Rewrite, EngineHandle::rewrite_again)
+            self.call_and_note_moves(&turn, Queue::Rewrite, EngineHandle::rewrite_again)
                 .map_err(|e| self.name_damaged_block(e, &lent))
         })
     }
 
-    /// Makes a call that moves records of the queue `from`, and notes for the listener how many moved.
+    /// Makes `call`, which moves records of the queue `from`, in the given turn, and notes for the listener how many moved.
     ///
     /// # Errors
     ///
-    /// Those of the call.
-    fn note_moves(
+    /// Those of [`Turn::call_and_carry_out`].
+    fn call_and_note_moves(
         &self,
         turn: &Turn<'_, F>,
         from: Queue,
         call: impl FnOnce(&mut EngineHandle) -> Result<()>,
     ) -> Result<()> {
         let mut moved = 0;
-        let result = turn.call(|tables| {
+        let result = turn.call_and_carry_out(|tables| {
             let before = tables.count_live(from);
             let result = call(tables);
             moved = match from {
@@ -291,13 +294,14 @@ impl<F: Files> Engine<F> {
                 Some((_, bytes)) => bytes,
                 None => read_block(self, *block)?,
             };
-            self.lock_tables().lend(*block, &bytes)?;
+            self.lock_tables().lend_block(*block, &bytes)?;
         }
         Ok(blocks)
     }
 
-    /// Returns an error of a call that moved records. If it is `Corruption` without a place, the blocks in `lent` are read again,
-    /// and the error of the first damaged one is returned instead, which has its file and offset.
+    /// Returns the error to report for `refused`, that of a call that moved records. If it is `Corruption` without a place,
+    /// the blocks in `lent` are read again, and the error of the first damaged one is returned instead, which has its file and
+    /// offset; else `refused` itself.
     fn name_damaged_block(&self, refused: Error, lent: &[Block]) -> Error {
         if refused.kind != ErrorKind::Corruption || refused.file.is_some() {
             return refused;
@@ -309,12 +313,12 @@ impl<F: Files> Engine<F> {
     }
 }
 
-/// Returns how many bytes the blocks have together.
+/// Returns how many bytes `blocks` have together.
 fn total_len(blocks: &[Block]) -> usize {
     blocks.iter().map(|block| block.len).sum()
 }
 
-/// Returns the first blocks, as many as it takes to reach `max_size` bytes; all of them, if they have fewer.
+/// Returns the first ones of `blocks`, as many as it takes to reach `max_size` bytes; all of them, if they have fewer.
 fn first_blocks(blocks: &[Block], max_size: usize) -> &[Block] {
     let mut size = 0;
     let is_within = |block: &Block| {

@@ -16,9 +16,10 @@ pub(super) struct Turn<'a, F: Files> {
 }
 
 impl<F: Files> Drop for Turn<'_, F> {
+    /// Ends the turn. If the thread is panicking, the engine has failed from then on.
     fn drop(&mut self) {
         if thread::panicking() {
-            self.engine.fail(Error::new(
+            self.engine.fail_engine(Error::new(
                 ErrorKind::Other,
                 "Other Error: a thread panicked in its turn",
             ));
@@ -46,22 +47,27 @@ impl<F: Files> Engine<F> {
 }
 
 impl<F: Files> Turn<'_, F> {
-    /// Makes a call on the tables, carries out what it ordered, and returns what it returned.
+    /// Makes `call` on the tables, carries out what it ordered, and returns what it returned.
     ///
     /// # Errors
     ///
-    /// Those of the call: what it had ordered was carried out. `Io` where an order can't be carried out: the engine has failed
+    /// Those of `call`: what it had ordered was carried out. `Io` where an order can't be carried out: the engine has failed
     /// then, unless the files are as they were before the order, which stays. `Memory` where the orders can't be taken: the
     /// engine has failed.
-    pub(super) fn call<T>(&self, call: impl FnOnce(&mut EngineHandle) -> Result<T>) -> Result<T> {
+    pub(super) fn call_and_carry_out<T>(
+        &self,
+        call: impl FnOnce(&mut EngineHandle) -> Result<T>,
+    ) -> Result<T> {
         let mut tables = self.engine.lock_tables();
         let result = call(&mut tables);
         if !tables.is_intact() {
             let reason = result.err().unwrap_or_else(Error::failed);
-            return Err(self.engine.fail(reason));
+            return Err(self.engine.fail_engine(reason));
         }
-        let orders = tables.take_orders().map_err(|e| self.engine.fail(e))?;
-        self.note_bytes(&orders); // before a reader can find what isn't written yet
+        let orders = tables
+            .take_orders()
+            .map_err(|e| self.engine.fail_engine(e))?;
+        self.note_unwritten_bytes(&orders); // before a reader can find what isn't written yet
         drop(tables);
         self.carry_out(orders.into())?;
         result
@@ -73,7 +79,7 @@ impl<F: Files> Turn<'_, F> {
     ///
     /// Those of [`Turn::carry_out`].
     pub(super) fn carry_out_opening(&self, orders: Vec<Order>) -> Result<()> {
-        self.note_bytes(&orders);
+        self.note_unwritten_bytes(&orders);
         self.carry_out(orders.into())
     }
 
@@ -86,8 +92,8 @@ impl<F: Files> Turn<'_, F> {
         self.carry_out(VecDeque::from([Order::Sync(queue)]))
     }
 
-    /// Notes the bytes that orders write. Until these are in their file they are read from memory.
-    fn note_bytes(&self, orders: &[Order]) {
+    /// Notes the bytes that `orders` write, so that they are read from memory until they are in their file.
+    fn note_unwritten_bytes(&self, orders: &[Order]) {
         let numbers = locks::lock(&self.engine.numbers);
         self.engine.unwritten.note_orders(orders, &numbers);
     }
@@ -122,12 +128,13 @@ impl<F: Files> Turn<'_, F> {
             Order::Write(queue, bytes) => self.write_bytes(*queue, bytes),
             Order::Begin(file) => self.begin_file(*file),
             Order::Sync(queue) => self.sync_queue(*queue),
-            Order::DeleteOldest(queue) => self.delete_oldest(*queue),
-            Order::Cut(queue, len) => self.cut_last(*queue, *len),
+            Order::DeleteOldest(queue) => self.delete_oldest_file(*queue),
+            Order::Cut(queue, len) => self.cut_last_file(*queue, *len),
         }
     }
 
-    /// Writes bytes at the end of the last file of a queue. From then on they are read from the file.
+    /// Writes bytes at the end of the last file of a queue, and notes its new length. From then on they are read from the
+    /// file.
     ///
     /// # Errors
     ///
@@ -135,27 +142,27 @@ impl<F: Files> Turn<'_, F> {
     fn write_bytes(&self, queue: Queue, bytes: &[u8]) -> Result<()> {
         let (file, len) = self.last_file(queue)?;
         let written = self.engine.files.write(file, bytes);
-        written.map_err(|e| Error::system("a batch can't be written", e).with_place(file, len))?;
+        written.map_err(|e| Error::io("a batch can't be written", e).with_place(file, len))?;
         let len = len + bytes.len() as u64;
         locks::lock(&self.engine.numbers).set_len(file, len);
         self.engine.unwritten.forget_oldest();
         Ok(())
     }
 
-    /// Makes a file, which becomes the last one of its queue.
+    /// Makes a file, which becomes the last one of its queue, and notes it for the listener.
     ///
     /// # Errors
     ///
     /// Those of [`Files::rotate`], as `Io` with the file.
     fn begin_file(&self, file: FileId) -> Result<()> {
         let begun = self.engine.files.rotate(file);
-        begun.map_err(|e| Error::system("the file can't be begun", e).with_place(file, 0))?;
+        begun.map_err(|e| Error::io("the file can't be begun", e).with_place(file, 0))?;
         locks::lock(&self.engine.numbers).set_len(file, 0);
         self.engine.events.note(Event::Begun(file));
         Ok(())
     }
 
-    /// Syncs a queue, and adds to the numbers that it did, and how long it took.
+    /// Syncs a queue, counts the sync and the time that it took, and notes both for the listener.
     ///
     /// # Errors
     ///
@@ -164,7 +171,7 @@ impl<F: Files> Turn<'_, F> {
         let (file, len) = self.last_file(queue)?;
         let begun = Instant::now();
         let synced = self.engine.files.sync(queue);
-        synced.map_err(|e| Error::system("the file can't be synced", e).with_place(file, len))?;
+        synced.map_err(|e| Error::io("the file can't be synced", e).with_place(file, len))?;
         let took = begun.elapsed();
         let mut numbers = locks::lock(&self.engine.numbers);
         numbers.syncs += 1;
@@ -174,30 +181,31 @@ impl<F: Files> Turn<'_, F> {
         Ok(())
     }
 
-    /// Deletes the oldest file of a queue.
+    /// Deletes the oldest file of a queue, and notes that for the listener.
     ///
     /// # Errors
     ///
     /// Those of [`Files::delete`], as `Io` with the file; `Failed` where the queue has no file.
-    fn delete_oldest(&self, queue: Queue) -> Result<()> {
+    fn delete_oldest_file(&self, queue: Queue) -> Result<()> {
         let oldest = locks::lock(&self.engine.numbers).files(queue).next();
         let (file, _) = oldest.ok_or_else(Error::failed)?;
         let deleted = self.engine.files.delete(file);
-        deleted.map_err(|e| Error::system("the file can't be deleted", e).with_place(file, 0))?;
+        deleted.map_err(|e| Error::io("the file can't be deleted", e).with_place(file, 0))?;
         locks::lock(&self.engine.numbers).forget_file(file);
         self.engine.events.note(Event::Deleted(file));
         Ok(())
     }
 
-    /// Cuts the last file of a queue to `len` bytes, if it has more. Only an opening orders that.
+    /// Cuts the last file of a queue to `len` bytes, if it has more, and notes the cut tail for the listener. Only an opening
+    /// orders that.
     ///
     /// # Errors
     ///
     /// Those of [`Files::truncate`], as `Io` with the file; `Failed` where the queue has no file.
-    fn cut_last(&self, queue: Queue, len: u64) -> Result<()> {
+    fn cut_last_file(&self, queue: Queue, len: u64) -> Result<()> {
         let (file, _) = self.last_file(queue)?;
         let cut = self.engine.files.truncate(file, len);
-        cut.map_err(|e| Error::system("the file can't be cut", e).with_place(file, len))?;
+        cut.map_err(|e| Error::io("the file can't be cut", e).with_place(file, len))?;
         locks::lock(&self.engine.numbers).note_cut(queue, len);
         let recovered = &self.engine.recovered;
         for cut in recovered.cuts().filter(|cut| cut.file == file) {

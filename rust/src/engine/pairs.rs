@@ -54,12 +54,12 @@ pub struct Pairs {
     /// The bytes of all keys and values, one behind the other.
     bytes: Vec<u8>,
     /// The pairs that are left.
-    rest: vec::IntoIter<Place>,
+    rest: vec::IntoIter<PairPlace>,
 }
 
 /// Where the bytes of a key and of its value are among those of [`Pairs`].
 #[derive(Clone)]
-struct Place {
+struct PairPlace {
     key: Range<usize>,
     value: Range<usize>,
 }
@@ -78,7 +78,7 @@ impl Pairs {
             end += len;
             start..end
         };
-        places.extend(lens.chunks_exact(2).map(|lens| Place {
+        places.extend(lens.chunks_exact(2).map(|lens| PairPlace {
             key: next(lens[0]),
             value: next(lens[1]),
         }));
@@ -115,7 +115,7 @@ impl Pairs {
     }
 
     /// Returns copies of the key and the value that `place` describes.
-    fn copy_pair(&self, place: Place) -> (Vec<u8>, Vec<u8>) {
+    fn copy_pair(&self, place: PairPlace) -> (Vec<u8>, Vec<u8>) {
         let [key, value] = [place.key, place.value].map(|range| self.bytes[range].to_vec());
         (key, value)
     }
@@ -124,17 +124,20 @@ impl Pairs {
 impl Iterator for Pairs {
     type Item = (Vec<u8>, Vec<u8>);
 
+    /// Returns a copy of the first pair that is left; `None` where none is.
     fn next(&mut self) -> Option<(Vec<u8>, Vec<u8>)> {
         let place = self.rest.next()?;
         Some(self.copy_pair(place))
     }
 
+    /// Returns how many pairs are left, exactly.
     fn size_hint(&self) -> (usize, Option<usize>) {
         self.rest.size_hint()
     }
 }
 
 impl DoubleEndedIterator for Pairs {
+    /// Returns a copy of the last pair that is left; `None` where none is.
     fn next_back(&mut self) -> Option<(Vec<u8>, Vec<u8>)> {
         let place = self.rest.next_back()?;
         Some(self.copy_pair(place))

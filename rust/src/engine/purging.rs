@@ -44,7 +44,7 @@ impl<F: Files> Engine<F> {
     pub fn purge(&self) -> Result<Purged> {
         self.check_writable("purge")?;
         let mut purged = self.delete_needless_files()?;
-        if let Some(gate) = self.find_gate() {
+        if let Some(gate) = self.find_rewrite_gate() {
             self.rewrite(gate)?;
             purged += self.delete_needless_files()?;
         }
@@ -82,7 +82,7 @@ impl<F: Files> Engine<F> {
     /// `Memory`; `Failed` where the engine can't be read.
     pub fn needs_purge(&self) -> Result<bool> {
         self.check_readable()?;
-        Ok(self.find_gate().is_some()
+        Ok(self.find_rewrite_gate().is_some()
             || self.has_needless_file(Queue::Append)?
             || self.has_needless_file(Queue::Rewrite)?
             || self.is_rewrite_again_due()?)
@@ -112,8 +112,8 @@ impl<F: Files> Engine<F> {
             let turn = self.wait_for_turn()?;
             let files = |queue| locks::lock(&self.numbers).files(queue).collect::<Vec<_>>();
             let (append, rewrite) = (files(Queue::Append), files(Queue::Rewrite));
-            let append_files = turn.call(EngineHandle::purge_expired_files)?;
-            let rewrite_files = turn.call(EngineHandle::purge_rewrite_files)?;
+            let append_files = turn.call_and_carry_out(EngineHandle::purge_expired_files)?;
+            let rewrite_files = turn.call_and_carry_out(EngineHandle::purge_rewrite_files)?;
             let deleted = append[..append_files]
                 .iter()
                 .chain(&rewrite[..rewrite_files]);
@@ -146,7 +146,7 @@ impl<F: Files> Engine<F> {
         let regions = self.lock_tables().regions()?;
         Ok(!regions
             .into_iter()
-            .any(|region| needs_file(&mut self.lock_tables_after_waiters(), region, oldest)))
+            .any(|region| region_needs_file(&mut self.lock_tables_after_waiters(), region, oldest)))
     }
 
     /// Returns the regions that need the oldest append file, by rising numbers, each with what it has there. None where there is
@@ -162,7 +162,8 @@ impl<F: Files> Engine<F> {
         let regions = self.lock_tables().regions()?;
         let holders = regions.into_iter().filter_map(|region| {
             let mut tables = self.lock_tables_after_waiters();
-            needs_file(&mut tables, region, oldest).then(|| holder_of(&mut tables, region, oldest))
+            region_needs_file(&mut tables, region, oldest)
+                .then(|| holder_of(&mut tables, region, oldest))
         });
         Ok(holders.collect())
     }
@@ -170,7 +171,7 @@ impl<F: Files> Engine<F> {
     /// Returns the number of the append file up to which records have to move, so that the later files have at most half of
     /// [`Options::purge_above`](crate::Options::purge_above) together, or only the last one is later. `None` where the append
     /// files have no more bytes than that option allows, or there is a single one.
-    fn find_gate(&self) -> Option<u64> {
+    fn find_rewrite_gate(&self) -> Option<u64> {
         let numbers = locks::lock(&self.numbers);
         let mut bytes = numbers.count_bytes(Queue::Append);
         if bytes <= self.options.purge_above {
@@ -209,29 +210,30 @@ impl<F: Files> Engine<F> {
         if bytes <= self.options.purge_above {
             return Ok(false);
         }
-        let needed = needed.map_or_else(|| self.count_needed_rewritten(), Ok)?;
+        let needed = needed.map_or_else(|| self.count_needed_rewritten_bytes(), Ok)?;
         let garbage = u128::from(bytes.saturating_sub(needed));
         Ok(garbage * 100 >= u128::from(bytes) * u128::from(self.options.purge_garbage))
     }
 
-    /// Counts the bytes of the rewrite queue that the tables need, and keeps that number for the next time.
+    /// Counts the bytes of the rewrite queue that the tables need, and notes that number as `needed_rewritten`, so that it
+    /// isn't counted again.
     ///
     /// # Errors
     ///
     /// `Memory`.
-    fn count_needed_rewritten(&self) -> Result<u64> {
+    fn count_needed_rewritten_bytes(&self) -> Result<u64> {
         let mut needed = 0;
         let regions = self.lock_tables().regions()?;
         for region in regions {
-            needed += self.count_rewritten(region)?;
+            needed += self.count_rewritten_bytes(region)?;
         }
         locks::lock(&self.numbers).needed_rewritten = Some(needed);
         Ok(needed)
     }
 }
 
-/// Tests whether a region has a record in a file, or in an older one of the same queue.
-fn needs_file(tables: &mut EngineHandle, region: u64, file: FileId) -> bool {
+/// Tests whether the table of `region` has a record in `file`, or in an older file of the same queue.
+fn region_needs_file(tables: &mut EngineHandle, region: u64, file: FileId) -> bool {
     let oldest = tables.summary(region).and_then(|summary| match file.queue {
         Queue::Append => summary.append_seq,
         Queue::Rewrite => summary.rewrite_seq,
@@ -239,9 +241,9 @@ fn needs_file(tables: &mut EngineHandle, region: u64, file: FileId) -> bool {
     oldest.is_some_and(|seq| seq <= file.seq)
 }
 
-/// Returns what a region has in `file`, the oldest append file, in which it has a record. Of its entries those in rewrite files
-/// come first, then those in append files, in the order of the files: so a binary search finds how many are in `file` or before
-/// it.
+/// Returns how a region holds `file`, the oldest append file, in which it has a record: up to which index its entries have to
+/// be compacted, and how many go then. A binary search finds the last entry in `file` or before it: of a region's entries
+/// those in rewrite files come first, then those in append files, in the order of the files.
 fn holder_of(tables: &mut EngineHandle, region: u64, file: FileId) -> Holder {
     let summary = tables.summary(region).unwrap_or_default();
     let first = summary.first_index.unwrap_or(0);

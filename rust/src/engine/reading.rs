@@ -56,7 +56,7 @@ impl<F: Files> Engine<F> {
     ) -> Result<Option<T>> {
         self.check_readable()?;
         let found = self.lock_tables().entry(region, index);
-        let kept = found.and_then(|entry| EntryBytes::from_kept(self, &entry));
+        let kept = found.and_then(|entry| EntryBytes::from_kept_block(self, &entry));
         if let Some(kept) = kept {
             return Ok(Some(call(kept.as_slice())));
         }
@@ -325,11 +325,11 @@ impl<F: Files> Engine<F> {
         read(&self.look_up(&find)?)
     }
 
-    /// Locks the tables, makes a call that reads them, and returns what it returns.
+    /// Locks the tables, makes `call`, which reads them, and returns what it returns.
     ///
     /// # Errors
     ///
-    /// `Failed` where the engine can't be read; those of the call.
+    /// `Failed` where the engine can't be read; those of `call`.
     fn look_up<T>(&self, call: impl FnOnce(&mut EngineHandle) -> Result<T>) -> Result<T> {
         self.check_readable()?;
         call(&mut self.lock_tables())
@@ -357,8 +357,9 @@ pub(super) fn entries_in_range(
     }
 }
 
-/// Adds to an error for `range` the index that is missing, in its text too: the first one of the range where it was compacted,
-/// the last one where it isn't there yet. An error of another kind is returned as it is.
+/// Adds to `refused`, the error for `range`, the region and the index that is missing, in its text too, and returns it: the
+/// first index of the range where that was compacted, the last one where it isn't there yet. An error of another kind is
+/// returned as it is.
 fn with_missing_entry(refused: Error, region: u64, range: &Range<u64>) -> Error {
     let index = match refused.kind {
         ErrorKind::EntryCompacted => range.start,

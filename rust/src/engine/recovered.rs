@@ -133,6 +133,7 @@ impl fmt::Display for DamagedBatch {
 }
 
 impl fmt::Display for CutTail {
+    /// Shows the file, the offset, how many bytes were cut off, and the reason.
     fn fmt(&self, f: &mut fmt::Formatter<'_>) -> fmt::Result {
         let CutTail {
             file,

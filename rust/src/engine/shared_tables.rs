@@ -20,7 +20,7 @@ pub(super) struct SharedTables {
 }
 
 impl SharedTables {
-    /// Puts tables behind a lock.
+    /// Puts `tables` behind a lock that no thread has.
     pub(super) fn new(tables: EngineHandle) -> SharedTables {
         SharedTables {
             tables: Mutex::new(tables),

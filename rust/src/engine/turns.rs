@@ -33,13 +33,14 @@ impl Turns {
         let number = line.next;
         line.next += 1;
         while line.now != number {
-            line = locks::wait(&self.is_over, line);
+            line = locks::wait_for_notification(&self.is_over, line);
         }
         TurnGuard(self)
     }
 }
 
 impl Drop for TurnGuard<'_> {
+    /// Ends the turn, and wakes the threads that wait for theirs.
     fn drop(&mut self) {
         let mut line = locks::lock(&self.0.line);
         line.now += 1;

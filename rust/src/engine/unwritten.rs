@@ -9,11 +9,11 @@ use std::sync::{Arc, RwLock};
 
 /// The bytes of all orders to write that aren't carried out yet, oldest first. They stay where the files have failed.
 #[derive(Debug, Default)]
-pub(super) struct Unwritten(RwLock<VecDeque<Piece>>);
+pub(super) struct Unwritten(RwLock<VecDeque<UnwrittenBytes>>);
 
 /// The bytes of one order, which are to stand in a file from an offset on.
 #[derive(Debug)]
-struct Piece {
+struct UnwrittenBytes {
     file: FileId,
     offset: u64,
     bytes: Arc<Vec<u8>>,
@@ -32,7 +32,7 @@ impl Unwritten {
                     if let Some((file, end)) = &mut ends[*queue as usize] {
                         let (offset, bytes) = (*end, bytes.clone());
                         *end += bytes.len() as u64;
-                        pieces.push_back(Piece {
+                        pieces.push_back(UnwrittenBytes {
                             file: *file,
                             offset,
                             bytes,

@@ -132,7 +132,7 @@ impl<F: Files> Engine<F> {
     /// # Errors
     ///
     /// `Memory`.
-    pub(super) fn count_rewritten(&self, region: u64) -> Result<u64> {
+    pub(super) fn count_rewritten_bytes(&self, region: u64) -> Result<u64> {
         let mut bytes = 0;
         self.visit_places(region, |entry| {
             let is_rewritten = entry.block.file.queue == Queue::Rewrite;

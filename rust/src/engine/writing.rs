@@ -62,8 +62,8 @@ impl<F: Files> Engine<F> {
         self.write_in_turn(&mut LogBatch::new()?, true)
     }
 
-    /// Hands in a batch, and waits until a thread has written it, this one or another. `sync` says whether it is to be synced
-    /// too.
+    /// Hands in a batch, and waits until a thread has written it, this one or another, and synced it, if `sync` is true. Then
+    /// it tells the listener what was done.
     ///
     /// # Errors
     ///
@@ -72,38 +72,38 @@ impl<F: Files> Engine<F> {
         self.check_intact()?;
         self.tell_after(|| {
             self.commits
-                .write(batch, sync, |group| self.lead_group(group))
+                .hand_in_and_wait(batch, sync, |group| self.lead_group(group))
         })
     }
 
-    /// Writes the batches of all threads that wait, syncs once for those that want it, if this thread's own batch is among them,
-    /// and begins a new append file where one is due. The result of each batch is noted with it.
+    /// Takes a turn, and writes the batches of all threads that wait, as [`Engine::write_group`] does. Where no turn can be
+    /// had each batch gets the error. The result of each batch is noted with it.
     fn lead_group(&self, group: &mut Group<'_>) {
         let turn = self.wait_for_turn();
         group.take_waiting();
         match turn {
             Ok(turn) => self.write_group(&turn, group),
-            Err(e) => group.finish_with(&Err(e)),
+            Err(e) => group.finish_with_result(&Err(e)),
         }
     }
 
     /// Writes the batches of a group in one turn. Threads that want no sync may go on then; for the others it syncs, if the
     /// leader is one of them. Then it begins a new append file, if that is due. The result of each batch is noted with it.
     fn write_group(&self, turn: &Turn<'_, F>, group: &mut Group<'_>) {
-        let written = turn.call(|tables| {
+        let written = turn.call_and_carry_out(|tables| {
             for commit in group.commits() {
-                commit.write(tables);
+                commit.write_to_tables(tables);
             }
             Ok(())
         });
         locks::lock(&self.numbers).batches += group.count_written();
         if written.is_err() {
-            return group.finish_with(&written);
+            return group.finish_with_result(&written);
         }
         group.release_unsynced();
-        if group.is_sync_due() {
-            let synced = turn.call(EngineHandle::sync);
-            group.finish_with(&synced);
+        if group.claim_sync() {
+            let synced = turn.call_and_carry_out(EngineHandle::sync);
+            group.finish_with_result(&synced);
         }
         self.rotate_if_due(turn);
     }

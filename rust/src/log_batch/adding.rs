@@ -4,8 +4,8 @@ use super::{LogBatch, Shape};
 use crate::{Error, Message, Result};
 
 impl LogBatch {
-    /// Adds an item with entries of a region, given as the bytes of each, which are copied. Their indexes rise by one from
-    /// `first` on. Nothing is added where there are no entries.
+    /// Adds entries of `region`, as one item: `entries` has the bytes of each, which are copied. Their indexes rise by one
+    /// from `first` on. Nothing is added where there are no entries.
     ///
     /// ```
     /// # use raft_recover::LogBatch;
@@ -28,7 +28,7 @@ impl LogBatch {
         entries: &[E],
     ) -> Result<()> {
         if let [entry] = entries {
-            return self.add_run(region, first, 1, |batch| {
+            return self.add_entries_with(region, first, 1, |batch| {
                 batch.handle.add_entry(region, first, entry.as_ref())
             });
         }
@@ -36,8 +36,8 @@ impl LogBatch {
         self.add_packed(region, first)
     }
 
-    /// Adds an item with entries of a region, given as messages, which are encoded. Their indexes rise by one from `first` on.
-    /// Nothing is added where there are no messages.
+    /// Adds entries of `region`, as one item: the bytes of each are a message of `messages`, encoded. Their indexes rise by
+    /// one from `first` on. Nothing is added where there are no messages.
     ///
     /// ```
     /// # use raft_recover::LogBatch;
@@ -69,34 +69,35 @@ impl LogBatch {
         self.add_packed(region, first)
     }
 
-    /// Adds an item with the entries that are packed in `room`, the first of them at the index `first`.
+    /// Adds the entries that are packed in `room` as one item of `region`, the first of them at the index `first`. `room` is
+    /// empty after an `Ok`.
     ///
     /// # Errors
     ///
     /// Those of [`LogBatch::add_entries`]. The batch is as it was then.
     fn add_packed(&mut self, region: u64, first: u64) -> Result<()> {
         let count = self.room.len() as u64;
-        self.add_run(region, first, count, |batch| {
+        self.add_entries_with(region, first, count, |batch| {
             batch.handle.add_packed(region, first, &batch.room)
         })?;
-        self.room.shrink();
+        self.room.clear_and_shrink();
         Ok(())
     }
 
-    /// Adds an item with `count` entries of a region, the first of them at the index `first`, by the call `add`, and notes what
-    /// it does to the region.
+    /// Adds `count` entries of `region` by the call `add`, as one item, the first of them at the index `first`, and notes the
+    /// shape of that item.
     ///
     /// # Errors
     ///
-    /// Those of the call; `Memory`. Nothing is noted then.
-    fn add_run(
+    /// Those of `add`; `Memory`, before `add` is called. Nothing is noted then.
+    fn add_entries_with(
         &mut self,
         region: u64,
         first: u64,
         count: u64,
         add: impl FnOnce(&mut LogBatch) -> Result<()>,
     ) -> Result<()> {
-        self.shapes.reserve()?;
+        self.shapes.reserve_one()?;
         add(self)?;
         if count > 0 {
             let end = first + count;
@@ -105,7 +106,7 @@ impl LogBatch {
         Ok(())
     }
 
-    /// Adds an item that removes all records of a region.
+    /// Adds a clean of `region`, which removes all its records.
     ///
     /// ```
     /// # use raft_recover::{Content, LogBatch};
@@ -119,13 +120,13 @@ impl LogBatch {
     ///
     /// `InvalidArgument` where the batch is no longer open; `Memory`. The batch is as it was then.
     pub fn clean(&mut self, region: u64) -> Result<()> {
-        self.shapes.reserve()?;
+        self.shapes.reserve_one()?;
         self.handle.clean(region)?;
         self.shapes.note(region, Shape::Clean);
         Ok(())
     }
 
-    /// Adds an item that removes the entries of a region below an index.
+    /// Adds a compaction of `region`, which removes its entries below `index`.
     ///
     /// ```
     /// # use raft_recover::{Content, LogBatch};
@@ -139,13 +140,13 @@ impl LogBatch {
     ///
     /// `InvalidArgument` where the batch is no longer open; `Memory`. The batch is as it was then.
     pub fn compact(&mut self, region: u64, index: u64) -> Result<()> {
-        self.shapes.reserve()?;
+        self.shapes.reserve_one()?;
         self.handle.compact(region, index)?;
         self.shapes.note(region, Shape::Compact(index));
         Ok(())
     }
 
-    /// Adds an item that removes the entries of a region from an index on.
+    /// Adds a truncation of `region`, which removes its entries from `index` on.
     ///
     /// ```
     /// # use raft_recover::{Content, LogBatch};
@@ -159,13 +160,13 @@ impl LogBatch {
     ///
     /// `InvalidArgument` where the batch is no longer open; `Memory`. The batch is as it was then.
     pub fn truncate(&mut self, region: u64, index: u64) -> Result<()> {
-        self.shapes.reserve()?;
+        self.shapes.reserve_one()?;
         self.handle.truncate(region, index)?;
         self.shapes.note(region, Shape::Truncate(index));
         Ok(())
     }
 
-    /// Adds an item that gives a key of a region a value. Both are copied.
+    /// Adds a put of `key` with `value` in `region`. Both are copied.
     ///
     /// ```
     /// # use raft_recover::LogBatch;
@@ -181,13 +182,13 @@ impl LogBatch {
     /// `InvalidArgument` where the batch is no longer open, or the key is that of the group markers, `__\x01`; `Memory`. The
     /// batch is as it was then.
     pub fn put(&mut self, region: u64, key: &[u8], value: &[u8]) -> Result<()> {
-        self.shapes.reserve()?;
+        self.shapes.reserve_one()?;
         self.handle.put(region, key, value)?;
         self.shapes.note(region, Shape::Pair);
         Ok(())
     }
 
-    /// Adds an item that gives a key of a region a message as its value, which is encoded.
+    /// Adds a put of `key` in `region`, whose value is `message`, encoded. The key is copied.
     ///
     /// ```
     /// # use raft_recover::{Engine, LogBatch, MemoryFiles, Options};
@@ -211,7 +212,7 @@ impl LogBatch {
         self.put(region, key, &value)
     }
 
-    /// Adds an item that removes a key of a region and its value.
+    /// Adds a deletion of `key` in `region`, which removes the key and its value.
     ///
     /// ```
     /// # use raft_recover::{Content, LogBatch};
@@ -225,7 +226,7 @@ impl LogBatch {
     ///
     /// `InvalidArgument` where the batch is no longer open; `Memory`. The batch is as it was then.
     pub fn delete(&mut self, region: u64, key: &[u8]) -> Result<()> {
-        self.shapes.reserve()?;
+        self.shapes.reserve_one()?;
         self.handle.delete(region, key)?;
         self.shapes.note(region, Shape::Pair);
         Ok(())

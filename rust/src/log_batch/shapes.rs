@@ -37,7 +37,7 @@ impl Shapes {
     /// # Errors
     ///
     /// `Memory`.
-    pub(super) fn reserve(&mut self) -> Result<()> {
+    pub(super) fn reserve_one(&mut self) -> Result<()> {
         self.0.try_reserve(1).map_err(|_| Error::memory())
     }
 
@@ -50,12 +50,12 @@ impl Shapes {
         self.0.try_reserve(more.len()).map_err(|_| Error::memory())
     }
 
-    /// Adds the shape of an item that was added to the batch.
+    /// Notes the shape of an item of `region` that was added to the batch.
     pub(super) fn note(&mut self, region: u64, shape: Shape) {
         self.0.push((region, shape));
     }
 
-    /// Moves the shapes of another batch's items behind these.
+    /// Moves all shapes of `more` behind these. `more` is empty then.
     pub(super) fn append(&mut self, more: &mut Shapes) {
         self.0.append(&mut more.0);
     }

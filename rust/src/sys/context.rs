@@ -1,6 +1,6 @@
 //! Handles of contexts.
 
-use super::{File, Handle, Status, TablesHandle, check_call, check_memory};
+use super::{File, Handle, Status, TablesHandle, check_call, check_memory_code};
 use crate::{FilePart, Kept, Queue, Result};
 use std::cell::Cell;
 use std::mem;
@@ -87,11 +87,12 @@ impl ContextHandle {
     pub(crate) fn new() -> Result<ContextHandle> {
         let mut handle = Handle::EMPTY;
         // SAFETY: `empty`: the handle is empty.
-        check_memory(unsafe { raft_ffi_context_new(&mut handle) })?;
+        check_memory_code(unsafe { raft_ffi_context_new(&mut handle) })?;
         Ok(ContextHandle(handle))
     }
 
-    /// Returns the library's handle. Its value has to be freed by the caller, or given to the library.
+    /// Gives up the ownership, and returns the library's handle. The caller has to free its value, or to give it to the
+    /// library.
     pub(super) fn into_raw(self) -> Handle {
         let handle = self.0;
         mem::forget(self);
@@ -190,6 +191,7 @@ impl ContextHandle {
 }
 
 impl Drop for ContextHandle {
+    /// Frees the context.
     fn drop(&mut self) {
         // SAFETY: `held`: the handle holds a context, which is given away.
         unsafe { raft_ffi_context_drop(self.0) }

@@ -12,7 +12,7 @@ use super::engine_calls::{
 };
 use super::{
     EntryNumbers, Handle, LogBatchHandle, PackedPairs, Status, SummaryNumbers, check_call,
-    check_memory, list, list_packed_pairs, list_with_room, make_room, to_entries,
+    check_memory_code, fill_list, fill_list_with_room, fill_packed_pairs, make_room, to_entries,
 };
 use crate::{Block, Entry, FileId, Queue, Result, Summary};
 use std::mem;
@@ -50,7 +50,7 @@ pub(crate) struct EngineHandle {
 unsafe impl Send for EngineHandle {}
 
 impl EngineHandle {
-    /// Makes the owner of the engine that a handle holds. The handle isn't empty.
+    /// Makes the owner of the engine that `handle` holds. `handle` must not be empty, and must have no other owner.
     pub(super) fn from_raw(handle: Handle) -> EngineHandle {
         EngineHandle {
             handle,
@@ -88,7 +88,9 @@ impl EngineHandle {
     /// intact then.
     pub(crate) fn sync(&mut self) -> Result<()> {
         // SAFETY: `held`: the handle holds an engine.
-        self.call(|engine, text, text_len| unsafe { raft_ffi_engine_sync(engine, text, text_len) })
+        self.make_call(|engine, text, text_len| unsafe {
+            raft_ffi_engine_sync(engine, text, text_len)
+        })
     }
 
     /// Orders that the last append file is synced, and the next one begun.
@@ -98,7 +100,7 @@ impl EngineHandle {
     /// `Failed` where the engine isn't intact; `Full` where no number of a file or of an order is left; `Memory`.
     pub(crate) fn rotate(&mut self) -> Result<()> {
         // SAFETY: `held`: the handle holds an engine.
-        self.call(|engine, text, text_len| unsafe {
+        self.make_call(|engine, text, text_len| unsafe {
             raft_ffi_engine_rotate(engine, text, text_len)
         })
     }
@@ -112,7 +114,7 @@ impl EngineHandle {
     /// have moved then.
     pub(crate) fn rewrite(&mut self, gate: u64) -> Result<()> {
         // SAFETY: `held`: the handle holds an engine.
-        self.call(|engine, text, text_len| unsafe {
+        self.make_call(|engine, text, text_len| unsafe {
             raft_ffi_engine_rewrite(engine, gate, text, text_len)
         })
     }
@@ -125,7 +127,7 @@ impl EngineHandle {
     /// have moved then.
     pub(crate) fn rewrite_again(&mut self) -> Result<()> {
         // SAFETY: `held`: the handle holds an engine.
-        self.call(|engine, text, text_len| unsafe {
+        self.make_call(|engine, text, text_len| unsafe {
             raft_ffi_engine_rewrite_again(engine, text, text_len)
         })
     }
@@ -139,7 +141,7 @@ impl EngineHandle {
     pub(crate) fn purge_expired_files(&mut self) -> Result<usize> {
         let mut count = 0;
         // SAFETY: `held`: the handle holds an engine.
-        self.call(|engine, text, text_len| unsafe {
+        self.make_call(|engine, text, text_len| unsafe {
             raft_ffi_engine_purge_expired_files(engine, &mut count, text, text_len)
         })?;
         Ok(count)
@@ -154,23 +156,26 @@ impl EngineHandle {
     pub(crate) fn purge_rewrite_files(&mut self) -> Result<usize> {
         let mut count = 0;
         // SAFETY: `held`: the handle holds an engine.
-        self.call(|engine, text, text_len| unsafe {
+        self.make_call(|engine, text, text_len| unsafe {
             raft_ffi_engine_purge_rewrite_files(engine, &mut count, text, text_len)
         })?;
         Ok(count)
     }
 
-    /// Makes a call of the library on the engine. The call gets the handle, and room for the text of its error.
+    /// Makes `call`, a call of the library, which gets the engine's handle, and room for the text of its error.
     ///
     /// # Errors
     ///
     /// The error of the call.
-    fn call(&mut self, call: impl FnOnce(*mut Handle, *mut u8, usize) -> Status) -> Result<()> {
+    fn make_call(
+        &mut self,
+        call: impl FnOnce(*mut Handle, *mut u8, usize) -> Status,
+    ) -> Result<()> {
         check_call(|text, text_len| call(&mut self.handle, text, text_len))
     }
 
-    /// Takes all orders, and returns them in their order. Orders that follow one another and write to the same queue
-    /// become one. The only error is `Memory`.
+    /// Takes all orders, and returns them in their order. Orders that follow one another and write to the same queue become
+    /// one. The only error is `Memory`: the orders that were taken by then are lost.
     pub(crate) fn take_orders(&mut self) -> Result<Vec<Order>> {
         let mut orders = Vec::new();
         let mut none = Vec::new();
@@ -240,9 +245,9 @@ impl EngineHandle {
         gate: Option<u64>,
         max_size: usize,
     ) -> Result<Vec<Block>> {
-        let places = list(|room, len, count| {
+        let places = fill_list(|room, len, count| {
             // SAFETY: `held`: the handle holds an engine.
-            check_memory(unsafe {
+            check_memory_code(unsafe {
                 raft_ffi_engine_moving_blocks(
                     &mut self.handle,
                     gate.into(),
@@ -256,12 +261,12 @@ impl EngineHandle {
         Ok(places.into_iter().map(Block::from).collect())
     }
 
-    /// Lends the bytes of a block to the next call that moves records. The library copies them. The only error is
-    /// `Memory`.
-    pub(crate) fn lend(&mut self, block: Block, bytes: &[u8]) -> Result<()> {
+    /// Lends the bytes of a block to the next call that moves records. The library copies them. The only error is `Memory`:
+    /// the block isn't lent then.
+    pub(crate) fn lend_block(&mut self, block: Block, bytes: &[u8]) -> Result<()> {
         let is_rewrite = block.file.queue == Queue::Rewrite;
         // SAFETY: `held`: the handle holds an engine.
-        check_memory(unsafe {
+        check_memory_code(unsafe {
             raft_ffi_engine_lend(
                 &mut self.handle,
                 is_rewrite,
@@ -278,7 +283,7 @@ impl EngineHandle {
         let mut is_found = false;
         let mut room = Vec::new();
         make_room(&mut room, MOST_VALUES)?;
-        let value = list_with_room(room, |room, len, count| {
+        let value = fill_list_with_room(room, |room, len, count| {
             // SAFETY: `held`: the handle holds an engine.
             is_found = unsafe {
                 raft_ffi_engine_value(
@@ -305,9 +310,9 @@ impl EngineHandle {
         end: Option<&[u8]>,
     ) -> Result<PackedPairs> {
         let (is_bounded, end) = (end.is_some(), end.unwrap_or_default());
-        list_packed_pairs(|lens, lens_len, count, bytes, bytes_len, len| {
+        fill_packed_pairs(|lens, lens_len, count, bytes, bytes_len, len| {
             // SAFETY: `held`: the handle holds an engine.
-            check_memory(unsafe {
+            check_memory_code(unsafe {
                 raft_ffi_engine_scan(
                     &mut self.handle,
                     region,
@@ -373,7 +378,7 @@ impl EngineHandle {
         range: Range<u64>,
         max_size: Option<u64>,
     ) -> Result<Vec<Entry>> {
-        let list = list(|room, len, count| {
+        let list = fill_list(|room, len, count| {
             // SAFETY: `held`: the handle holds an engine.
             check_call(|text, text_len| unsafe {
                 raft_ffi_engine_entries(
@@ -395,9 +400,11 @@ impl EngineHandle {
 
     /// Returns the numbers of the regions that have a table, in rising order. The only error is `Memory`.
     pub(crate) fn regions(&mut self) -> Result<Vec<u64>> {
-        list(|room, len, count| {
+        fill_list(|room, len, count| {
             // SAFETY: `held`: the handle holds an engine.
-            check_memory(unsafe { raft_ffi_engine_regions(&mut self.handle, room, len, count) })
+            check_memory_code(unsafe {
+                raft_ffi_engine_regions(&mut self.handle, room, len, count)
+            })
         })
     }
 
@@ -409,6 +416,7 @@ impl EngineHandle {
 }
 
 impl Drop for EngineHandle {
+    /// Frees the engine. Orders that weren't taken are lost.
     fn drop(&mut self) {
         // SAFETY: `held`: the handle holds an engine, which is given away.
         unsafe { raft_ffi_engine_drop(self.handle) }
@@ -416,6 +424,7 @@ impl Drop for EngineHandle {
 }
 
 impl From<PlaceNumbers> for Block {
+    /// Makes the block whose place the library has filled in.
     fn from(place: PlaceNumbers) -> Block {
         Block {
             file: FileId::new(queue_from_flag(place.is_rewrite), place.seq),

@@ -28,8 +28,8 @@ fn layout_for_alignment(size: usize, alignment: usize) -> Option<Layout> {
     layout_with_head(size).filter(|_| alignment <= HEAD)
 }
 
-/// Writes the size at the start of a new block, and returns the pointer to its memory. A null pointer stands for a request that
-/// the allocator refused.
+/// Answers a request for `size` bytes: writes the size at the start of `block`, a new one, and returns the pointer to its
+/// memory. Where `block` is null the request was refused.
 fn answer_request(block: *mut u8, size: usize) -> Tried {
     if block.is_null() {
         return Tried {

@@ -1,7 +1,7 @@
 //! Handles of the items of a batch.
 
 use super::{
-    EntryNumbers, File, Handle, Status, check_call, list_if_found, to_entries, with_handle,
+    EntryNumbers, File, Handle, Status, check_call, fill_list_if_found, to_entries, with_handle,
 };
 use crate::{Content, Entry, FilePart, Item, Result};
 use std::cell::Cell;
@@ -116,7 +116,7 @@ impl ItemsHandle {
         Ok(Some((ItemsHandle(Cell::new(handle)), next)))
     }
 
-    /// Returns the library's handle. Its value has to be freed by the caller, or given to the
+    /// Gives up the ownership, and returns the library's handle. The caller has to free its value, or to give it to the
     /// library.
     pub(super) fn into_raw(self) -> Handle {
         let handle = self.0.get();
@@ -166,9 +166,10 @@ impl ItemsHandle {
         is_found.then_some(head)
     }
 
-    /// Returns the entries of the item at position `i`, which has to be one of entries.
+    /// Returns copies of the entries of the item at position `i`. It panics where the item isn't one of entries, or an entry
+    /// has no place.
     fn entries(&self, i: usize) -> Vec<Entry> {
-        let list = list_if_found(|room, len, count| {
+        let list = fill_list_if_found(|room, len, count| {
             // SAFETY: `held`: the handle holds items.
             with_handle(&self.0, |items| unsafe {
                 raft_ffi_items_entries(items, i, room, len, count)
@@ -177,9 +178,9 @@ impl ItemsHandle {
         to_entries(list.expect("an item of entries has entries"))
     }
 
-    /// Returns the key of the item at position `i`, which has to change a key.
+    /// Returns a copy of the key that the item at position `i` puts or deletes. It panics where the item does neither.
     fn key(&self, i: usize) -> Vec<u8> {
-        list_if_found(|room, len, count| {
+        fill_list_if_found(|room, len, count| {
             // SAFETY: `held`: the handle holds items.
             with_handle(&self.0, |items| unsafe {
                 raft_ffi_items_key(items, i, room, len, count)
@@ -188,9 +189,9 @@ impl ItemsHandle {
         .expect("a change of a key has a key")
     }
 
-    /// Returns the value of the item at position `i`, which has to put a key.
+    /// Returns a copy of the value that the item at position `i` puts. It panics where the item puts none.
     fn value(&self, i: usize) -> Vec<u8> {
-        list_if_found(|room, len, count| {
+        fill_list_if_found(|room, len, count| {
             // SAFETY: `held`: the handle holds items.
             with_handle(&self.0, |items| unsafe {
                 raft_ffi_items_value(items, i, room, len, count)
@@ -201,6 +202,7 @@ impl ItemsHandle {
 }
 
 impl Drop for ItemsHandle {
+    /// Frees the items.
     fn drop(&mut self) {
         // SAFETY: `held`: the handle holds items, which are given away.
         unsafe { raft_ffi_items_drop(self.0.get()) }

@@ -3,25 +3,25 @@
 use crate::{Error, Pair, Result};
 use std::alloc::{Layout, handle_alloc_error};
 
-/// Returns the list that a call fills in. The call gets room, a pointer and a length, puts as much of the list there as fits, and
-/// sets a count to how long the whole list is. Where it is longer than the room the call is made again, with more room.
+/// Has `call` fill a list, and returns it. `call` gets room, a pointer and a length, puts as much of the list there as fits,
+/// and sets a count to how long the whole list is. Where it is longer than the room `call` is made again, with more room.
 ///
 /// # Errors
 ///
-/// Those of the call, `Memory`.
-pub(super) fn list<T: Copy + Default>(
+/// Those of `call`; `Memory`.
+pub(super) fn fill_list<T: Copy + Default>(
     call: impl FnMut(*mut T, usize, &mut usize) -> Result<()>,
 ) -> Result<Vec<T>> {
-    list_with_room(Vec::new(), call)
+    fill_list_with_room(Vec::new(), call)
 }
 
-/// Returns the list that a call fills in, as [`list`] does. The call gets `room` first, so one call is enough where the list
-/// isn't longer.
+/// Has `call` fill a list, and returns it, as [`fill_list`] does. `call` gets `room` first, so it is made once where the list
+/// isn't longer than that.
 ///
 /// # Errors
 ///
-/// Those of the call, `Memory`.
-pub(super) fn list_with_room<T: Copy + Default>(
+/// Those of `call`; `Memory`.
+pub(super) fn fill_list_with_room<T: Copy + Default>(
     mut room: Vec<T>,
     mut call: impl FnMut(*mut T, usize, &mut usize) -> Result<()>,
 ) -> Result<Vec<T>> {
@@ -48,13 +48,13 @@ pub(super) fn make_room<T: Copy + Default>(room: &mut Vec<T>, count: usize) -> R
     Ok(())
 }
 
-/// Returns the list that a call fills in, as [`list`] does; `None` where the call returns false, since there is no such list.
-/// Without memory for the list the program ends, as it does where a `Vec` grows.
-pub(super) fn list_if_found<T: Copy + Default>(
+/// Has `call` fill a list, and returns it, as [`fill_list`] does; `None` where `call` returns false, since there is no such
+/// list. Without memory for the list the program ends, as it does where a `Vec` grows.
+pub(super) fn fill_list_if_found<T: Copy + Default>(
     mut call: impl FnMut(*mut T, usize, &mut usize) -> bool,
 ) -> Option<Vec<T>> {
     let mut is_found = false;
-    let list = list(|room, len, count| {
+    let list = fill_list(|room, len, count| {
         is_found = call(room, len, count);
         Ok(())
     });
@@ -73,13 +73,14 @@ pub(crate) struct PackedPairs {
     pub(crate) bytes: Vec<u8>,
 }
 
-/// Returns the keys and values that a call lists. The call gets room for their lengths and room for their bytes, puts there as
-/// much as fits, and sets how many of each there are. Where there are more it is made again, with more room.
+/// Has `call` list keys with their values, and returns them packed. `call` gets room for their lengths and room for their
+/// bytes, puts there as much as fits, and sets how many of each there are. Where there are more it is made again, with more
+/// room.
 ///
 /// # Errors
 ///
-/// Those of the call, `Memory`.
-pub(super) fn list_packed_pairs(
+/// Those of `call`; `Memory`.
+pub(super) fn fill_packed_pairs(
     mut call: impl FnMut(*mut usize, usize, &mut usize, *mut u8, usize, &mut usize) -> Result<()>,
 ) -> Result<PackedPairs> {
     let (mut lens, mut bytes) = (Vec::new(), Vec::new());
@@ -102,15 +103,15 @@ pub(super) fn list_packed_pairs(
     }
 }
 
-/// Returns the keys and values that a call lists, as [`list_packed_pairs`] does, each as bytes of its own.
+/// Has `call` list keys with their values, as [`fill_packed_pairs`] does, and returns each pair with bytes of its own.
 ///
 /// # Errors
 ///
-/// Those of the call, `Memory`.
-pub(super) fn list_pairs(
+/// Those of `call`; `Memory`.
+pub(super) fn fill_pairs(
     call: impl FnMut(*mut usize, usize, &mut usize, *mut u8, usize, &mut usize) -> Result<()>,
 ) -> Result<Vec<Pair>> {
-    let PackedPairs { lens, bytes } = list_packed_pairs(call)?;
+    let PackedPairs { lens, bytes } = fill_packed_pairs(call)?;
     let mut rest = &bytes[..];
     let mut next = |len| {
         let (front, behind) = rest.split_at(len);

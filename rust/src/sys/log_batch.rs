@@ -1,7 +1,8 @@
 //! Handles of log batches that are made, to be written.
 
 use super::{
-    File, Handle, ItemsHandle, Packed, Status, check_call, check_memory, list, with_handle,
+    File, Handle, ItemsHandle, Packed, Status, check_call, check_memory_code, fill_list,
+    with_handle,
 };
 use crate::{Error, FileId, LogFile, Queue, Result, Stage};
 use std::cell::Cell;
@@ -121,11 +122,11 @@ impl LogBatchHandle {
     pub(crate) fn new() -> Result<LogBatchHandle> {
         let mut handle = Handle::EMPTY;
         // SAFETY: `empty`: the handle is empty.
-        check_memory(unsafe { raft_ffi_batch_new(&mut handle) })?;
+        check_memory_code(unsafe { raft_ffi_batch_new(&mut handle) })?;
         Ok(LogBatchHandle::from_raw(handle))
     }
 
-    /// Makes the owner of the batch that a handle holds. The handle isn't empty.
+    /// Makes the owner of the batch that `handle` holds. `handle` must not be empty, and must have no other owner.
     pub(super) fn from_raw(handle: Handle) -> LogBatchHandle {
         LogBatchHandle(Cell::new(handle))
     }
@@ -135,7 +136,7 @@ impl LogBatchHandle {
         self.0.as_ptr()
     }
 
-    /// Returns the library's handle. Its value has to be freed by the caller, or given to the
+    /// Gives up the ownership, and returns the library's handle. The caller has to free its value, or to give it to the
     /// library.
     fn into_raw(self) -> Handle {
         let handle = self.0.get();
@@ -143,7 +144,7 @@ impl LogBatchHandle {
         handle
     }
 
-    /// Returns whether the batch is open, encoded or signed.
+    /// Returns how far the batch has come: open, encoded or signed.
     pub(crate) fn stage(&self) -> Stage {
         // SAFETY: `held`: the handle holds a batch.
         match with_handle(&self.0, |batch| unsafe { raft_ffi_batch_stage(batch) }) {
@@ -184,7 +185,7 @@ impl LogBatchHandle {
         with_handle(&self.0, |batch| unsafe { raft_ffi_batch_size(batch) })
     }
 
-    /// Adds an item with the packed entries, the first of them at the index `first`.
+    /// Adds the entries of `packed` as one item of `region`, the first of them at the index `first`.
     ///
     /// # Errors
     ///
@@ -194,7 +195,7 @@ impl LogBatchHandle {
         self.add_entries(region, first, lens, bytes)
     }
 
-    /// Adds an item with a single entry, whose bytes are `entry`, at an index.
+    /// Adds a single entry of `region` at `index`, whose bytes are `entry`, as one item. The bytes are copied.
     ///
     /// # Errors
     ///
@@ -203,9 +204,8 @@ impl LogBatchHandle {
         self.add_entries(region, index, &[entry.len()], entry)
     }
 
-    /// Adds an item with entries of a region. Their indexes rise by one from `first` on. Their
-    /// bytes stand in `bytes`, one behind the other, and `lens` has the length of each. Without
-    /// entries nothing is added.
+    /// Adds entries of `region` as one item. Their indexes rise by one from `first` on. Their bytes stand in `bytes`, one
+    /// behind the other, and are copied; `lens` has the length of each. Without entries nothing is added.
     ///
     /// # Errors
     ///
@@ -235,7 +235,7 @@ impl LogBatchHandle {
         })
     }
 
-    /// Adds an item that removes all records of a region.
+    /// Adds a clean of `region`, which removes all its records.
     ///
     /// # Errors
     ///
@@ -243,10 +243,10 @@ impl LogBatchHandle {
     pub(crate) fn clean(&mut self, region: u64) -> Result<()> {
         self.check_open()?;
         // SAFETY: `held`, `open`: the handle holds an open batch.
-        check_memory(unsafe { raft_ffi_batch_clean(self.0.as_ptr(), region) })
+        check_memory_code(unsafe { raft_ffi_batch_clean(self.0.as_ptr(), region) })
     }
 
-    /// Adds an item that removes the entries of a region below an index.
+    /// Adds a compaction of `region`, which removes its entries below `index`.
     ///
     /// # Errors
     ///
@@ -254,10 +254,10 @@ impl LogBatchHandle {
     pub(crate) fn compact(&mut self, region: u64, index: u64) -> Result<()> {
         self.check_open()?;
         // SAFETY: `held`, `open`: the handle holds an open batch.
-        check_memory(unsafe { raft_ffi_batch_compact(self.0.as_ptr(), region, index) })
+        check_memory_code(unsafe { raft_ffi_batch_compact(self.0.as_ptr(), region, index) })
     }
 
-    /// Adds an item that removes the entries of a region from an index on.
+    /// Adds a truncation of `region`, which removes its entries from `index` on.
     ///
     /// # Errors
     ///
@@ -265,10 +265,10 @@ impl LogBatchHandle {
     pub(crate) fn truncate(&mut self, region: u64, index: u64) -> Result<()> {
         self.check_open()?;
         // SAFETY: `held`, `open`: the handle holds an open batch.
-        check_memory(unsafe { raft_ffi_batch_truncate(self.0.as_ptr(), region, index) })
+        check_memory_code(unsafe { raft_ffi_batch_truncate(self.0.as_ptr(), region, index) })
     }
 
-    /// Adds an item that gives a key of a region a value. Both are copied.
+    /// Adds a put of `key` with `value` in `region`. Both are copied.
     ///
     /// # Errors
     ///
@@ -291,7 +291,7 @@ impl LogBatchHandle {
         })
     }
 
-    /// Adds an item that removes a key of a region and its value.
+    /// Adds a deletion of `key` in `region`, which removes the key and its value.
     ///
     /// # Errors
     ///
@@ -299,7 +299,7 @@ impl LogBatchHandle {
     pub(crate) fn delete(&mut self, region: u64, key: &[u8]) -> Result<()> {
         self.check_open()?;
         // SAFETY: `held`, `open`: the handle holds an open batch.
-        check_memory(unsafe {
+        check_memory_code(unsafe {
             raft_ffi_batch_delete(self.0.as_ptr(), region, key.as_ptr(), key.len())
         })
     }
@@ -357,7 +357,7 @@ impl LogBatchHandle {
     /// `InvalidArgument` where the batch isn't signed; `Memory`.
     pub(crate) fn bytes(&self) -> Result<Vec<u8>> {
         self.check_signed()?;
-        list(|room, len, count| {
+        fill_list(|room, len, count| {
             // SAFETY: `held`, `sealed`: the handle holds a signed batch.
             *count = with_handle(&self.0, |batch| unsafe {
                 raft_ffi_batch_bytes(batch, room, len)
@@ -398,12 +398,13 @@ impl LogBatchHandle {
         let batch = self.into_raw();
         let mut items = Handle::EMPTY;
         // SAFETY: `held`, `empty`: the one handle holds a batch, which is given away, and the other one is empty.
-        check_memory(unsafe { raft_ffi_batch_into_items(batch, &mut items) })?;
+        check_memory_code(unsafe { raft_ffi_batch_into_items(batch, &mut items) })?;
         Ok(ItemsHandle(Cell::new(items)))
     }
 }
 
 impl Drop for LogBatchHandle {
+    /// Frees the batch.
     fn drop(&mut self) {
         // SAFETY: `held`: the handle holds a batch, which is given away.
         unsafe { raft_ffi_batch_drop(self.0.get()) }

@@ -45,6 +45,7 @@ pub(super) struct EntryNumbers {
 }
 
 impl From<LogFile> for File {
+    /// Makes the file as the library takes it: checksums are signed in version 2.
     fn from(file: LogFile) -> File {
         File {
             seq: file.seq,
@@ -55,6 +56,7 @@ impl From<LogFile> for File {
 }
 
 impl From<Option<u64>> for Maybe {
+    /// Makes the number as the library takes it; it is 0 where there is none.
     fn from(number: Option<u64>) -> Maybe {
         Maybe {
             is_some: number.is_some(),
@@ -71,6 +73,7 @@ impl Maybe {
 }
 
 impl From<SummaryNumbers> for Summary {
+    /// Makes the summary that the library has filled in.
     fn from(summary: SummaryNumbers) -> Summary {
         Summary {
             entries: summary.entries,
@@ -83,6 +86,7 @@ impl From<SummaryNumbers> for Summary {
 }
 
 impl From<&Entry> for EntryNumbers {
+    /// Makes the entry as the library takes it. It has a place.
     fn from(entry: &Entry) -> EntryNumbers {
         EntryNumbers {
             index: entry.index,
@@ -98,7 +102,8 @@ impl From<&Entry> for EntryNumbers {
 }
 
 impl From<EntryNumbers> for Entry {
-    /// Makes the entry. It panics where the entry has no place; those of tables, of read batches and of written ones have one.
+    /// Makes the entry that the library has filled in. It panics where the entry has no place; those of tables, of read
+    /// batches and of written ones have one.
     fn from(entry: EntryNumbers) -> Entry {
         assert!(entry.is_placed, "entry {} has no place", entry.index);
         let queue = if entry.is_rewrite {
@@ -122,12 +127,12 @@ impl From<EntryNumbers> for Entry {
     }
 }
 
-/// Returns entries as the library takes them.
+/// Makes of each entry the numbers that the library takes, in the same order.
 pub(super) fn to_entry_numbers(entries: &[Entry]) -> Vec<EntryNumbers> {
     entries.iter().map(EntryNumbers::from).collect()
 }
 
-/// Returns the entries that the library has filled in, each of which must have a place.
+/// Makes the entries that the library has filled in, in the same order. It panics where one has no place.
 pub(super) fn to_entries(numbers: Vec<EntryNumbers>) -> Vec<Entry> {
     numbers.into_iter().map(Entry::from).collect()
 }

@@ -40,8 +40,9 @@ impl Packed {
         self.bytes.clear();
     }
 
-    /// Removes all entries, and gives back the room that is more than what is kept for the next ones.
-    pub(crate) fn shrink(&mut self) {
+    /// Removes all entries, and frees the room beyond what is kept for the next ones: 1 MiB, or what [`Packed::with_capacity`]
+    /// asked for, if that is more.
+    pub(crate) fn clear_and_shrink(&mut self) {
         self.clear();
         self.lens.shrink_to(KEPT / size_of::<usize>());
         self.bytes.shrink_to(self.asked.max(KEPT));
@@ -90,12 +91,12 @@ impl Packed {
         Ok(())
     }
 
-    /// Packs an entry whose bytes the call `put` appends to those that are there.
+    /// Packs an entry behind the others, whose bytes `put` appends to those that are there.
     ///
     /// # Errors
     ///
-    /// That of the call; a text where the call took bytes away that were there before. The entry isn't packed then, but bytes of
-    /// it may be there.
+    /// That of `put`; a text where `put` took bytes away that were there before. The entry isn't packed then, but bytes of it
+    /// may be there.
     pub(crate) fn push_with<E: Into<Box<dyn error::Error + Send + Sync>>>(
         &mut self,
         put: impl FnOnce(&mut Vec<u8>) -> std::result::Result<(), E>,

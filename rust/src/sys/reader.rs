@@ -2,7 +2,8 @@
 
 use super::engine_calls::{TailNumbers, raft_ffi_engine_open};
 use super::{
-    EngineHandle, File, Handle, Status, TEXT_LEN, check_call, check_memory, error_with_text, list,
+    EngineHandle, File, Handle, Status, TEXT_LEN, check_call, check_memory_code, error_with_text,
+    fill_list,
 };
 use crate::{
     CutTail, DamagedBatch, Error, FileId, FilePart, LogFile, Queue, Recovered, RecoveryMode,
@@ -94,7 +95,7 @@ impl ReaderHandle {
     pub(crate) fn new() -> Result<ReaderHandle> {
         let mut handle = Handle::EMPTY;
         // SAFETY: `empty`: the handle is empty.
-        check_memory(unsafe { raft_ffi_reader_new(&mut handle) })?;
+        check_memory_code(unsafe { raft_ffi_reader_new(&mut handle) })?;
         Ok(ReaderHandle(handle))
     }
 
@@ -169,18 +170,19 @@ impl ReaderHandle {
     /// Returns the batches with damaged entries that the reader has found, in order. `file` is the last append file, which has
     /// all of them. The only error is `Memory`.
     fn damaged_batches(&mut self, file: LogFile) -> Result<Vec<DamagedBatch>> {
-        let offsets = list(|room, len, count| {
+        let offsets = fill_list(|room, len, count| {
             // SAFETY: `held`: the handle holds a reader.
             *count = unsafe { raft_ffi_reader_damaged(&mut self.0, room, len) };
             Ok(())
         })?;
         let batches = offsets
             .into_iter()
-            .map(|offset| damaged_batch(file, offset));
+            .map(|offset| damaged_batch_at(file, offset));
         batches.collect()
     }
 
-    /// Returns the library's handle. Its value has to be freed by the caller, or given to the library.
+    /// Gives up the ownership, and returns the library's handle. The caller has to free its value, or to give it to the
+    /// library.
     fn into_raw(self) -> Handle {
         let handle = self.0;
         mem::forget(self);
@@ -189,6 +191,7 @@ impl ReaderHandle {
 }
 
 impl Drop for ReaderHandle {
+    /// Frees the reader.
     fn drop(&mut self) {
         // SAFETY: `held`: the handle holds a reader, which is given away.
         unsafe { raft_ffi_reader_drop(self.0) }
@@ -200,7 +203,7 @@ impl Drop for ReaderHandle {
 /// # Errors
 ///
 /// `Memory`, where there is none for the text of that error.
-fn damaged_batch(file: LogFile, offset: u64) -> Result<DamagedBatch> {
+fn damaged_batch_at(file: LogFile, offset: u64) -> Result<DamagedBatch> {
     // SAFETY: the text is lent for the call.
     let refused = check_call(|text, text_len| unsafe {
         raft_ffi_damaged_entries(file.into(), offset, text, text_len)
@@ -231,7 +234,7 @@ pub(crate) fn open_engine(
     let last = last.map(|seq| LogFile::new(Queue::Append, seq, version));
     let damaged = last.map_or(Ok(Vec::new()), |file| append.reader.damaged_batches(file))?;
     let mut handle = Handle::EMPTY;
-    let (mut append_tail, mut rewrite_tail) = (Tail::default(), Tail::default());
+    let (mut append_tail, mut rewrite_tail) = (TailRoom::default(), TailRoom::default());
     let (appended, rewritten) = (append.reader.into_raw(), rewrite.reader.into_raw());
     let is_signed = version == Version::V2;
     // SAFETY: `empty`, `read`: the one handle is empty, and the others hold readers, which are given away; each has read just the
@@ -262,32 +265,33 @@ pub(crate) fn open_engine(
         )
     })?;
     let recovered = Recovered {
-        append: append_tail.into_cut(Queue::Append),
-        rewrite: rewrite_tail.into_cut(Queue::Rewrite),
+        append: append_tail.into_cut_tail(Queue::Append),
+        rewrite: rewrite_tail.into_cut_tail(Queue::Rewrite),
         damaged,
     };
     Ok((EngineHandle::from_raw(handle), recovered))
 }
 
 /// Room for what the library says of a tail that was cut off.
-struct Tail {
+struct TailRoom {
     numbers: TailNumbers,
     /// The text of the reason.
     reason: [u8; TEXT_LEN],
 }
 
-impl Default for Tail {
-    fn default() -> Tail {
-        Tail {
+impl Default for TailRoom {
+    /// Makes room in which nothing is said yet: no tail was cut off.
+    fn default() -> TailRoom {
+        TailRoom {
             numbers: TailNumbers::default(),
             reason: [0; TEXT_LEN],
         }
     }
 }
 
-impl Tail {
-    /// Returns what the library has said of the tail of a queue's last file; `None` where nothing was cut off.
-    fn into_cut(self, queue: Queue) -> Option<CutTail> {
+impl TailRoom {
+    /// Makes the cut tail of what the library has said of the end of a queue's last file; `None` where nothing was cut off.
+    fn into_cut_tail(self, queue: Queue) -> Option<CutTail> {
         let numbers = self.numbers.is_some.then_some(self.numbers)?;
         let file = FileId::new(queue, numbers.seq);
         let reason = error_with_text(numbers.code, numbers.text_len, &self.reason);
@@ -300,7 +304,7 @@ impl Tail {
     }
 }
 
-/// Returns the number of a mode in the library.
+/// Returns the number by which the library takes a mode.
 fn mode_number(mode: RecoveryMode) -> u32 {
     match mode {
         RecoveryMode::AbsoluteConsistency => 0,

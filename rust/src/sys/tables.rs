@@ -14,8 +14,9 @@ use super::table_calls::{
     raft_ffi_tables_summary, raft_ffi_tables_truncate, raft_ffi_tables_value,
 };
 use super::{
-    EntryNumbers, Handle, ItemsHandle, LogBatchHandle, SummaryNumbers, check_call, check_memory,
-    list, list_if_found, list_pairs, to_entries, to_entry_numbers, with_handle,
+    EntryNumbers, Handle, ItemsHandle, LogBatchHandle, SummaryNumbers, check_call,
+    check_memory_code, fill_list, fill_list_if_found, fill_pairs, to_entries, to_entry_numbers,
+    with_handle,
 };
 use crate::{Entry, FileId, Pair, Queue, Result, Summary};
 use std::cell::Cell;
@@ -34,11 +35,11 @@ impl TablesHandle {
     pub(crate) fn new() -> Result<TablesHandle> {
         let mut handle = Handle::EMPTY;
         // SAFETY: `empty`: the handle is empty.
-        check_memory(unsafe { raft_ffi_tables_new(&mut handle) })?;
+        check_memory_code(unsafe { raft_ffi_tables_new(&mut handle) })?;
         Ok(TablesHandle(Cell::new(handle)))
     }
 
-    /// Returns the library's handle. Its value has to be freed by the caller, or given to the
+    /// Gives up the ownership, and returns the library's handle. The caller has to free its value, or to give it to the
     /// library.
     fn into_raw(self) -> Handle {
         let handle = self.0.get();
@@ -68,17 +69,18 @@ impl TablesHandle {
     /// Returns the numbers of the regions that have a table, in rising order. The only error is
     /// `Memory`.
     pub(crate) fn regions(&self) -> Result<Vec<u64>> {
-        list(|room, len, count| {
+        fill_list(|room, len, count| {
             // SAFETY: `held`: the handle holds tables.
-            check_memory(with_handle(&self.0, |tables| unsafe {
+            check_memory_code(with_handle(&self.0, |tables| unsafe {
                 raft_ffi_tables_regions(tables, room, len, count)
             }))
         })
     }
 
-    /// Returns the list of cleaned regions, in the order in which they were cleaned.
+    /// Returns the list of cleaned regions, in the order in which they were cleaned. Without memory for the list the program
+    /// ends.
     pub(crate) fn cleaned(&self) -> Vec<u64> {
-        list_if_found(|room, len, count| {
+        fill_list_if_found(|room, len, count| {
             // SAFETY: `held`: the handle holds tables.
             *count = with_handle(&self.0, |tables| unsafe {
                 raft_ffi_tables_cleaned(tables, room, len)
@@ -112,7 +114,7 @@ impl TablesHandle {
         range: Range<u64>,
         max_size: Option<u64>,
     ) -> Result<Vec<Entry>> {
-        let list = list(|room, len, count| {
+        let list = fill_list(|room, len, count| {
             check_call(|text, text_len| {
                 // SAFETY: `held`: the handle holds tables.
                 with_handle(&self.0, |tables| unsafe {
@@ -137,9 +139,9 @@ impl TablesHandle {
     /// Returns the appended entries of a region, from the first one on, as long as their file is
     /// numbered at or below `gate`. The only error is `Memory`.
     pub(crate) fn entries_before(&self, region: u64, gate: u64) -> Result<Vec<Entry>> {
-        let list = list(|room, len, count| {
+        let list = fill_list(|room, len, count| {
             // SAFETY: `held`: the handle holds tables.
-            check_memory(with_handle(&self.0, |tables| unsafe {
+            check_memory_code(with_handle(&self.0, |tables| unsafe {
                 raft_ffi_tables_entries_before(tables, region, gate, room, len, count)
             }))
         })?;
@@ -149,9 +151,9 @@ impl TablesHandle {
     /// Returns the entries of a region that are in rewrite files, in order. The only error is
     /// `Memory`.
     pub(crate) fn rewritten_entries(&self, region: u64) -> Result<Vec<Entry>> {
-        let list = list(|room, len, count| {
+        let list = fill_list(|room, len, count| {
             // SAFETY: `held`: the handle holds tables.
-            check_memory(with_handle(&self.0, |tables| unsafe {
+            check_memory_code(with_handle(&self.0, |tables| unsafe {
                 raft_ffi_tables_rewritten_entries(tables, region, room, len, count)
             }))
         })?;
@@ -160,7 +162,7 @@ impl TablesHandle {
 
     /// Returns a copy of the value of a region's key; `None` where it has none.
     pub(crate) fn value(&self, region: u64, key: &[u8]) -> Option<Vec<u8>> {
-        list_if_found(|room, len, count| {
+        fill_list_if_found(|room, len, count| {
             // SAFETY: `held`: the handle holds tables.
             with_handle(&self.0, |tables| unsafe {
                 raft_ffi_tables_value(tables, region, key.as_ptr(), key.len(), room, len, count)
@@ -171,9 +173,9 @@ impl TablesHandle {
     /// Returns the keys of a region that are in append files numbered at or below `gate`, with
     /// their values, in the order of the keys. The only error is `Memory`.
     pub(crate) fn pairs_before(&self, region: u64, gate: u64) -> Result<Vec<Pair>> {
-        list_pairs(|lens, lens_len, count, bytes, bytes_len, len| {
+        fill_pairs(|lens, lens_len, count, bytes, bytes_len, len| {
             // SAFETY: `held`: the handle holds tables.
-            check_memory(with_handle(&self.0, |tables| unsafe {
+            check_memory_code(with_handle(&self.0, |tables| unsafe {
                 raft_ffi_tables_pairs_before(
                     tables, region, gate, lens, lens_len, count, bytes, bytes_len, len,
                 )
@@ -184,9 +186,9 @@ impl TablesHandle {
     /// Returns the keys of a region that are in rewrite files, with their values, in the order of
     /// the keys. The only error is `Memory`.
     pub(crate) fn rewritten_pairs(&self, region: u64) -> Result<Vec<Pair>> {
-        list_pairs(|lens, lens_len, count, bytes, bytes_len, len| {
+        fill_pairs(|lens, lens_len, count, bytes, bytes_len, len| {
             // SAFETY: `held`: the handle holds tables.
-            check_memory(with_handle(&self.0, |tables| unsafe {
+            check_memory_code(with_handle(&self.0, |tables| unsafe {
                 raft_ffi_tables_rewritten_pairs(
                     tables, region, lens, lens_len, count, bytes, bytes_len, len,
                 )
@@ -198,9 +200,9 @@ impl TablesHandle {
     /// `Memory`.
     pub(crate) fn pairs(&self, region: u64) -> Result<Vec<Pair>> {
         let none: &[u8] = &[];
-        list_pairs(|lens, lens_len, count, bytes, bytes_len, len| {
+        fill_pairs(|lens, lens_len, count, bytes, bytes_len, len| {
             // SAFETY: `held`: the handle holds tables.
-            check_memory(with_handle(&self.0, |tables| unsafe {
+            check_memory_code(with_handle(&self.0, |tables| unsafe {
                 raft_ffi_tables_scan(
                     tables,
                     region,
@@ -259,12 +261,12 @@ impl TablesHandle {
     pub(crate) fn take_cleaned_logs(&mut self) -> Result<LogBatchHandle> {
         let mut batch = Handle::EMPTY;
         // SAFETY: `held`, `empty`: the one handle holds tables, and the other one is empty.
-        check_memory(unsafe { raft_ffi_tables_cleaned_logs(self.0.as_ptr(), &mut batch) })?;
+        check_memory_code(unsafe { raft_ffi_tables_cleaned_logs(self.0.as_ptr(), &mut batch) })?;
         Ok(LogBatchHandle::from_raw(batch))
     }
 
-    /// Puts new entries of the append queue behind the entries of a region that are below their
-    /// first index. All other entries of the region are dropped.
+    /// Appends `entries`, which stand in the append queue and have consecutive indexes, to those of a region. The region's
+    /// entries from the first new index on are dropped.
     ///
     /// # Errors
     ///
@@ -308,8 +310,8 @@ impl TablesHandle {
         Ok(dropped)
     }
 
-    /// Gives a key of a region a value. Both are copied; `file` is the one to which they were
-    /// written.
+    /// Puts `key` with `value` into the table of a region, in place of an older value. Both are copied; `file` is the one to
+    /// which they were written.
     ///
     /// # Errors
     ///
@@ -415,12 +417,14 @@ impl TablesHandle {
         })
     }
 
-    /// Sets the first and the last rewrite file of a region's last atomic group. `start` must be at
-    /// most `end`. The only error is `Memory`: the tables are as they were then.
+    /// Notes the numbers of the rewrite files in which a region's last atomic group begins and ends, `start` and `end`.
+    /// `start` must be at most `end`. The only error is `Memory`: the tables are as they were then.
     pub(crate) fn set_atomic_group(&mut self, region: u64, start: u64, end: u64) -> Result<()> {
         assert!(start <= end, "an atomic group starts behind its end");
         // SAFETY: `held`, `range`: the handle holds tables, and the files are in order.
-        check_memory(unsafe { raft_ffi_tables_atomic_group(self.0.as_ptr(), region, start, end) })
+        check_memory_code(unsafe {
+            raft_ffi_tables_atomic_group(self.0.as_ptr(), region, start, end)
+        })
     }
 
     /// Removes the table of a region, and returns whether there was one. With `is_listed` it lists
@@ -428,14 +432,13 @@ impl TablesHandle {
     pub(crate) fn remove(&mut self, region: u64, is_listed: bool) -> Result<bool> {
         let mut is_found = false;
         // SAFETY: `held`: the handle holds tables.
-        check_memory(unsafe {
+        check_memory_code(unsafe {
             raft_ffi_tables_remove(self.0.as_ptr(), region, is_listed, &mut is_found)
         })?;
         Ok(is_found)
     }
 
-    /// Moves the table of a region, if there is one, to the tables `to`, in place of the one that
-    /// the region has there.
+    /// Moves the table of a region, if there is one, to the tables `to`, where it replaces the one that the region has.
     ///
     /// # Errors
     ///
@@ -561,6 +564,7 @@ impl TablesHandle {
 }
 
 impl Drop for TablesHandle {
+    /// Frees the tables.
     fn drop(&mut self) {
         // SAFETY: `held`: the handle holds tables, which are given away.
         unsafe { raft_ffi_tables_drop(self.0.get()) }

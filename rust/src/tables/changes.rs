@@ -3,8 +3,8 @@
 use crate::{Batch, Entry, Error, FileId, LogBatch, Result, Tables};
 
 impl Tables {
-    /// Puts new entries of the append queue, with consecutive indexes, behind the entries of a region that are below their first
-    /// index. All other entries of the region are dropped. Without new entries nothing changes.
+    /// Appends `entries`, which stand in the append queue and have consecutive indexes, to those of a region. The region's
+    /// entries from the first new index on are dropped. Without new entries nothing changes.
     ///
     /// ```
     /// # use raft_recover::{Block, Entry, FileId, Queue, Tables};
@@ -70,7 +70,8 @@ impl Tables {
         self.handle.truncate(region, index)
     }
 
-    /// Gives a key of a region a value. Both are copied; `file` is the one to which they were written.
+    /// Puts `key` with `value` into the table of a region, in place of an older value. Both are copied; `file` is the one to
+    /// which they were written.
     ///
     /// ```
     /// # use raft_recover::{FileId, Queue, Tables};
@@ -156,7 +157,8 @@ impl Tables {
         self.handle.rewrite_key(region, key, gate, seq)
     }
 
-    /// Sets the first and the last rewrite file of a region's last atomic group, once the end of that group is written.
+    /// Notes the numbers of the rewrite files in which a region's last atomic group begins and ends, `start` and `end`, once
+    /// the end of that group is written.
     ///
     /// ```
     /// # use raft_recover::{FileId, Queue, Tables};

@@ -23,7 +23,7 @@ pub(in crate::engine) struct Group<'a> {
 
 impl<'a> Group<'a> {
     /// Makes the group that the thread with the ticket `leader` leads. It has no batches yet.
-    pub(super) fn led_by(commits: &'a Commits, leader: u64) -> Group<'a> {
+    pub(super) fn with_leader(commits: &'a Commits, leader: u64) -> Group<'a> {
         Group {
             commits,
             leader,
@@ -58,33 +58,36 @@ impl<'a> Group<'a> {
             commit.result.get_or_insert(Ok(()));
         }
         let over = taken.extract_if(.., |commit| commit.result.is_some());
-        self.commits.change_line(|line| line.over.extend(over));
+        self.commits
+            .change_line_and_wake(|line| line.over.extend(over));
         self.unsynced.append(&mut taken);
     }
 
-    /// Tests whether the leader has to make a sync, since its own batch waits for one. If it hasn't, the batches that wait for
-    /// one are left to their threads, one of which leads next.
-    pub(in crate::engine) fn is_sync_due(&mut self) -> bool {
+    /// Claims the sync for the leader, if its own batch waits for one, and returns whether it does. If not, the batches that
+    /// wait for a sync are left to their threads, one of which leads next.
+    pub(in crate::engine) fn claim_sync(&mut self) -> bool {
         let mut unsynced = self.unsynced.iter();
         let is_due = unsynced.any(|commit| commit.ticket == self.leader);
         self.is_handed_on = !is_due;
         is_due
     }
 
-    /// Lets the threads of all batches go on that are left in the group. `result` is that of the batches which have none yet.
-    pub(in crate::engine) fn finish_with(&mut self, result: &Result<()>) {
+    /// Lets the threads of all batches go on that are left in the group. Each batch without a result gets `result` first.
+    pub(in crate::engine) fn finish_with_result(&mut self, result: &Result<()>) {
         let mut all = mem::take(&mut self.taken);
         all.append(&mut self.unsynced);
         for commit in &mut all {
             commit.result.get_or_insert_with(|| result.clone());
         }
-        self.commits.change_line(|line| line.over.append(&mut all));
+        self.commits
+            .change_line_and_wake(|line| line.over.append(&mut all));
     }
 }
 
 impl Drop for Group<'_> {
+    /// Lets the threads of all batches go on, but for those whose sync is left to another thread, and ends the leading.
     fn drop(&mut self) {
-        self.commits.change_line(|line| {
+        self.commits.change_line_and_wake(|line| {
             line.over.append(&mut self.taken);
             let unsynced = if self.is_handed_on {
                 &mut line.unsynced

@@ -11,7 +11,7 @@ use std::path::{Path, PathBuf};
 ///
 /// # Errors
 ///
-/// Those of the system, with the path of the new file, which isn't there then.
+/// Those of the system. Where the new file can't be written the error has its path, and what was written of it is deleted.
 pub(super) fn keep_aside(folder: &Path, id: FileId, offset: u64, bytes: &[u8]) -> io::Result<()> {
     let path = path_for_cut_bytes(folder, id, offset, bytes)?;
     write_and_sync(&path, bytes).map_err(|e| {
@@ -41,7 +41,7 @@ fn path_for_cut_bytes(folder: &Path, id: FileId, offset: u64, bytes: &[u8]) -> i
     }
 }
 
-/// Makes a file of the bytes, in place of one that is there, and syncs it, but not its name.
+/// Makes a file at `path` that has just `bytes`, in place of one that is there, and syncs it, but not its name.
 ///
 /// # Errors
 ///

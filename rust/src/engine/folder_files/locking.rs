@@ -36,7 +36,7 @@ impl LockedFolder {
     ///
     /// `TryAgain` where another engine has the folder open; `Io`. No lock is held then.
     pub(super) fn lock_exclusive(path: &Path) -> Result<LockedFolder> {
-        let folder = File::open(path).map_err(|e| Error::system(path.display(), e))?;
+        let folder = File::open(path).map_err(|e| Error::io(path.display(), e))?;
         check_lock(path, folder.try_lock())?;
         let mut locked = LockedFolder { folder, lock: None };
         let lock_path = path.join(LOCK);
@@ -44,7 +44,7 @@ impl LockedFolder {
         how.create(true).truncate(false).read(true).write(true);
         let lock = how
             .open(&lock_path)
-            .map_err(|e| Error::system(lock_path.display(), e))?;
+            .map_err(|e| Error::io(lock_path.display(), e))?;
         check_lock(&lock_path, lock.try_lock())?;
         locked.lock = Some(lock);
         Ok(locked)
@@ -57,13 +57,13 @@ impl LockedFolder {
     ///
     /// `TryAgain` where an engine has the folder open that writes; `Io`. No lock is held then.
     pub(super) fn lock_shared(path: &Path) -> Result<LockedFolder> {
-        let folder = File::open(path).map_err(|e| Error::system(path.display(), e))?;
+        let folder = File::open(path).map_err(|e| Error::io(path.display(), e))?;
         check_lock(path, folder.try_lock_shared())?;
         let mut locked = LockedFolder { folder, lock: None };
         let lock_path = path.join(LOCK);
         let lock = match File::open(&lock_path) {
             Err(e) if e.kind() == io::ErrorKind::NotFound => return Ok(locked),
-            lock => lock.map_err(|e| Error::system(lock_path.display(), e))?,
+            lock => lock.map_err(|e| Error::io(lock_path.display(), e))?,
         };
         check_lock(&lock_path, lock.try_lock_shared())?;
         locked.lock = Some(lock);
@@ -71,7 +71,7 @@ impl LockedFolder {
     }
 }
 
-/// Turns the result of an attempt to lock `path` into one with errors of this crate.
+/// Checks `locked`, the result of an attempt to lock `path`, and returns it with an error of this crate.
 ///
 /// # Errors
 ///
@@ -83,6 +83,6 @@ fn check_lock(path: &Path, locked: std::result::Result<(), TryLockError>) -> Res
             let text = format!("TryAgain Error: {path}: another engine has the folder open");
             Error::new(ErrorKind::TryAgain, text)
         }
-        TryLockError::Error(e) => Error::system(path, e),
+        TryLockError::Error(e) => Error::io(path, e),
     })
 }

@@ -41,6 +41,7 @@ pub(super) enum ChangeError {
 }
 
 impl From<io::Error> for ChangeError {
+    /// Makes the error of a change that may be made in part: where nothing else is known, that is assumed.
     fn from(e: io::Error) -> ChangeError {
         ChangeError::InPart(e)
     }

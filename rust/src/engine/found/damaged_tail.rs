@@ -13,7 +13,7 @@ const HEADER_LEN: usize = 16;
 /// # Errors
 ///
 /// `Io` with file and offset.
-pub(super) fn damaged_tail(
+pub(super) fn find_damaged_tail(
     files: &impl Files,
     damaged: &[DamagedBatch],
     mut end: u64,

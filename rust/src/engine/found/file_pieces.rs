@@ -41,7 +41,7 @@ pub(super) struct Piece<'r> {
 }
 
 impl<'a, F: Files> FilePieces<'a, F> {
-    /// Makes the pieces of a file of `len` bytes, from its start on. Nothing is read yet.
+    /// Makes a reading of the pieces of a file of `len` bytes, from its start on. Nothing is read yet.
     pub(super) fn new(files: &'a F, file: FileId, len: u64) -> FilePieces<'a, F> {
         FilePieces {
             files,
@@ -78,7 +78,10 @@ impl<'a, F: Files> FilePieces<'a, F> {
     ///
     /// `Io` with file and offset; `InvalidArgument` where the file begins with the header of raft-engine; `Memory`. There is no
     /// further piece then.
-    pub(super) fn read_next<'r>(&mut self, room: &'r mut Vec<u8>) -> Result<Option<Piece<'r>>> {
+    pub(super) fn read_next_piece<'r>(
+        &mut self,
+        room: &'r mut Vec<u8>,
+    ) -> Result<Option<Piece<'r>>> {
         if self.is_done {
             return Ok(None);
         }
@@ -92,7 +95,7 @@ impl<'a, F: Files> FilePieces<'a, F> {
         let offset = self.at;
         let whole = whole_batches_len(read);
         let (bytes, begun) = read.split_at(if whole > 0 { whole } else { read.len() });
-        self.keep_begun(begun)?;
+        self.keep_begun_batch(begun)?;
         self.at += bytes.len() as u64;
         self.count += 1;
         self.is_done = whole == 0 || self.at == self.len;
@@ -115,7 +118,7 @@ impl<'a, F: Files> FilePieces<'a, F> {
         room[..read].copy_from_slice(&self.begun);
         loop {
             let offset = self.at + read as u64;
-            let wanted = bytes_wanted(&room[..read], self.len - offset);
+            let wanted = count_bytes_to_read(&room[..read], self.len - offset);
             if wanted == 0 {
                 return Ok(read);
             }
@@ -126,12 +129,12 @@ impl<'a, F: Files> FilePieces<'a, F> {
         }
     }
 
-    /// Keeps a copy of `begun`, the bytes of the next piece that were read already.
+    /// Keeps a copy of `begun`, the first bytes of the next piece, which were read already, in place of what was kept before.
     ///
     /// # Errors
     ///
     /// `Memory`, with file and offset.
-    fn keep_begun(&mut self, begun: &[u8]) -> Result<()> {
+    fn keep_begun_batch(&mut self, begun: &[u8]) -> Result<()> {
         self.begun.clear();
         self.begun
             .try_reserve_exact(begun.len())
@@ -168,7 +171,7 @@ pub(super) fn read_exact_at(
 ) -> Result<()> {
     files
         .read(file, offset, bytes)
-        .map_err(|e| Error::system("the file can't be read", e).with_place(file, offset))
+        .map_err(|e| Error::io("the file can't be read", e).with_place(file, offset))
 }
 
 /// Returns how many of the bytes, from the first one on, are whole batches by the lengths in their headers. Whether these batches
@@ -187,7 +190,7 @@ fn whole_batches_len(bytes: &[u8]) -> usize {
 /// Returns how many bytes to read behind `bytes`, where the file has `left` more: enough for a header or for the rest of the
 /// first batch, and at least a piece ([`PIECE`]), if there are as many. Returns 0 if the first batch is whole already, no header
 /// stands at the start of `bytes`, or the file ends before the batch does.
-fn bytes_wanted(bytes: &[u8], left: u64) -> usize {
+fn count_bytes_to_read(bytes: &[u8], left: u64) -> usize {
     let missing = match batch_len(bytes) {
         _ if bytes.len() < HEADER_LEN => 0,
         Some(len) if len > bytes.len() => len - bytes.len(),

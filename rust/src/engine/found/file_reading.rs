@@ -59,14 +59,14 @@ impl<'a, F: Files> FileReading<'a, F> {
     ///
     /// # Errors
     ///
-    /// Those of [`FilePieces::read_next`], with the number of the piece that couldn't be read.
-    pub(super) fn read_next<'r>(
+    /// Those of [`FilePieces::read_next_piece`], with the number of the piece that couldn't be read.
+    pub(super) fn read_next_piece<'r>(
         &self,
         room: &'r mut Vec<u8>,
     ) -> (usize, Result<Option<Piece<'r>>>) {
         let mut pieces = locks::lock(&self.pieces);
         let number = pieces.count_read();
-        let piece = pieces.read_next(room);
+        let piece = pieces.read_next_piece(room);
         self.left.store(pieces.bytes_left(), Relaxed);
         (number, piece)
     }
@@ -85,7 +85,7 @@ impl<'a, F: Files> FileReading<'a, F> {
     ///
     /// The error of the first batch that can't be read, in a file that isn't the last, or that doesn't fit those before it, or
     /// whose entries are damaged, in the last rewrite file; `Io`, `Memory`. The reader is gone then.
-    pub(super) fn replay(
+    pub(super) fn replay_piece(
         &self,
         reader: ReaderHandle,
         piece: Piece<'_>,

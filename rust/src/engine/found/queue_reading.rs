@@ -31,7 +31,7 @@ pub(super) fn read_queue(
     let threads = options.recovery_threads.max(1);
     let read = |threads, is_named| {
         let reading = QueueReading::new(files, queue, listed, options.version, is_named);
-        reading.read(threads)
+        reading.read_on_threads(threads)
     };
     let again = |refused: Error, is_named| read(1, is_named).err().unwrap_or(refused);
     let (reader, rest) = read(threads, false).map_err(|mut refused| {
@@ -94,7 +94,7 @@ impl<'a, F: Files> QueueReading<'a, F> {
     /// # Errors
     ///
     /// That of the first piece that is refused, or of a merge; `Memory`.
-    fn read(self, threads: usize) -> Result<(ReaderHandle, Vec<u8>)> {
+    fn read_on_threads(self, threads: usize) -> Result<(ReaderHandle, Vec<u8>)> {
         let most: u64 = self.files.iter().map(FileReading::estimate_pieces).sum();
         let threads = threads.min(usize::try_from(most).unwrap_or(usize::MAX));
         thread::scope(|scope| {

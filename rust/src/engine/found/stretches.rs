@@ -75,7 +75,7 @@ impl Stretches {
             let seam = newer.from;
             stretch = match older.merge(newer, self.queue) {
                 Ok(both) => both,
-                Err(e) => return self.end_at(seam, End::Refused(e)),
+                Err(e) => return self.note_end_at(seam, End::Refused(e)),
             };
         }
     }
@@ -98,7 +98,7 @@ impl Stretches {
     }
 
     /// Notes that the reading ends at a piece, and how, unless an end before this piece is known.
-    pub(super) fn end_at(&self, piece: Position, end: End) {
+    pub(super) fn note_end_at(&self, piece: Position, end: End) {
         let mut first = locks::lock(&self.end);
         if first.as_ref().is_none_or(|(at, _)| piece < *at) {
             *first = Some((piece, end));

@@ -14,7 +14,7 @@ pub(super) struct Worker<'q, 'a, F> {
 }
 
 impl<'q, 'a, F: Files> Worker<'q, 'a, F> {
-    /// Makes the work of a thread on a queue, which has read nothing yet.
+    /// Makes the work of a thread that reads files of `queue`, and has read nothing yet.
     pub(super) fn new(queue: &'q QueueReading<'a, F>) -> Worker<'q, 'a, F> {
         Worker { queue, own: None }
     }
@@ -38,14 +38,14 @@ impl<'q, 'a, F: Files> Worker<'q, 'a, F> {
     /// may follow. If the reading of the queue ends there, that is noted with the stretches.
     fn read_piece(&mut self, file: usize, room: &mut Vec<u8>) -> bool {
         let reading = &self.queue.files[file];
-        let (number, piece) = reading.read_next(room);
+        let (number, piece) = reading.read_next_piece(room);
         let from = Position {
             file,
             piece: number,
         };
         let replayed = match piece {
             Ok(None) => return false,
-            Ok(Some(piece)) => self.replay(reading, from, piece),
+            Ok(Some(piece)) => self.replay_piece(reading, from, piece),
             Err(e) => Err(e),
         };
         let end = match replayed {
@@ -54,7 +54,7 @@ impl<'q, 'a, F: Files> Worker<'q, 'a, F> {
             Err(e) => End::Refused(e),
         };
         reading.stop();
-        self.queue.stretches.end_at(from, end);
+        self.queue.stretches.note_end_at(from, end);
         false
     }
 
@@ -63,15 +63,15 @@ impl<'q, 'a, F: Files> Worker<'q, 'a, F> {
     ///
     /// # Errors
     ///
-    /// Those of [`FileReading::replay`]; `Memory`. What this thread has read of the stretch is lost then.
-    fn replay(
+    /// Those of [`FileReading::replay_piece`]; `Memory`. What this thread has read of the stretch is lost then.
+    fn replay_piece(
         &mut self,
         reading: &FileReading<'_, F>,
         from: Position,
         piece: Piece<'_>,
     ) -> Result<Option<Vec<u8>>> {
         let own = self.take_stretch_before(from)?;
-        let (reader, rest) = reading.replay(own.reader, piece)?;
+        let (reader, rest) = reading.replay_piece(own.reader, piece)?;
         let to = rest.is_none().then(|| from.next_position(piece.is_last));
         self.own = Some(Stretch {
             from: own.from,

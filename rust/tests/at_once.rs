@@ -5,7 +5,7 @@
 mod common;
 
 use common::hooked::{Call, Hooked};
-use common::{batch_bytes, file, parts};
+use common::{append_file, append_parts, batch_bytes};
 use raft_recover::{Engine, MemoryFiles, Options, Queue, recover};
 use std::collections::HashSet;
 use std::ffi::c_void;
@@ -108,7 +108,7 @@ unsafe extern "C" fn rattle_dealloc(p: *mut c_void) {
 fn files(value: usize) -> Vec<Vec<u8>> {
     (1..=8)
         .map(|seq| {
-            batch_bytes(file(seq), |batch| {
+            batch_bytes(append_file(seq), |batch| {
                 batch.put(seq, b"key", &vec![7; value]).unwrap();
                 batch.clean(seq).unwrap();
             })
@@ -123,7 +123,7 @@ static TURN: Mutex<()> = Mutex::new(());
 fn all_threads_of_a_recovery_read_at_the_same_time() {
     let _turn = TURN.lock();
     let files = files(0);
-    let parts = parts(&files);
+    let parts = append_parts(&files);
     for workers in 1..=8 {
         call_meeting(workers);
         let tables = recover(&parts, Queue::Append, workers);

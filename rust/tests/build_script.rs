@@ -2,7 +2,7 @@
 
 mod common;
 
-use common::{TempFolder, top};
+use common::{TempFolder, repository_folder};
 use std::env;
 use std::fs;
 use std::path::PathBuf;
@@ -23,7 +23,7 @@ impl Script {
         let compiled = Command::new(rustc)
             .args(["--edition", "2024", "-o"])
             .arg(&program)
-            .arg(top().join("rust/build.rs"))
+            .arg(repository_folder().join("rust/build.rs"))
             .env("CARGO_MANIFEST_DIR", room.path().join("rust"))
             .status()
             .unwrap();

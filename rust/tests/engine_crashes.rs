@@ -6,9 +6,9 @@
 mod common;
 
 use common::TempFolder;
-use common::both::Both;
-use common::model::{COUNT, Change, Draw, Region, region_of};
-use common::seeds::{number, run_each};
+use common::both::FolderWithCopy;
+use common::model::{COUNT, Change, Draw, Region, read_region};
+use common::seeds::{number_from_env, run_histories};
 use raft_recover::{
     Ask, Batches, Content, Engine, FilePart, Files, FolderFiles, LogBatch, LogFile, MemoryFiles,
     Options, Queue, Result, Unsynced, Version,
@@ -70,18 +70,18 @@ impl Writer {
 
     /// Takes a random step, and returns whether all that the thread has written is synced then.
     fn step<F: Files>(&mut self, engine: &Engine<F>) -> Result<bool> {
-        match self.draw.below(20) {
+        match self.draw.number_below(20) {
             0 => engine.rotate().map(|()| true),
             1 | 2 => {
                 let last = engine.stats().append.last_file;
-                let gate = last - self.draw.below(2) as u64;
+                let gate = last - self.draw.number_below(2) as u64;
                 engine.rewrite(gate).map(|()| false)
             }
             3 => engine.rewrite_again().map(|()| false),
             4 => engine.purge().map(|_| false),
             5 => engine.sync().map(|()| true),
             6 => {
-                let found = [1, 2].map(|i| region_of(engine, self.region(i)).unwrap());
+                let found = [1, 2].map(|i| read_region(engine, self.region(i)).unwrap());
                 assert_eq!(&found, self.states.last().unwrap());
                 Ok(false)
             }
@@ -94,13 +94,13 @@ impl Writer {
         let mut state = self.states.last().unwrap().clone();
         let mut batch = LogBatch::new()?;
         batch.put(self.region(0), COUNT, &(self.last() + 1).to_le_bytes())?;
-        for _ in 0..1 + self.draw.below(3) {
-            let i = self.draw.below(2);
+        for _ in 0..1 + self.draw.number_below(3) {
+            let i = self.draw.number_below(2);
             let change = Change::draw(&mut self.draw, &state[i]);
             change.apply(&mut state[i]);
-            change.add(self.region(1 + i as u64), &mut batch)?;
+            change.add_to_batch(self.region(1 + i as u64), &mut batch)?;
         }
-        let sync = self.draw.once_in(2);
+        let sync = self.draw.happens_once_in(2);
         engine.write(&mut batch, sync)?;
         self.states.push(state);
         Ok(sync)
@@ -164,7 +164,7 @@ impl History {
             let acks = writer.acks.iter().filter(|(asked, _)| *asked <= asks);
             let acked = acks.map(|(_, number)| *number).max().unwrap_or(0);
             assert!(acked <= *count, "{acked} batches last, {count} are there");
-            let found = [1, 2].map(|i| region_of(engine, writer.region(i)).unwrap());
+            let found = [1, 2].map(|i| read_region(engine, writer.region(i)).unwrap());
             assert_eq!(found, writer.states[*count as usize]);
         }
         // the batches are a prefix of all that were written
@@ -218,8 +218,8 @@ fn stops(history: &History, asks: usize, draw: &mut Draw, by_byte: bool) -> Vec<
         }
     }
     stops.push(most.map(|most| Unsynced {
-        steps: draw.below(most.steps + 1),
-        deletions: draw.below(most.deletions + 1),
+        steps: draw.number_below(most.steps + 1),
+        deletions: draw.number_below(most.deletions + 1),
     }));
     stops
 }
@@ -232,22 +232,22 @@ fn stop_everywhere(history: &History) -> u64 {
     let by_byte = seed.is_multiple_of(BY_BYTE);
     let mut count = 0;
     for asks in 0..=history.files.asked() {
-        if !draw.once_in(4) {
+        if !draw.happens_once_in(4) {
             continue;
         }
         for [append, rewrite] in stops(history, asks, &mut draw, by_byte) {
             let left = history.files.left(asks, append, rewrite);
-            if seed.is_multiple_of(IN_FOLDER) && draw.once_in(8) {
+            if seed.is_multiple_of(IN_FOLDER) && draw.happens_once_in(8) {
                 open_in_folder(history, &left, asks);
             }
-            let threads = if draw.once_in(40) { 3 } else { 1 };
+            let threads = if draw.happens_once_in(40) { 3 } else { 1 };
             let options = options(seed).recovery_threads(threads);
             let engine = Engine::with_files(left.clone(), options).unwrap();
             let counts = history.check(&engine, asks);
             count += 1;
-            if draw.once_in(16) {
+            if draw.happens_once_in(16) {
                 go_on(history, &engine, &left, &counts, &mut draw);
-            } else if draw.once_in(16) {
+            } else if draw.happens_once_in(16) {
                 drop(engine);
                 count += stop_in_opening(history, &left, asks, &counts);
             }
@@ -296,7 +296,7 @@ fn go_on(
     counts: &[u64],
     draw: &mut Draw,
 ) {
-    let seed = draw.below(1 << 40) as u64;
+    let seed = draw.number_below(1 << 40) as u64;
     let mut writers = Vec::new();
     for (old, count) in history.writers.iter().zip(counts) {
         let mut writer = Writer::new(seed, old.id);
@@ -310,7 +310,7 @@ fn go_on(
     let found = MemoryFiles::found(append, rewrite);
     let engine = Engine::with_files(found, options(history.seed)).unwrap();
     for writer in writers {
-        let found = [1, 2].map(|i| region_of(&engine, writer.region(i)).unwrap());
+        let found = [1, 2].map(|i| read_region(&engine, writer.region(i)).unwrap());
         assert_eq!(&found, writer.states.last().unwrap());
     }
 }
@@ -323,7 +323,7 @@ fn run(seed: u64) -> u64 {
         return stop_everywhere(&History::new(seed, &engine, &files));
     }
     let room = TempFolder::new();
-    let both = Both {
+    let both = FolderWithCopy {
         folder: FolderFiles::open(room.path()).unwrap(),
         memory: files.clone(),
     };
@@ -350,9 +350,12 @@ fn run(seed: u64) -> u64 {
 
 #[test]
 fn nothing_that_was_synced_is_lost_and_nothing_comes_back() {
-    let (first, histories) = (number("SEED", 1), number("HISTORIES", 200));
+    let (first, histories) = (
+        number_from_env("SEED", 1),
+        number_from_env("HISTORIES", 200),
+    );
     let stops = AtomicU64::new(0);
-    run_each(first, histories, |seed| {
+    run_histories(first, histories, |seed| {
         stops.fetch_add(run(seed), Relaxed);
         let run = seed - first + 1;
         if run.is_multiple_of(500) {

@@ -3,7 +3,7 @@
 mod common;
 
 use common::hooked::{Call, Hooked};
-use common::model::region_of;
+use common::model::read_region;
 use raft_recover::{
     Engine, Error, ErrorKind, FileId, Files, LogBatch, MemoryFiles, Options, Queue, Result,
     Unsynced,
@@ -119,7 +119,7 @@ fn assert_every_change_fails<F: Files>(engine: &Engine<F>, first: &Error) {
 
 /// Tests that an engine has a prefix of the batches that `make_all_changes` writes, and returns how many.
 fn count_batches<F: Files>(engine: &Engine<F>) -> u64 {
-    let region = region_of(engine, 7).unwrap();
+    let region = read_region(engine, 7).unwrap();
     let written = region.entries.len() as u64;
     let expected = (1..=written).map(|number| (number, number.to_string().into_bytes()));
     assert!(region.entries.into_iter().eq(expected));
@@ -252,7 +252,7 @@ fn an_opening_that_fails_can_be_made_again() {
             assert_eq!(found.asked(), expected);
         }
         let opened = Engine::with_files(found, Options::new()).unwrap();
-        assert_eq!(region_of(&opened, 7).unwrap().entries.len(), 7);
+        assert_eq!(read_region(&opened, 7).unwrap().entries.len(), 7);
     }
 }
 

@@ -2,9 +2,9 @@
 
 mod common;
 
-use common::engines::write;
+use common::engines::write_batch;
 use common::hooked::{Call, Hooked};
-use common::model::region_of;
+use common::model::read_region;
 use raft_recover::{Engine, ErrorKind, FileId, MemoryFiles, Options, Queue};
 use std::collections::BTreeSet;
 use std::sync::{Condvar, Mutex};
@@ -16,7 +16,7 @@ fn five_files() -> MemoryFiles {
     let options = Options::new().target_file_size(1);
     let engine = Engine::with_files(files.clone(), options).unwrap();
     for index in 1..=4 {
-        write(&engine, |batch| {
+        write_batch(&engine, |batch| {
             batch.add_entries(7, index, &[index.to_string()])
         });
         engine.rewrite(index).unwrap();
@@ -102,7 +102,7 @@ fn most_bytes(lives: u64, rounds: u64) -> u64 {
         let engine = Engine::with_files(found, options.clone()).unwrap();
         for _ in 0..rounds {
             for region in 0..10 {
-                write(&engine, |batch| {
+                write_batch(&engine, |batch| {
                     batch.add_entries(region, 20 * round + 1, &[[7; 100]; 20])?;
                     batch.compact(region, (20 * round).saturating_sub(180) + 1)
                 });
@@ -113,7 +113,7 @@ fn most_bytes(lives: u64, rounds: u64) -> u64 {
             most = most.max(stats.append.bytes + stats.rewrite.bytes);
         }
         for region in 0..10 {
-            let kept = region_of(&engine, region).unwrap().entries;
+            let kept = read_region(&engine, region).unwrap().entries;
             let expected = (20 * round).saturating_sub(200) + 1..=20 * round;
             assert!(kept.keys().copied().eq(expected));
         }
@@ -135,7 +135,7 @@ fn ten_moved_regions(is_entry: bool) -> MemoryFiles {
     let files = MemoryFiles::new();
     let engine = Engine::with_files(files.clone(), Options::new()).unwrap();
     for region in 0..10 {
-        write(&engine, |batch| match is_entry {
+        write_batch(&engine, |batch| match is_entry {
             true => batch.add_entries(region, 1, &[[7; 1000]]),
             false => batch.put(region, b"key", &[7; 1000]),
         });
@@ -154,7 +154,7 @@ fn what_was_found_moves_again_where_half_of_it_isnt_needed() {
             let options = Options::new().purge_above(1000);
             let engine = Engine::with_files(files, options).unwrap();
             for region in 0..cleaned {
-                write(&engine, |batch| batch.clean(region));
+                write_batch(&engine, |batch| batch.clean(region));
             }
             for times in [moves, 0] {
                 let purged = engine.purge().unwrap();
@@ -170,17 +170,17 @@ fn files_with_untold_changes() -> MemoryFiles {
     let files = MemoryFiles::new();
     let engine = Engine::with_files(files.clone(), Options::new()).unwrap();
     for region in 1..=5 {
-        write(&engine, |batch| {
+        write_batch(&engine, |batch| {
             batch.add_entries(region, 1, &[[7; 100]; 9])?;
             batch.put(region, b"key", b"value")
         });
     }
     engine.rotate().unwrap();
     engine.rewrite(1).unwrap();
-    write(&engine, |batch| batch.clean(1));
-    write(&engine, |batch| batch.compact(2, 5));
-    write(&engine, |batch| batch.add_entries(3, 4, &[[8; 100]]));
-    write(&engine, |batch| batch.delete(4, b"key"));
+    write_batch(&engine, |batch| batch.clean(1));
+    write_batch(&engine, |batch| batch.compact(2, 5));
+    write_batch(&engine, |batch| batch.add_entries(3, 4, &[[8; 100]]));
+    write_batch(&engine, |batch| batch.delete(4, b"key"));
     files
 }
 

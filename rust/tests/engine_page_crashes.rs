@@ -9,7 +9,7 @@
 mod common;
 
 use common::model::{COUNT, Change, Draw, KEYS, Region};
-use common::seeds::{number, run_each};
+use common::seeds::{number_from_env, run_histories};
 use raft_recover::{
     Ask, Batches, Content, Engine, Error, ErrorKind, FileId, FilePart, LogBatch, LogFile,
     MemoryFiles, Options, Queue, Result, Unsynced, Version, batch_len,
@@ -119,11 +119,11 @@ impl History {
 
     /// Takes a random step.
     fn step(&mut self, engine: &Engine<MemoryFiles>) -> Result<()> {
-        match self.draw.below(20) {
+        match self.draw.number_below(20) {
             0 => engine.rotate(),
             1 | 2 => {
                 let last = engine.stats().append.last_file;
-                engine.rewrite(last - self.draw.below(2) as u64)
+                engine.rewrite(last - self.draw.number_below(2) as u64)
             }
             3 => engine.rewrite_again(),
             4 | 5 => engine.purge().map(drop),
@@ -138,19 +138,19 @@ impl History {
         let mut state = self.states[number - 1].clone();
         let mut batch = LogBatch::new()?;
         batch.put(0, COUNT, &(number as u64).to_le_bytes())?;
-        for _ in 0..1 + self.draw.below(3) {
-            let i = self.draw.below(REGIONS);
+        for _ in 0..1 + self.draw.number_below(3) {
+            let i = self.draw.number_below(REGIONS);
             let mut change = Change::draw(&mut self.draw, &state.regions[i]);
             if let Change::Entries(_, strings) = &mut change {
                 for string in strings {
-                    let len = self.draw.below(Sizes::of(self.seed).entry);
+                    let len = self.draw.number_below(Sizes::of(self.seed).entry);
                     string.resize(string.len().max(len), 1 + number as u8 % 255);
                 }
             }
             state.apply(i, &change, number);
-            change.add(1 + i as u64, &mut batch)?;
+            change.add_to_batch(1 + i as u64, &mut batch)?;
         }
-        engine.write(&mut batch, self.draw.once_in(4))?;
+        engine.write(&mut batch, self.draw.happens_once_in(4))?;
         self.states.push(state);
         Ok(())
     }
@@ -203,12 +203,12 @@ impl Left {
     fn draw(history: &History, asks: usize, draw: &mut Draw) -> Left {
         let most = QUEUES.map(|queue| history.files.unsynced(asks, queue));
         let drawn = most.map(|most| Unsynced {
-            steps: if draw.once_in(2) {
+            steps: if draw.happens_once_in(2) {
                 most.steps
             } else {
-                draw.below(most.steps + 1)
+                draw.number_below(most.steps + 1)
             },
-            deletions: draw.below(most.deletions + 1),
+            deletions: draw.number_below(most.deletions + 1),
         });
         let none = Unsynced::default();
         let safe = history.files.left(asks, none, none);
@@ -293,17 +293,17 @@ impl Left {
 fn lose_pages(bytes: &mut Vec<u8>, synced: usize, page: usize, draw: &mut Draw) {
     let (first, last) = (synced / page, bytes.len() / page);
     let only = draw
-        .once_in(2)
-        .then(|| first + draw.below(last - first + 1));
+        .happens_once_in(2)
+        .then(|| first + draw.number_below(last - first + 1));
     for number in first..=last {
-        let is_lost = only.map_or_else(|| draw.once_in(3), |only| only == number);
+        let is_lost = only.map_or_else(|| draw.happens_once_in(3), |only| only == number);
         if is_lost {
             let end = bytes.len().min((number + 1) * page);
             bytes[synced.max(number * page).min(end)..end].fill(0);
         }
     }
-    if draw.once_in(3) {
-        bytes.truncate(synced + draw.below(bytes.len() - synced + 1));
+    if draw.happens_once_in(3) {
+        bytes.truncate(synced + draw.number_below(bytes.len() - synced + 1));
     }
 }
 
@@ -452,7 +452,7 @@ fn stop_everywhere(history: &History, counts: &Counts) {
             let unread = check_records(&engine, state, synced);
             counts.opened.fetch_add(1, Relaxed);
             counts.unread.fetch_add(!unread.is_empty() as u64, Relaxed);
-            if draw.once_in(4) {
+            if draw.happens_once_in(4) {
                 go_on(history, engine, files, state, unread);
             }
         }
@@ -497,9 +497,9 @@ fn go_on(
 
 #[test]
 fn nothing_that_was_synced_is_lost_on_a_disk_that_writes_pages_in_any_order() {
-    let (first, histories) = (number("SEED", 1), number("HISTORIES", 40));
+    let (first, histories) = (number_from_env("SEED", 1), number_from_env("HISTORIES", 40));
     let counts = Counts::default();
-    run_each(first, histories, |seed| {
+    run_histories(first, histories, |seed| {
         stop_everywhere(&History::new(seed), &counts)
     });
     let [opened, refused, unread] =

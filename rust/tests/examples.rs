@@ -2,7 +2,7 @@
 
 mod common;
 
-use common::{TempFolder, lines, top};
+use common::{TempFolder, readme_lines, repository_folder};
 use std::collections::BTreeSet;
 use std::path::{Path, PathBuf};
 use std::process::Command;
@@ -50,7 +50,7 @@ fn output_lines(name: &str, words: &[&Path]) -> Vec<String> {
 
 #[test]
 fn each_program_is_run() {
-    let files = fs::read_dir(top().join("rust/examples")).unwrap();
+    let files = fs::read_dir(repository_folder().join("rust/examples")).unwrap();
     let files = files.map(|file| file.unwrap().path());
     let programs = files.filter(|path| path.is_file());
     let names = programs.map(|path| path.file_stem().unwrap().to_owned());
@@ -90,8 +90,11 @@ fn the_log_store_appends_an_entry_each_time() {
 
 #[test]
 fn files_are_recovered() {
-    let expected: Vec<_> = lines().lines().map(str::to_owned).collect();
-    assert_eq!(output_lines("recover", &[&top().join("demo")]), expected);
+    let expected: Vec<_> = readme_lines().lines().map(str::to_owned).collect();
+    assert_eq!(
+        output_lines("recover", &[&repository_folder().join("demo")]),
+        expected
+    );
 }
 
 #[test]

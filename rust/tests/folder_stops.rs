@@ -4,7 +4,7 @@
 mod common;
 
 use common::TempFolder;
-use common::model::{Region, region_of};
+use common::model::{Region, read_region};
 use raft_recover::{Engine, LogBatch, Options};
 use std::cell::Cell;
 use std::collections::{BTreeMap, BTreeSet};
@@ -376,7 +376,7 @@ fn each_folder_that_a_stop_may_leave_has_what_was_synced() {
                 count >= certain,
                 "{count} of {certain} behind change {stops}: {left:?}"
             );
-            assert_eq!(region_of(&engine, 7).unwrap(), expected(count));
+            assert_eq!(read_region(&engine, 7).unwrap(), expected(count));
             opened += 1;
         }
     }

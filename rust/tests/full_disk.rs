@@ -4,7 +4,7 @@
 mod common;
 
 use common::TempFolder;
-use common::engines::{asked_since, write};
+use common::engines::{asks_as_words, write_batch};
 use common::hooked::{Call, Hooked};
 use raft_recover::{
     Engine, Error, ErrorKind, FileId, Files, FolderFiles, LogBatch, MemoryFiles, Options, Queue,
@@ -320,15 +320,15 @@ fn a_purge_deletes_what_it_can_before_records_move() -> Result<()> {
     let engine = Engine::with_files(hooked, options)?;
     for region in [8, 7] {
         for index in 1..=8 {
-            write(&engine, |batch| {
+            write_batch(&engine, |batch| {
                 batch.add_entries(region, index, &[[7; 100]])
             });
         }
     }
-    write(&engine, |batch| batch.clean(8)); // no record has to move out of the first eight files
+    write_batch(&engine, |batch| batch.clean(8)); // no record has to move out of the first eight files
     let before = files.asked();
     assert_full(&engine.purge().unwrap_err());
-    let deleted = asked_since(&files, before);
+    let deleted = asks_as_words(&files, before);
     let deleted = deleted.iter().filter(|ask| ask.starts_with("delete"));
     let expected = (1..=8).map(|seq| format!("delete append file {seq}"));
     assert!(deleted.eq(&expected.collect::<Vec<_>>()));

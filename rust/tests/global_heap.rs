@@ -4,7 +4,7 @@
 
 mod common;
 
-use common::{batch_bytes, file, files, parts};
+use common::{append_file, append_parts, batch_bytes, demo_files};
 use raft_recover::{
     Batches, Engine, ErrorKind, FilePart, LogBatch, MemoryFiles, Options, Queue, Result, recover,
 };
@@ -95,10 +95,14 @@ fn engine_steps() -> Result<usize> {
 
 /// Recovers the files of demo/, reads a batch item by item, and returns how many regions and items there were.
 fn recovery_steps() -> Result<usize> {
-    let files = files();
-    let mut regions = recover(&parts(&files), Queue::Append, 1)?.regions()?.len();
-    let bytes = batch_bytes(file(1), |batch| batch.put(7, b"key", b"value").unwrap());
-    for batch in Batches::new(FilePart::new(file(1), &bytes))? {
+    let files = demo_files();
+    let mut regions = recover(&append_parts(&files), Queue::Append, 1)?
+        .regions()?
+        .len();
+    let bytes = batch_bytes(append_file(1), |batch| {
+        batch.put(7, b"key", b"value").unwrap()
+    });
+    for batch in Batches::new(FilePart::new(append_file(1), &bytes))? {
         regions += batch?.len();
     }
     Ok(regions)

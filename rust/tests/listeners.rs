@@ -3,7 +3,7 @@
 mod common;
 
 use common::TempFolder;
-use common::engines::write;
+use common::engines::write_batch;
 use raft_recover::{
     Ask, CutTail, Engine, FileId, Files, Listener, LogBatch, MemoryFiles, Options, Queue,
 };
@@ -79,14 +79,14 @@ fn all_that_is_done_to_files_is_told_in_order() {
     let told = Arc::new(Noting::default());
     let found = MemoryFiles::found(vec![(4, b"torn".to_vec())], vec![]);
     let engine = Engine::with_files_and_listener(found, small(), told.clone()).unwrap();
-    write(&engine, |batch| batch.put(8, b"key", b"it stays"));
+    write_batch(&engine, |batch| batch.put(8, b"key", b"it stays"));
     for index in 1..=60 {
-        write(&engine, |batch| {
+        write_batch(&engine, |batch| {
             batch.add_entries(7, index, &["x".repeat(50)])
         });
         if index % 10 == 0 {
             engine.sync().unwrap();
-            write(&engine, |batch| batch.compact(7, index - 8));
+            write_batch(&engine, |batch| batch.compact(7, index - 8));
             engine.purge().unwrap();
         }
     }
@@ -127,14 +127,14 @@ fn records_that_move_are_counted() {
         let told = told.take().into_iter();
         told.filter(|text| text.starts_with("move ")).collect()
     };
-    write(&engine, |batch| batch.add_entries(7, 1, &["1", "2", "3"]));
-    write(&engine, |batch| batch.put(8, b"key", b"value"));
+    write_batch(&engine, |batch| batch.add_entries(7, 1, &["1", "2", "3"]));
+    write_batch(&engine, |batch| batch.put(8, b"key", b"value"));
     engine.rotate().unwrap();
-    write(&engine, |batch| batch.add_entries(7, 4, &["4"]));
+    write_batch(&engine, |batch| batch.add_entries(7, 4, &["4"]));
     engine.rewrite(1).unwrap();
     engine.rewrite(1).unwrap(); // nothing is left to move
     assert_eq!(moves(), ["move 4 append"]);
-    write(&engine, |batch| batch.compact(7, 3));
+    write_batch(&engine, |batch| batch.compact(7, 3));
     engine.rewrite_again().unwrap();
     assert_eq!(moves(), ["move 2 rewrite"]);
 }
@@ -150,7 +150,7 @@ fn what_is_cut_in_a_folder_is_told_with_its_reason() {
     }
     let room = TempFolder::new();
     let engine = Engine::open(room.path(), Options::new()).unwrap();
-    write(&engine, |batch| batch.put(7, b"key", b"value"));
+    write_batch(&engine, |batch| batch.put(7, b"key", b"value"));
     engine.sync().unwrap();
     let path = engine.files().path_of(FileId::new(Queue::Append, 1));
     drop(engine);

@@ -10,7 +10,7 @@ mod raft_storage;
 use common::TempFolder;
 use common::hooked::{Call, Hooked};
 use common::model::Draw;
-use common::seeds::number;
+use common::seeds::number_from_env;
 use raft_recover::{Engine, Files, MemoryFiles, Options, Queue, Unsynced};
 use raft_storage::{
     ConfState, Entry, HardState, RaftStorage, Result, SnapshotMetadata, Storage, StorageError,
@@ -62,7 +62,7 @@ impl Model {
     /// Draws the next step of a node.
     fn draw(&self, draw: &mut Draw) -> Step {
         let (first, last, commit) = (self.snapshot.index + 1, self.last(), self.commit());
-        let mut below = |end: u64| draw.below(end as usize) as u64;
+        let mut below = |end: u64| draw.number_below(end as usize) as u64;
         match below(10) {
             0 | 1 => Step::SetHardState(HardState {
                 term: self.hard_state.term + below(2),
@@ -213,8 +213,8 @@ fn draw_left(files: &MemoryFiles, asks: usize, draw: &mut Draw) -> MemoryFiles {
     let [append, rewrite] = [Queue::Append, Queue::Rewrite].map(|queue| {
         let Unsynced { steps, deletions } = files.unsynced(asks, queue);
         Unsynced {
-            steps: draw.below(steps + 1),
-            deletions: draw.below(deletions + 1),
+            steps: draw.number_below(steps + 1),
+            deletions: draw.number_below(deletions + 1),
         }
     });
     files.left(asks, append, rewrite)
@@ -231,7 +231,7 @@ fn a_log_has_what_was_acknowledged_wherever_the_machine_stops() {
             assert!(has_all(&log, &model));
             let (mut before, mut asked) = (model.clone(), files.asked());
             let mut acknowledged = asked;
-            for _ in 0..1 + draw.below(30) {
+            for _ in 0..1 + draw.number_below(30) {
                 (before, asked) = (model.clone(), files.asked());
                 let step = model.draw(&mut draw);
                 model.apply(&step);
@@ -239,12 +239,12 @@ fn a_log_has_what_was_acknowledged_wherever_the_machine_stops() {
                 acknowledged = files.asked();
                 assert!(has_all(&log, &model));
                 assert_refuses(&mut log);
-                if draw.once_in(10) {
+                if draw.happens_once_in(10) {
                     engine.purge().unwrap();
                 }
             }
             // the machine stops in the midst of the last step, or behind it
-            let asks = asked + draw.below(files.asked() - asked + 1);
+            let asks = asked + draw.number_below(files.asked() - asked + 1);
             files = draw_left(&files, asks, &mut draw);
             let engine = Arc::new(Engine::with_files(files.clone(), options()).unwrap());
             let log = RaftStorage::open(engine, REGION).unwrap();
@@ -346,8 +346,8 @@ fn write_until_killed(folder: &TempFolder, seed: u64, taken: u64, draw: &mut Dra
         let (_, number) = line.split_once("took ")?;
         number.strip_suffix('.')?.parse::<u64>().ok()
     });
-    let heard = numbers.by_ref().take(1 + draw.below(100)).last();
-    thread::sleep(Duration::from_micros(draw.below(2000) as u64));
+    let heard = numbers.by_ref().take(1 + draw.number_below(100)).last();
+    thread::sleep(Duration::from_micros(draw.number_below(2000) as u64));
     child.kill().unwrap();
     child.wait().unwrap();
     numbers.last().or(heard).unwrap()
@@ -360,7 +360,7 @@ const KILLS: u64 = 10;
 /// times.
 #[test]
 fn a_log_has_what_was_acknowledged_whenever_its_process_is_killed() {
-    let (first, count) = (number("SEED", 0), number("HISTORIES", 3));
+    let (first, count) = (number_from_env("SEED", 0), number_from_env("HISTORIES", 3));
     let (mut draw, mut steps) = (Draw::new(first), 0);
     for seed in first..first + count {
         let room = TempFolder::new();

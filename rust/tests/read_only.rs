@@ -3,9 +3,9 @@
 mod common;
 
 use common::TempFolder;
-use common::engines::write;
+use common::engines::write_batch;
 use common::hooked::{Call, Hooked};
-use common::model::{Region, region_of};
+use common::model::{Region, read_region};
 use raft_recover::{
     Engine, ErrorKind, FileId, Files, FolderFiles, LogBatch, MemoryFiles, Options, Queue,
 };
@@ -43,7 +43,7 @@ fn errors_of_changes<F: Files>(engine: &Engine<F>) -> [(&'static str, raft_recov
 fn torn_files() -> MemoryFiles {
     let engine = Engine::with_files(MemoryFiles::new(), Options::new()).unwrap();
     for index in 1..=6 {
-        write(&engine, |batch| {
+        write_batch(&engine, |batch| {
             batch.add_entries(7, index, &[index.to_string()])?;
             batch.put(7, b"a", &index.to_le_bytes())
         });
@@ -84,14 +84,14 @@ fn nothing_is_asked_but_to_read_and_every_change_is_refused_by_name() {
     });
     let engine = Engine::with_files_read_only(hooked, Options::new()).unwrap();
     assert!(engine.is_read_only());
-    assert_eq!(region_of(&engine, 7).unwrap(), expected());
+    assert_eq!(read_region(&engine, 7).unwrap(), expected());
     assert_eq!(engine.regions().unwrap(), [7]);
     for (name, e) in errors_of_changes(&engine) {
         assert_eq!(e.kind, ErrorKind::InvalidArgument);
         let text = format!("Invalid Argument: {name}: the engine is open for reading alone");
         assert_eq!(e.text, text);
     }
-    assert_eq!(region_of(&engine, 7).unwrap(), expected());
+    assert_eq!(read_region(&engine, 7).unwrap(), expected());
     assert_eq!(files.asked(), 0);
     // the tails are cut in memory, and told of
     let stats = engine.stats();
@@ -154,7 +154,7 @@ fn a_folder_stays_as_it_is() {
     let before = files_in(room.path());
     assert_eq!(before.len(), 2);
     let engine = Engine::open_read_only(room.path(), Options::new()).unwrap();
-    assert_eq!(region_of(&engine, 7).unwrap(), expected());
+    assert_eq!(read_region(&engine, 7).unwrap(), expected());
     assert_eq!(
         errors_of_changes(&engine)[0].1.kind,
         ErrorKind::InvalidArgument
@@ -176,7 +176,7 @@ fn several_read_a_folder_while_nobody_writes_to_it() {
     let open = || Engine::open(path, Options::new()).map_err(|e| e.kind);
     let read = || Engine::open_read_only(path, Options::new()).map_err(|e| e.kind);
     let writing = open().unwrap();
-    write(&writing, |batch| batch.put(7, b"a", b"value"));
+    write_batch(&writing, |batch| batch.put(7, b"a", b"value"));
     for is_lock_there in [true, false] {
         if !is_lock_there {
             fs::remove_file(path.join("LOCK")).unwrap();
@@ -240,7 +240,7 @@ fn reads_a_folder_as_another_user() {
     assert_eq!(e.kind, ErrorKind::Io, "{e}");
     assert!(fs::write(folder.join("new"), "").is_err());
     let engine = Engine::open_read_only(folder, Options::new()).unwrap();
-    assert_eq!(region_of(&engine, 7).unwrap(), expected());
+    assert_eq!(read_region(&engine, 7).unwrap(), expected());
     println!("read");
 }
 

@@ -6,7 +6,7 @@
 
 mod common;
 
-use common::{batch_bytes, file, files, parts, run};
+use common::{append_file, append_parts, batch_bytes, demo_files, entries_in_file};
 use raft_recover::{
     Batches, Context, Engine, ErrorKind, LogBatch, MemoryFiles, Options, Queue, Result, Slot,
     Tables, recover, slot_of,
@@ -149,9 +149,11 @@ fn batch() -> LogBatch {
 /// Makes tables with entries of a region in a queue.
 fn tables(queue: Queue) -> Tables {
     let mut tables = Tables::new().unwrap();
-    tables.append(7, &run(Queue::Append, 1, 1..9)).unwrap();
+    tables
+        .append(7, &entries_in_file(Queue::Append, 1, 1..9))
+        .unwrap();
     if queue == Queue::Rewrite {
-        let moved = run(queue, 2, 1..9);
+        let moved = entries_in_file(queue, 2, 1..9);
         tables.rewrite(7, &moved, Some(1)).unwrap();
     }
     tables
@@ -165,11 +167,11 @@ fn batches_and_items() {
     drop(encoded);
     let mut merged = batch();
     merged.merge(&mut batch()).unwrap();
-    let bytes = batch_bytes(file(1), |more| merged.merge(more).unwrap());
+    let bytes = batch_bytes(append_file(1), |more| merged.merge(more).unwrap());
     assert_eq!(bytes, b"");
     drop(merged.into_items().unwrap());
-    let bytes = batch_bytes(file(1), |more| more.merge(&mut batch()).unwrap());
-    let part = parts(std::slice::from_ref(&bytes))[0];
+    let bytes = batch_bytes(append_file(1), |more| more.merge(&mut batch()).unwrap());
+    let part = append_parts(std::slice::from_ref(&bytes))[0];
     assert_eq!(Batches::new(part).unwrap().count(), 1);
     let items = Batches::new(part).unwrap().next().unwrap().unwrap();
     Tables::new().unwrap().apply_append(items).unwrap();
@@ -185,7 +187,8 @@ fn tables_and_contexts() {
     older.remove(7, true).unwrap();
     drop(older.take_cleaned_logs().unwrap());
     let mut slot = Slot::new(slot_of(7)).unwrap();
-    slot.append(7, &run(Queue::Append, 1, 1..9)).unwrap();
+    slot.append(7, &entries_in_file(Queue::Append, 1, 1..9))
+        .unwrap();
     let mut both = Context::new().unwrap();
     both.merge(Context::new().unwrap(), Queue::Rewrite).unwrap();
     both.overlay(Context::new().unwrap()).unwrap();
@@ -204,8 +207,8 @@ fn nothing_is_left_of_what_is_let_go() {
 #[test]
 fn every_request_refused_in_turn() {
     let _turn = TURN.lock();
-    let files = files();
-    let parts = parts(&files);
+    let files = demo_files();
+    let parts = append_parts(&files);
     let recovered = || recover(&parts, Queue::Append, 2);
     let whole = recovered().unwrap().to_string();
     let live = recovered().unwrap().live(Queue::Append).to_string();
@@ -233,8 +236,8 @@ fn slot_with_share() -> Result<Slot> {
     let mut slot = Slot::new(slot_of(7))?;
     slot.check_append(&batch)?;
     batch.finish()?;
-    batch.sign(file(1))?;
-    batch.written(file(1).into(), 0)?;
+    batch.sign(append_file(1))?;
+    batch.written(append_file(1).into(), 0)?;
     slot.apply_append(&batch.into_items()?)?;
     assert_eq!(slot.regions()?, [7]);
     assert_eq!(slot.pairs(7)?.len(), 1);
@@ -310,7 +313,7 @@ fn engine_run(files: &MemoryFiles, granted: i64, written: &mut u64) -> Result<bo
 #[test]
 fn a_torn_tail_that_is_found_without_memory_is_cut_where_it_begins() {
     let _turn = TURN.lock();
-    let sound = batch_bytes(file(1), |more| more.merge(&mut batch()).unwrap());
+    let sound = batch_bytes(append_file(1), |more| more.merge(&mut batch()).unwrap());
     let torn = [&sound[..], &sound[..], &sound[..20]].concat();
     for granted in 0.. {
         let files = MemoryFiles::found(vec![(1, torn.clone())], vec![(1, vec![])]);
@@ -334,7 +337,7 @@ fn a_torn_tail_that_is_found_without_memory_is_cut_where_it_begins() {
 #[test]
 fn damaged_batches_that_are_found_without_memory_are_all_named_or_nothing_is_opened() {
     let _turn = TURN.lock();
-    let mut one = batch_bytes(file(1), |more| more.merge(&mut batch()).unwrap());
+    let mut one = batch_bytes(append_file(1), |more| more.merge(&mut batch()).unwrap());
     let sound = one.clone();
     one[16] ^= 1; // the first byte of its entries
     let damaged = [one.repeat(3), sound].concat();
@@ -356,7 +359,7 @@ fn damaged_batches_that_are_found_without_memory_are_all_named_or_nothing_is_ope
 #[test]
 fn damaged_batches_at_the_end_are_cut_off_or_nothing_is_opened_where_memory_lacks() {
     let _turn = TURN.lock();
-    let mut one = batch_bytes(file(1), |more| more.merge(&mut batch()).unwrap());
+    let mut one = batch_bytes(append_file(1), |more| more.merge(&mut batch()).unwrap());
     let sound = one.clone();
     one[16] ^= 1; // the first byte of its entries
     let bytes = [sound, one.repeat(3)].concat();

@@ -1,8 +1,8 @@
 //! Tests the items of a batch that is written: how many there are, and which one an error names.
 
-use crate::common::engines::{engine, write};
+use crate::common::engines::{new_engine, write_batch};
+use crate::common::entries_in_file;
 use crate::common::model::{Change, Draw, Region};
-use crate::common::run;
 use raft_recover::{
     Error, ErrorKind, LogBatch, LogFile, Queue, Result, Stage, Tables, Version, slot_of,
 };
@@ -40,7 +40,7 @@ fn each_call_that_adds_something_adds_an_item() {
 fn a_batch_of_cleaned_regions_has_an_item_for_each() {
     let mut tables = Tables::new().unwrap();
     for region in [3, 1, 2, 1] {
-        let entries = run(Queue::Append, 1, 1..3);
+        let entries = entries_in_file(Queue::Append, 1, 1..3);
         tables.append(region, &entries).unwrap();
         tables.remove(region, true).unwrap();
     }
@@ -76,7 +76,7 @@ fn a_cleared_batch_is_open_and_has_no_items() {
 
 #[test]
 fn a_batch_has_the_room_that_is_asked_for() {
-    let engine = engine();
+    let engine = new_engine();
     for bytes in [0, 1, 4, 5 << 20] {
         let mut batch = LogBatch::with_capacity(bytes).unwrap();
         let first = engine.last_index(7).unwrap().map_or(1, |last| last + 1);
@@ -136,8 +136,8 @@ const REFUSED: [&[Add]; 9] = [
 #[test]
 fn the_item_is_named_that_is_refused() {
     for (row, adds) in REFUSED.iter().enumerate() {
-        let engine = engine();
-        write(&engine, |batch| batch.add_entries(7, 3, &["3", "4", "5"]));
+        let engine = new_engine();
+        write_batch(&engine, |batch| batch.add_entries(7, 3, &["3", "4", "5"]));
         let mut batch = LogBatch::new().unwrap();
         adds.iter().for_each(|add| add(&mut batch).unwrap());
         batch.add_entries(7, 900, &["behind another hole"]).unwrap();
@@ -164,7 +164,7 @@ fn the_item_is_named_that_is_refused() {
 
 #[test]
 fn a_written_batch_has_no_items_and_those_that_come_are_counted_anew() {
-    let engine = engine();
+    let engine = new_engine();
     let mut batch = LogBatch::new().unwrap();
     for sync in [true, false] {
         batch.put(7, b"key", b"value").unwrap();
@@ -181,16 +181,16 @@ fn a_written_batch_has_no_items_and_those_that_come_are_counted_anew() {
 
 /// Draws changes of regions, some of which don't fit.
 fn draw_changes(draw: &mut Draw) -> Vec<(u64, Change)> {
-    let count = 1 + draw.below(8);
+    let count = 1 + draw.number_below(8);
     let change = |draw: &mut Draw| {
         let mut region = Region::default();
-        if draw.once_in(2) {
-            let first = 1 + draw.below(6) as u64;
+        if draw.happens_once_in(2) {
+            let first = 1 + draw.number_below(6) as u64;
             region
                 .entries
                 .extend((first..first + 4).map(|i| (i, vec![])));
         }
-        (REGIONS[draw.below(3)], Change::draw(draw, &region))
+        (REGIONS[draw.number_below(3)], Change::draw(draw, &region))
     };
     (0..count).map(|_| change(draw)).collect()
 }
@@ -199,7 +199,7 @@ fn draw_changes(draw: &mut Draw) -> Vec<(u64, Change)> {
 fn batch_of(changes: &[(u64, Change)]) -> LogBatch {
     let mut batch = LogBatch::new().unwrap();
     for (region, change) in changes {
-        change.add(*region, &mut batch).unwrap();
+        change.add_to_batch(*region, &mut batch).unwrap();
     }
     batch
 }
@@ -211,9 +211,9 @@ fn all_items_before_the_named_one_fit_and_it_doesnt() {
     for _ in 0..3000 {
         let mut tables = Tables::new().unwrap();
         for region in REGIONS {
-            if draw.once_in(2) {
-                let first = 1 + draw.below(5) as u64;
-                let entries = run(Queue::Append, 1, first..first + 4);
+            if draw.happens_once_in(2) {
+                let first = 1 + draw.number_below(5) as u64;
+                let entries = entries_in_file(Queue::Append, 1, first..first + 4);
                 tables.append(region, &entries).unwrap();
             }
         }

@@ -1,6 +1,6 @@
 //! Tests batches that are written, read again, and applied.
 
-use crate::common::{file, run};
+use crate::common::{append_file, entries_in_file};
 use raft_recover::{
     Batches, Block, Content, Entry, ErrorKind, FileId, FilePart, Item, LogBatch, LogFile, Pair,
     Queue, Stage, Tables, batch_len, crc32,
@@ -59,7 +59,7 @@ fn items(offset: u64) -> Vec<Item> {
 /// Makes the bytes of a batch, signs them for that file, and returns them.
 fn seal(batch: &mut LogBatch) -> Vec<u8> {
     batch.finish().unwrap();
-    batch.sign(file(3)).unwrap();
+    batch.sign(append_file(3)).unwrap();
     batch.bytes().unwrap()
 }
 
@@ -68,12 +68,12 @@ fn what_is_written_is_read_again() {
     let mut batch = batch();
     assert!(batch.approximate_size() > 0);
     let len = batch.finish().unwrap();
-    batch.sign(file(3)).unwrap();
+    batch.sign(append_file(3)).unwrap();
     let bytes = batch.bytes().unwrap();
     assert_eq!((bytes.len(), batch.approximate_size()), (len, len));
     assert_eq!(batch_len(&bytes), Some(len));
     let part = FilePart {
-        file: file(3),
+        file: append_file(3),
         offset: 100,
         bytes: &bytes,
     };
@@ -111,7 +111,12 @@ fn places_are_in_the_queue_that_a_batch_is_written_to() {
     for queue in [Queue::Append, Queue::Rewrite] {
         let mut batch = batch();
         seal(&mut batch);
-        batch.sign(LogFile { queue, ..file(3) }).unwrap();
+        batch
+            .sign(LogFile {
+                queue,
+                ..append_file(3)
+            })
+            .unwrap();
         batch.written(FileId { queue, seq: 3 }, 0).unwrap();
         let items = batch.into_items().unwrap();
         let Content::Entries(entries) = items.get(0).unwrap().content else {
@@ -125,13 +130,13 @@ fn places_are_in_the_queue_that_a_batch_is_written_to() {
 fn a_batch_is_signed_for_one_file_after_another() {
     let mut batch = batch();
     let bytes = seal(&mut batch);
-    batch.sign(file(4)).unwrap();
+    batch.sign(append_file(4)).unwrap();
     let others = batch.bytes().unwrap();
     assert_eq!(bytes.len(), others.len());
     assert_ne!(bytes, others);
     let read = |seq| {
         let part = FilePart {
-            file: file(seq),
+            file: append_file(seq),
             offset: 0,
             bytes: &others,
         };
@@ -150,7 +155,7 @@ fn a_batch_is_written_to_the_file_that_it_is_signed_for() {
         let e = batch.written(other, 0).unwrap_err();
         assert_eq!(e.kind, ErrorKind::InvalidArgument, "{other}");
     }
-    batch.sign(file(4)).unwrap();
+    batch.sign(append_file(4)).unwrap();
     let e = batch.written(APPEND_3, 0).unwrap_err();
     assert_eq!(e.kind, ErrorKind::InvalidArgument);
     batch.written(append_4, 100).unwrap();
@@ -180,7 +185,7 @@ fn a_batch_without_items_has_no_bytes() {
     let mut batch = LogBatch::new().unwrap();
     batch.add_entries::<&str>(7, 10, &[]).unwrap();
     assert_eq!(batch.finish().unwrap(), 0);
-    batch.sign(file(3)).unwrap();
+    batch.sign(append_file(3)).unwrap();
     assert_eq!(batch.bytes().unwrap(), b"");
     assert!(batch.into_items().unwrap().is_empty());
 }
@@ -224,7 +229,7 @@ fn nothing_is_added_once_the_bytes_are_made() {
     for (i, refused) in refused.into_iter().enumerate() {
         assert_eq!(refused.unwrap_err().kind, ErrorKind::InvalidArgument, "{i}");
     }
-    batch.sign(file(3)).unwrap();
+    batch.sign(append_file(3)).unwrap();
     assert_eq!(batch.stage(), Stage::Signed);
     assert_eq!(batch.into_items().unwrap().len(), 6);
 }
@@ -233,11 +238,11 @@ fn nothing_is_added_once_the_bytes_are_made() {
 fn bytes_are_signed_before_they_are_written() {
     let mut batch = batch();
     let invalid = ErrorKind::InvalidArgument;
-    assert_eq!(batch.sign(file(3)).unwrap_err().kind, invalid);
+    assert_eq!(batch.sign(append_file(3)).unwrap_err().kind, invalid);
     batch.finish().unwrap();
     assert_eq!(batch.bytes().unwrap_err().kind, invalid);
     assert_eq!(batch.written(APPEND_3, 0).unwrap_err().kind, invalid);
-    batch.sign(file(3)).unwrap();
+    batch.sign(append_file(3)).unwrap();
     let last = u64::MAX - 16;
     assert_eq!(batch.written(APPEND_3, last + 1).unwrap_err().kind, invalid);
     batch.written(APPEND_3, last).unwrap();
@@ -281,7 +286,9 @@ fn written_batches_are_checked_and_applied() {
 #[test]
 fn cleaned_regions_are_handed_out_as_a_batch() {
     let mut tables = Tables::new().unwrap();
-    tables.append(5, &run(Queue::Append, 3, 1..3)).unwrap();
+    tables
+        .append(5, &entries_in_file(Queue::Append, 3, 1..3))
+        .unwrap();
     tables.remove(5, true).unwrap();
     tables.remove(4, true).unwrap();
     let logs = tables.take_cleaned_logs().unwrap();

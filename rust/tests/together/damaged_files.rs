@@ -2,8 +2,8 @@
 //! cuts off. Two losses look like what a crash leaves, and can't be told from it: a queue's last file that is gone, and damage in
 //! its last batch.
 
-use crate::common::engines::write;
-use crate::common::model::{Region, region_of};
+use crate::common::engines::write_batch;
+use crate::common::model::{Region, read_region};
 use raft_recover::{
     Engine, Error, ErrorKind, FileId, LogBatch, MemoryFiles, Options, Queue, Result,
 };
@@ -26,7 +26,7 @@ fn file_of_entries(count: u64) -> MemoryFiles {
     let files = MemoryFiles::new();
     let engine = Engine::with_files(files.clone(), Options::new()).unwrap();
     for index in 1..=count {
-        write(&engine, |batch| {
+        write_batch(&engine, |batch| {
             batch.add_entries(7, index, &[format!("entry {index}")])
         });
     }
@@ -72,7 +72,7 @@ fn seven_files() -> MemoryFiles {
     let options = Options::new().target_file_size(1);
     let engine = Engine::with_files(files.clone(), options).unwrap();
     for index in 1..=6_u64 {
-        write(&engine, |batch| {
+        write_batch(&engine, |batch| {
             batch.add_entries(7, index, &[index.to_string()])?;
             batch.put(7, b"vote", &index.to_le_bytes())
         });
@@ -117,7 +117,7 @@ fn moved_files() -> Result<MemoryFiles> {
     let files = MemoryFiles::new();
     let engine = Engine::with_files(files.clone(), Options::new())?;
     for region in [1, 2] {
-        write(&engine, |batch| {
+        write_batch(&engine, |batch| {
             batch.add_entries(region, 1, &[[region as u8; 20]; 3])?;
             batch.put(region, b"a", &[region as u8])
         });
@@ -125,14 +125,14 @@ fn moved_files() -> Result<MemoryFiles> {
     engine.rotate()?;
     engine.rewrite(1)?;
     assert_eq!(engine.purge()?.append_files, 1);
-    write(&engine, |batch| batch.add_entries(3, 1, &["an entry"]));
+    write_batch(&engine, |batch| batch.add_entries(3, 1, &["an entry"]));
     engine.sync()?;
     Ok(files)
 }
 
 /// Returns what an engine has of the regions 1 to 3.
 fn records(engine: &Engine<MemoryFiles>) -> Result<Vec<Region>> {
-    (1..=3).map(|id| region_of(engine, id)).collect()
+    (1..=3).map(|id| read_region(engine, id)).collect()
 }
 
 #[test]
@@ -190,7 +190,7 @@ fn three_hundred_restarts_with_a_write_each_grow_by_these_writes() -> Result<()>
         batch.add_entries(7, index, &[[7; 100]])?;
         engine.write(&mut batch, true)?;
         written = engine.stats().append.bytes;
-        let entries = region_of(&engine, 7)?.entries;
+        let entries = read_region(&engine, 7)?.entries;
         assert!(entries.keys().copied().eq(1..=index));
         drop(engine);
         found = with_change(&found, |_| ());

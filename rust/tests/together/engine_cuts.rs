@@ -1,7 +1,7 @@
 //! Tests what an engine says of a torn tail that its opening cut off, and where the tail is kept.
 
 use crate::common::TempFolder;
-use crate::common::engines::{engine, write};
+use crate::common::engines::{new_engine, write_batch};
 use raft_recover::{
     CutTail, Engine, ErrorKind, FileId, Files, FolderFiles, MemoryFiles, Options, Queue,
 };
@@ -13,10 +13,10 @@ const FIRST: FileId = FileId::new(Queue::Append, 1);
 
 /// Returns the bytes of an append file of two batches, and how many the first batch has.
 fn two_batches() -> (Vec<u8>, usize) {
-    let engine = engine();
-    write(&engine, |batch| batch.put(7, b"key", b"value"));
+    let engine = new_engine();
+    write_batch(&engine, |batch| batch.put(7, b"key", b"value"));
     let whole = engine.stats().append.bytes as usize;
-    write(&engine, |batch| {
+    write_batch(&engine, |batch| {
         batch.add_entries(7, 1, &["an entry", "another"])
     });
     (engine.files().files(Queue::Append).remove(0).1, whole)
@@ -98,7 +98,7 @@ fn cut_by_opening(folder: &Path, tail: &[u8]) -> Option<u64> {
 fn what_is_cut_is_kept_beside_the_file() {
     let room = TempFolder::new();
     let engine = Engine::open(room.path(), Options::new()).unwrap();
-    write(&engine, |batch| batch.put(7, b"key", b"value"));
+    write_batch(&engine, |batch| batch.put(7, b"key", b"value"));
     let whole = engine.stats().append.bytes;
     drop(engine);
     let path = room.path().join("0000000000000001.raftlog");

@@ -1,7 +1,7 @@
 //! Tests what an opening takes for a torn tail, and what for damage, which it refuses. Where a queue's last file can't be read
 //! on, what is left is cut off if it may be part of a single batch, or has nothing that can be read.
 
-use crate::common::{batch_bytes, file};
+use crate::common::{append_file, batch_bytes};
 use raft_recover::{
     Engine, Error, ErrorKind, FileId, LogFile, MemoryFiles, Options, Queue, RecoveryMode, Version,
     crc32,
@@ -75,9 +75,9 @@ fn a_changed_bit_in_front_of_a_batch_that_can_be_read_is_damage() {
 
 #[test]
 fn all_of_a_last_batch_that_cant_be_read_is_cut() {
-    let (bytes, places) = four_batches(file(1));
+    let (bytes, places) = four_batches(append_file(1));
     let last = places[3];
-    let id = FileId::from(file(1));
+    let id = FileId::from(append_file(1));
     // the first bytes of the header, of the items, and the last one of the checksum
     let items = u64::from_be_bytes(bytes[last + 8..last + 16].try_into().unwrap()) as usize;
     for i in [last, last + 7, last + 15, last + items, bytes.len() - 1] {
@@ -91,8 +91,8 @@ fn all_of_a_last_batch_that_cant_be_read_is_cut() {
 
 #[test]
 fn a_changed_checksum_of_a_last_batch_may_be_that_for_another_file() {
-    let (bytes, places) = four_batches(file(1));
-    let (id, last) = (FileId::from(file(1)), places[3]);
+    let (bytes, places) = four_batches(append_file(1));
+    let (id, last) = (FileId::from(append_file(1)), places[3]);
     for bit in 0..32 {
         let mut bytes = bytes.clone();
         let at = bytes.len() - 4 + bit / 8;
@@ -139,15 +139,15 @@ fn batches_of_version_1_say_nothing_of_their_file() {
 
 #[test]
 fn a_part_of_one_batch_is_cut_whatever_its_entries_hold() {
-    let (held, places) = four_batches(file(1));
-    let another = four_batches(file(3)).0;
+    let (held, places) = four_batches(append_file(1));
+    let another = four_batches(append_file(3)).0;
     let mut bytes = held[..places[1]].to_vec();
-    bytes.extend(batch_bytes(file(1), |batch| {
+    bytes.extend(batch_bytes(append_file(1), |batch| {
         batch.add_entries(8, 1, &[&held, &another]).unwrap();
         batch.put(8, b"key", &held).unwrap();
     }));
     let front = places[1] as u64;
-    let id = FileId::from(file(1));
+    let id = FileId::from(append_file(1));
     for len in places[1]..bytes.len() {
         let left = open_and_measure(id, &bytes[..len], &Options::new()).unwrap();
         assert_eq!(left, (front, len as u64 - front), "{len}");
@@ -248,8 +248,8 @@ fn all_from_damage_on_is_cut_in_the_mode_that_tolerates_it() {
 
 #[test]
 fn a_missing_file_and_one_of_the_other_version_are_refused_in_each_mode() {
-    let (first, _) = four_batches(file(1));
-    let (third, _) = four_batches(file(3));
+    let (first, _) = four_batches(append_file(1));
+    let (third, _) = four_batches(append_file(3));
     for mode in [
         RecoveryMode::AbsoluteConsistency,
         RecoveryMode::TolerateTornTail,
@@ -261,7 +261,7 @@ fn a_missing_file_and_one_of_the_other_version_are_refused_in_each_mode() {
         let missing = FileId::new(Queue::Append, 2);
         assert_eq!((e.kind, e.file), (ErrorKind::Corruption, Some(missing)));
         let options = options_in_mode(mode).version(Version::V1);
-        let e = open_and_measure(FileId::from(file(1)), &first, &options).unwrap_err();
+        let e = open_and_measure(FileId::from(append_file(1)), &first, &options).unwrap_err();
         let text = "Corruption: append file 1, offset 0: a batch of the other version stands there";
         assert_eq!(e.text, text);
     }

@@ -1,8 +1,8 @@
 //! Tests how an engine moves records and deletes files.
 
-use crate::common::engines::{asked_since, engine, write};
-use crate::common::model::region_of;
-use crate::common::{batch_bytes, file};
+use crate::common::engines::{asks_as_words, new_engine, write_batch};
+use crate::common::model::read_region;
+use crate::common::{append_file, batch_bytes};
 use raft_recover::{Ask, Engine, MemoryFiles, Options, Queue};
 
 #[test]
@@ -11,17 +11,17 @@ fn records_move_and_files_go() {
     let files = MemoryFiles::new();
     let engine = Engine::with_files(files.clone(), options.clone()).unwrap();
     for index in 1..=20 {
-        write(&engine, |batch| {
+        write_batch(&engine, |batch| {
             batch.add_entries(7, index, &["x".repeat(50)])?;
             batch.add_entries(8, index, &[index.to_string()])?;
             batch.put(8, b"a", &index.to_le_bytes())
         });
     }
-    write(&engine, |batch| batch.compact(7, 11));
-    let expected = [7, 8].map(|region| region_of(&engine, region).unwrap());
+    write_batch(&engine, |batch| batch.compact(7, 11));
+    let expected = [7, 8].map(|region| read_region(&engine, region).unwrap());
     let same = |engine: &Engine<MemoryFiles>| {
         assert_eq!(
-            [7, 8].map(|region| region_of(engine, region).unwrap()),
+            [7, 8].map(|region| read_region(engine, region).unwrap()),
             expected
         );
     };
@@ -56,12 +56,12 @@ fn a_large_region_moves_again_in_a_group_of_batches() {
     let engine = Engine::with_files(files.clone(), Options::new()).unwrap();
     for index in 1..=5 {
         let entry = vec![index as u8; 60 << 10];
-        write(&engine, |batch| batch.add_entries(7, index, &[entry]));
+        write_batch(&engine, |batch| batch.add_entries(7, index, &[entry]));
     }
-    write(&engine, |batch| batch.put(7, b"a", b"value"));
-    let expected = region_of(&engine, 7).unwrap();
+    write_batch(&engine, |batch| batch.put(7, b"a", b"value"));
+    let expected = read_region(&engine, 7).unwrap();
     let same = |engine: &Engine<MemoryFiles>| {
-        assert_eq!(region_of(engine, 7).unwrap(), expected);
+        assert_eq!(read_region(engine, 7).unwrap(), expected);
         assert_eq!(engine.stats().rewrite.records, 6);
     };
     engine.rotate().unwrap();
@@ -80,10 +80,10 @@ fn a_large_region_moves_again_in_a_group_of_batches() {
 #[test]
 fn a_rewriting_of_more_than_is_read_at_once_moves_all() {
     // 30 MiB, where 1 MiB or a region is read at once: so the blocks are listed many times
-    let engine = engine();
+    let engine = new_engine();
     let entry = |region: u64| vec![region as u8; 3 << 20];
     for region in 1..=10 {
-        write(&engine, |batch| {
+        write_batch(&engine, |batch| {
             batch.add_entries(region, 1, &[entry(region)])
         });
     }
@@ -101,7 +101,7 @@ fn a_rewriting_of_more_than_is_read_at_once_moves_all() {
 
 #[test]
 fn records_move_out_of_a_file_of_number_0() {
-    let bytes = batch_bytes(file(0), |batch| {
+    let bytes = batch_bytes(append_file(0), |batch| {
         batch.add_entries(7, 1, &["an entry"]).unwrap();
     });
     let found = MemoryFiles::found(vec![(0, bytes), (1, vec![])], vec![]);
@@ -117,7 +117,7 @@ fn a_gate_behind_the_last_file_is_that_file() {
     let files = MemoryFiles::new();
     let engine = Engine::with_files(files.clone(), Options::new()).unwrap();
     for index in 1..=3 {
-        write(&engine, |batch| {
+        write_batch(&engine, |batch| {
             batch.add_entries(7, index, &[index.to_string()])?;
             batch.put(7, b"a", &index.to_le_bytes())
         });
@@ -128,22 +128,22 @@ fn a_gate_behind_the_last_file_is_that_file() {
         engine.rotate().unwrap();
         assert_eq!(engine.purge().unwrap().append_files, 1);
     }
-    let expected = region_of(&engine, 7).unwrap();
+    let expected = read_region(&engine, 7).unwrap();
     let left = files.left(files.asked(), Default::default(), Default::default());
     let opened = Engine::with_files(left, Options::new()).unwrap();
-    assert_eq!(region_of(&opened, 7).unwrap(), expected);
+    assert_eq!(read_region(&opened, 7).unwrap(), expected);
 }
 
 #[test]
 fn small_regions_move_all_at_once() {
-    let engine = engine();
+    let engine = new_engine();
     for region in 1..=100 {
-        write(&engine, |batch| batch.add_entries(region, 1, &["x"]));
+        write_batch(&engine, |batch| batch.add_entries(region, 1, &["x"]));
     }
     engine.rotate().unwrap();
     let before = engine.files().asked();
     engine.rewrite(1).unwrap();
-    let asked = asked_since(engine.files(), before);
+    let asked = asks_as_words(engine.files(), before);
     assert_eq!(asked, ["sync append", "write rewrite file 1"]);
 }
 
@@ -152,7 +152,7 @@ fn a_purge_moves_records_where_there_are_too_many_bytes() {
     let options = Options::new().target_file_size(500).purge_above(4000);
     let engine = Engine::with_files(MemoryFiles::new(), options).unwrap();
     for index in 1..=400 {
-        write(&engine, |batch| {
+        write_batch(&engine, |batch| {
             batch.add_entries(index % 10, index / 10 + 1, &["x".repeat(20)])?;
             if index > 100 {
                 batch.compact(index % 10, index / 10 - 8)?;
@@ -182,7 +182,7 @@ fn ten_files(options: &Options) -> Engine<MemoryFiles> {
     let options = options.clone().target_file_size(100);
     let engine = Engine::with_files(MemoryFiles::new(), options).unwrap();
     for index in 1..=10 {
-        write(&engine, |batch| batch.add_entries(7, index, &[[7; 100]]));
+        write_batch(&engine, |batch| batch.add_entries(7, index, &[[7; 100]]));
     }
     assert_eq!(engine.stats().append.files, 11);
     engine
@@ -205,17 +205,17 @@ fn a_purge_leaves_half_of_the_bytes_that_may_stay() {
 fn a_purge_counts_the_files_that_each_of_its_steps_deletes() {
     let options = Options::new().target_file_size(100).purge_above(500);
     let engine = Engine::with_files(MemoryFiles::new(), options).unwrap();
-    write(&engine, |batch| batch.add_entries(9, 1, &[[9; 2000]]));
+    write_batch(&engine, |batch| batch.add_entries(9, 1, &[[9; 2000]]));
     engine.rewrite(u64::MAX).unwrap();
-    write(&engine, |batch| batch.clean(9)); // most of the rewrite queue isn't needed
+    write_batch(&engine, |batch| batch.clean(9)); // most of the rewrite queue isn't needed
     for region in [8, 7] {
         for index in 1..=8 {
-            write(&engine, |batch| {
+            write_batch(&engine, |batch| {
                 batch.add_entries(region, index, &[[7; 100]])
             });
         }
     }
-    write(&engine, |batch| batch.clean(8)); // no record has to move out of the first eight files
+    write_batch(&engine, |batch| batch.clean(8)); // no record has to move out of the first eight files
     let before = engine.stats();
     let purged = engine.purge().unwrap();
     let after = engine.stats();
@@ -230,7 +230,7 @@ fn a_purge_counts_the_files_that_each_of_its_steps_deletes() {
 fn a_purge_moves_nothing_out_of_the_file_that_is_written_to() {
     let options = Options::new().purge_above(100);
     let engine = Engine::with_files(MemoryFiles::new(), options).unwrap();
-    write(&engine, |batch| batch.add_entries(7, 1, &[[7; 1000]]));
+    write_batch(&engine, |batch| batch.add_entries(7, 1, &[[7; 1000]]));
     assert_eq!(engine.purge().unwrap(), Default::default());
     let stats = engine.stats();
     assert_eq!((stats.append.records, stats.rewrite.bytes), (1, 0));
@@ -243,7 +243,7 @@ fn records_move_again_once_there_are_twice_as_many_bytes() {
         engine.purge().unwrap();
         let before = engine.stats().rewrite.bytes;
         for index in 11..=10 + more {
-            write(&engine, |batch| batch.add_entries(7, index, &[[7; 100]]));
+            write_batch(&engine, |batch| batch.add_entries(7, index, &[[7; 100]]));
         }
         engine.rewrite(u64::MAX).unwrap();
         assert_eq!(engine.stats().rewrite.bytes / before, 1 + purged);

@@ -3,7 +3,7 @@
 //! entry was moving at the crash.
 
 use crate::common::TempFolder;
-use crate::common::engines::{engine, write};
+use crate::common::engines::{new_engine, write_batch};
 use raft_recover::{Ask, Engine, ErrorKind, FileId, MemoryFiles, Options, Queue, Unsynced};
 use std::fs;
 
@@ -18,7 +18,7 @@ fn moved_engine(regions: u64, entries: usize, len: usize) -> Engine<MemoryFiles>
     let options = Options::new().purge_above(1).purge_garbage(0);
     let engine = Engine::with_files(MemoryFiles::new(), options).unwrap();
     for region in 1..=regions {
-        write(&engine, |batch| {
+        write_batch(&engine, |batch| {
             batch.add_entries(region, 1, &vec![entry(region, len); entries])
         });
     }
@@ -120,8 +120,8 @@ fn so_it_does_where_a_region_moved_in_a_group() {
 
 #[test]
 fn an_entry_of_the_append_queue_stays_where_its_moved_copy_is_lost() {
-    let engine = engine();
-    write(&engine, |batch| batch.add_entries(1, 1, &[entry(1, 100)]));
+    let engine = new_engine();
+    write_batch(&engine, |batch| batch.add_entries(1, 1, &[entry(1, 100)]));
     engine.rotate().unwrap();
     engine.rewrite(1).unwrap();
     let files = engine.files();
@@ -139,7 +139,7 @@ fn a_page_of_zeros_among_the_entries_of_the_last_append_file_is_named_by_its_bat
     let path = room.path().join("logs");
     let engine = Engine::open(&path, Options::new()).unwrap();
     for index in 1..=5 {
-        write(&engine, |batch| {
+        write_batch(&engine, |batch| {
             batch.add_entries(7, index, &[entry(7, 3 * PAGE)])?;
             batch.put(7, b"key", &[index as u8])
         });
@@ -193,7 +193,7 @@ fn a_page_of_zeros_among_the_entries_of_the_last_batches_is_cut_off_and_kept_bes
     let path = room.path().join("logs");
     let engine = Engine::open(&path, Options::new()).unwrap();
     for index in 1..=5 {
-        write(&engine, |batch| {
+        write_batch(&engine, |batch| {
             batch.add_entries(7, index, &[entry(7, 3 * PAGE)])?;
             batch.put(7, b"key", &[index as u8])
         });
@@ -235,7 +235,7 @@ fn a_page_of_zeros_among_the_entries_of_the_last_batches_is_cut_off_and_kept_bes
         )
     };
     assert_eq!(ends(&engine), (Some(3), Some(vec![3])));
-    write(&engine, |batch| batch.add_entries(7, 4, &[b"another"]));
+    write_batch(&engine, |batch| batch.add_entries(7, 4, &[b"another"]));
     engine.sync().unwrap();
     drop(engine);
     let engine = Engine::open(&path, Options::new()).unwrap();
@@ -246,9 +246,9 @@ fn a_page_of_zeros_among_the_entries_of_the_last_batches_is_cut_off_and_kept_bes
 
 #[test]
 fn no_crash_brings_batches_back_that_were_cut_off_for_their_entries() {
-    let engine = engine();
+    let engine = new_engine();
     for index in 1..=4 {
-        write(&engine, |batch| {
+        write_batch(&engine, |batch| {
             batch.add_entries(7, index, &[entry(7, 100)])
         });
     }
@@ -260,7 +260,7 @@ fn no_crash_brings_batches_back_that_were_cut_off_for_their_entries() {
     let engine = Engine::with_files(files.clone(), Options::new()).unwrap();
     assert_eq!(engine.last_index(7).unwrap(), Some(2));
     let another = entry(8, 300); // longer than what was cut off
-    write(&engine, |batch| {
+    write_batch(&engine, |batch| {
         batch.add_entries(7, 3, std::slice::from_ref(&another))
     });
     engine.sync().unwrap();

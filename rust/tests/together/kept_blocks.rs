@@ -1,6 +1,6 @@
 //! Tests that the block which was read last is kept, so that its other entries cost no read.
 
-use crate::common::engines::{engine, write};
+use crate::common::engines::{new_engine, write_batch};
 use crate::common::hooked::{Call, Hooked};
 use raft_recover::{Engine, ErrorKind, Files, MemoryFiles, Options, Queue};
 use std::sync::Arc;
@@ -30,7 +30,7 @@ fn texts(first: u64) -> Vec<String> {
 fn the_entries_of_a_block_cost_one_read() {
     run_counting(|engine, reads| {
         for first in [1, 101, 201] {
-            write(engine, |batch| batch.add_entries(7, first, &texts(first)));
+            write_batch(engine, |batch| batch.add_entries(7, first, &texts(first)));
         }
         for index in 1..=300 {
             let text = index.to_string().into_bytes();
@@ -49,7 +49,7 @@ fn the_entries_of_a_block_cost_one_read() {
 fn ranges_that_follow_one_another_read_each_block_once() {
     run_counting(|engine, reads| {
         for first in (1..=2901).step_by(100) {
-            write(engine, |batch| batch.add_entries(7, first, &texts(first)));
+            write_batch(engine, |batch| batch.add_entries(7, first, &texts(first)));
         }
         let mut read = Vec::new();
         for first in (1..=2990).step_by(30) {
@@ -69,7 +69,7 @@ fn ranges_that_follow_one_another_read_each_block_once() {
 fn so_many_blocks_and_bytes_are_kept_and_no_more() {
     run_counting(|engine, reads| {
         for region in 0..20 {
-            write(engine, |batch| batch.add_entries(region, 1, &texts(1)));
+            write_batch(engine, |batch| batch.add_entries(region, 1, &texts(1)));
         }
         let read_all = |regions: std::ops::Range<u64>| {
             regions.for_each(|region| drop(engine.entry(region, 1).unwrap().unwrap()));
@@ -91,7 +91,7 @@ fn so_many_blocks_and_bytes_are_kept_and_no_more() {
         assert_eq!(reads(), 1);
 
         for region in 30..35 {
-            write(engine, |batch| {
+            write_batch(engine, |batch| {
                 batch.add_entries(region, 1, &[vec![7; 3 << 20]])
             });
         }
@@ -104,7 +104,7 @@ fn so_many_blocks_and_bytes_are_kept_and_no_more() {
         read_all(30..31);
         assert_eq!(reads(), 1);
 
-        write(engine, |batch| {
+        write_batch(engine, |batch| {
             batch.add_entries(40, 1, &[vec![7; 9 << 20]])
         });
         read_all(30..31);
@@ -120,7 +120,7 @@ fn so_many_blocks_and_bytes_are_kept_and_no_more() {
 #[test]
 fn an_entry_that_moved_is_read_at_its_place() {
     run_counting(|engine, reads| {
-        write(engine, |batch| batch.add_entries(7, 1, &texts(1)));
+        write_batch(engine, |batch| batch.add_entries(7, 1, &texts(1)));
         assert_eq!(engine.entry(7, 1).unwrap().unwrap(), b"1");
         engine.rotate().unwrap();
         engine.rewrite(1).unwrap();
@@ -128,7 +128,7 @@ fn an_entry_that_moved_is_read_at_its_place() {
         reads();
         assert_eq!(engine.entry(7, 2).unwrap().unwrap(), b"2");
         assert_eq!(reads(), 1);
-        write(engine, |batch| batch.add_entries(7, 2, &["another 2"]));
+        write_batch(engine, |batch| batch.add_entries(7, 2, &["another 2"]));
         assert_eq!(engine.entry(7, 2).unwrap().unwrap(), b"another 2");
         assert_eq!(engine.entry(7, 1).unwrap().unwrap(), b"1");
         assert_eq!(reads(), 1);
@@ -137,8 +137,8 @@ fn an_entry_that_moved_is_read_at_its_place() {
 
 #[test]
 fn a_damaged_block_isnt_kept() {
-    let engine = engine();
-    write(&engine, |batch| {
+    let engine = new_engine();
+    write_batch(&engine, |batch| {
         batch.add_entries(7, 1, &["damaged", "too"])
     });
     let mut files = engine.files().files(Queue::Append);

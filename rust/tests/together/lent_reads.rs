@@ -1,21 +1,21 @@
 //! Tests that entries and pairs are lent, not copied.
 
-use crate::common::engines::{engine, write};
+use crate::common::engines::{new_engine, write_batch};
 use raft_recover::{Engine, ErrorKind, MemoryFiles};
 
 /// Opens an engine whose region 7 has the entries 2 to 7: in two blocks of the rewrite queue, and in two of the append queue, the
 /// last of which has no bytes.
 fn engine_of_four_blocks() -> Engine<MemoryFiles> {
-    let engine = engine();
-    write(&engine, |batch| batch.add_entries(7, 1, &["1", "22"]));
-    write(&engine, |batch| batch.add_entries(7, 3, &["333"]));
+    let engine = new_engine();
+    write_batch(&engine, |batch| batch.add_entries(7, 1, &["1", "22"]));
+    write_batch(&engine, |batch| batch.add_entries(7, 3, &["333"]));
     engine.rotate().unwrap();
     engine.rewrite(1).unwrap();
-    write(&engine, |batch| {
+    write_batch(&engine, |batch| {
         batch.add_entries(7, 4, &["4444", "5", "66"])
     });
-    write(&engine, |batch| batch.add_entries(7, 7, &[""]));
-    write(&engine, |batch| batch.compact(7, 2));
+    write_batch(&engine, |batch| batch.add_entries(7, 7, &[""]));
+    write_batch(&engine, |batch| batch.compact(7, 2));
     engine
 }
 
@@ -99,8 +99,8 @@ fn read_entries_are_lent_from_both_ends() {
 
 #[test]
 fn scanned_pairs_are_lent_from_both_ends() {
-    let engine = engine();
-    write(&engine, |batch| {
+    let engine = new_engine();
+    write_batch(&engine, |batch| {
         for key in ["a", "bb", "c", "d"] {
             batch.put(7, key.as_bytes(), key.to_uppercase().as_bytes())?;
         }

@@ -1,6 +1,6 @@
 //! Tests the files of an engine in memory, and what a crash of the machine leaves of them.
 
-use crate::common::model::{Region, region_of};
+use crate::common::model::{Region, read_region};
 use raft_recover::{Ask, Engine, FileId, Files, LogBatch, MemoryFiles, Options, Queue, Unsynced};
 use std::io;
 use std::sync::Arc;
@@ -229,7 +229,7 @@ fn history<F: Files>(files: F) -> Region {
     }
     engine.purge().unwrap();
     engine.sync().unwrap();
-    region_of(&engine, 7).unwrap()
+    read_region(&engine, 7).unwrap()
 }
 
 #[test]
@@ -253,7 +253,7 @@ fn files_behind_an_arc_are_asked_the_same() {
     // all of it is synced, so that whatever stops the machine leaves it
     let left = shared.left(asks.len(), NONE, NONE);
     let opened = Engine::with_files(left, Options::new()).unwrap();
-    assert_eq!(region_of(&opened, 7).unwrap(), expected);
+    assert_eq!(read_region(&opened, 7).unwrap(), expected);
 }
 
 #[test]

@@ -1,6 +1,6 @@
 //! Tests messages of a program's own, which are written and read again.
 
-use crate::common::engines::engine;
+use crate::common::engines::new_engine;
 use raft_recover::{ErrorKind, LogBatch, Message};
 use std::error::Error as _;
 use std::num::ParseIntError;
@@ -46,7 +46,7 @@ impl Message for Greedy {
 
 #[test]
 fn messages_are_entries_and_values() {
-    let engine = engine();
+    let engine = new_engine();
     let mut batch = LogBatch::new().unwrap();
     let numbers = [1, 22, 333].map(Number);
     batch.add_messages(7, 10, &numbers).unwrap();
@@ -91,7 +91,7 @@ fn messages_are_entries_and_values() {
 
 #[test]
 fn bytes_and_words_are_messages() {
-    let engine = engine();
+    let engine = new_engine();
     let mut batch = LogBatch::new().unwrap();
     let words = ["one", "", "zwölf"].map(str::to_owned);
     batch.add_messages(7, 1, &words).unwrap();
@@ -104,7 +104,7 @@ fn bytes_and_words_are_messages() {
 
 #[test]
 fn a_message_that_cant_be_encoded_is_named_and_adds_nothing() {
-    let engine = engine();
+    let engine = new_engine();
     let mut batch = LogBatch::new().unwrap();
     batch.add_messages(7, 1, &[Number(1)]).unwrap();
     let before = (batch.len(), batch.approximate_size());
@@ -182,7 +182,7 @@ fn a_message_that_takes_away_what_stands_before_it_is_refused() {
 
 #[test]
 fn bytes_that_are_no_message_are_named() {
-    let engine = engine();
+    let engine = new_engine();
     let mut batch = LogBatch::new().unwrap();
     batch.add_entries(7, 1, &["1", "two"]).unwrap();
     batch.put(7, b"key", b"three").unwrap();

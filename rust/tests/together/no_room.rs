@@ -1,7 +1,7 @@
 //! Tests changes that find no room and leave the files as they were: what was left undone is done before the next change, and
 //! meanwhile all can be read.
 
-use crate::common::model::{Change, Draw, Region, region_of};
+use crate::common::model::{Change, Draw, Region, read_region};
 use raft_recover::{
     Engine, Error, ErrorKind, FileId, Files, LogBatch, MemoryFiles, Options, Queue, Result,
     Unsynced,
@@ -108,38 +108,38 @@ impl History {
 
     /// Writes a random change of a random region, again and again until there is room for it.
     fn write(&mut self, sync: bool) {
-        let id = self.draw.below(4) as u64;
+        let id = self.draw.number_below(4) as u64;
         let region = self.model.entry(id).or_default();
         let before = region.clone();
         let change = Change::draw(&mut self.draw, region);
         change.apply(region);
         let mut batch = LogBatch::new().unwrap();
-        change.add(id, &mut batch).unwrap();
+        change.add_to_batch(id, &mut batch).unwrap();
         while let Err(e) = self.engine.write(&mut batch, sync) {
             assert_full(&e);
             self.refused += 1;
             // it is kept, and read already, or as it was
             let expected = if batch.is_empty() { &*region } else { &before };
-            assert_eq!(&region_of(&self.engine, id).unwrap(), expected);
+            assert_eq!(&read_region(&self.engine, id).unwrap(), expected);
         }
         assert!(batch.is_empty());
     }
 
     /// Takes a random step, again and again until there is room for it.
     fn step(&mut self) {
-        if self.draw.once_in(4) {
-            let refused = 1 + self.draw.below(3);
+        if self.draw.happens_once_in(4) {
+            let refused = 1 + self.draw.number_below(3);
             self.engine.files().refused.store(refused, SeqCst);
         }
         let engine = &self.engine;
-        self.refused += match self.draw.below(12) {
+        self.refused += match self.draw.number_below(12) {
             0 => until_there_is_room(|| engine.purge().map(drop)),
             1 => until_there_is_room(|| engine.rotate()),
             2 => until_there_is_room(|| engine.rewrite(engine.stats().append.first_file)),
             3 => until_there_is_room(|| engine.rewrite_again()),
             4 => until_there_is_room(|| engine.sync()),
             _ => {
-                let sync = self.draw.once_in(3);
+                let sync = self.draw.happens_once_in(3);
                 self.write(sync);
                 if sync {
                     self.assert_synced();
@@ -160,8 +160,8 @@ impl History {
     fn assert_has(&self, files: MemoryFiles) {
         let engine = Engine::with_files(files, options()).unwrap();
         for (id, region) in &self.model {
-            assert_eq!(&region_of(&engine, *id).unwrap(), region);
-            assert_eq!(&region_of(&self.engine, *id).unwrap(), region);
+            assert_eq!(&read_region(&engine, *id).unwrap(), region);
+            assert_eq!(&read_region(&self.engine, *id).unwrap(), region);
         }
     }
 }

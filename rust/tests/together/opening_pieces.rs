@@ -2,7 +2,7 @@
 //! of threads find the same. What they have to find follows from the batches of which the files are made.
 
 use crate::common::hooked::{Call, Hooked};
-use crate::common::model::{Region, region_of};
+use crate::common::model::{Region, read_region};
 use crate::common::{batch_bytes, with_group_marker};
 use raft_recover::{
     Ask, Engine, Error, ErrorKind, FileId, Files, LogFile, MemoryFiles, Options, Queue,
@@ -88,7 +88,8 @@ fn found_files(files: &[&File]) -> MemoryFiles {
 /// Returns all that an engine has.
 fn regions_of<F: Files>(engine: &Engine<F>) -> Regions {
     let ids = engine.regions().unwrap().into_iter();
-    ids.map(|id| (id, region_of(engine, id).unwrap())).collect()
+    ids.map(|id| (id, read_region(engine, id).unwrap()))
+        .collect()
 }
 
 /// The reads of each file: the offset of each, and how many bytes it has.

@@ -1,6 +1,6 @@
 //! Tests parts of files: their batches one by one, and where one can't be read.
 
-use crate::common::{batch_bytes, file, files, parts};
+use crate::common::{append_file, append_parts, batch_bytes, demo_files};
 use raft_recover::{
     Batches, Content, Context, ErrorKind, FileId, FilePart, LogFile, Queue, Version,
     readable_front, recover,
@@ -8,9 +8,9 @@ use raft_recover::{
 
 #[test]
 fn batches_are_walked_item_by_item() {
-    let files = files();
+    let files = demo_files();
     let (mut batches, mut items, mut entries) = (0, 0, 0);
-    for part in &parts(&files)[..3] {
+    for part in &append_parts(&files)[..3] {
         for batch in Batches::new(*part).unwrap() {
             let batch = batch.unwrap();
             batches += 1;
@@ -34,8 +34,8 @@ fn batches_are_walked_item_by_item() {
 
 #[test]
 fn a_torn_tail_is_found() {
-    let files = files();
-    let whole = parts(&files)[0];
+    let files = demo_files();
+    let whole = append_parts(&files)[0];
     assert_eq!(readable_front(whole).unwrap(), (whole.bytes.len(), None));
     let cut = FilePart {
         bytes: &whole.bytes[..whole.bytes.len() - 1],
@@ -73,9 +73,9 @@ fn a_torn_tail_is_found() {
 
 #[test]
 fn batches_end_behind_a_refusal() {
-    let sound = batch_bytes(file(1), |batch| batch.clean(7).unwrap());
+    let sound = batch_bytes(append_file(1), |batch| batch.clean(7).unwrap());
     let torn = [&sound[..], &sound[..20], &sound[..]].concat();
-    let mut batches = Batches::new(FilePart::new(file(1), &torn)).unwrap();
+    let mut batches = Batches::new(FilePart::new(append_file(1), &torn)).unwrap();
     assert!(batches.next().unwrap().is_ok());
     assert_eq!(batches.next_at(), Some(sound.len()));
     assert!(batches.next().unwrap().is_err());
@@ -102,10 +102,10 @@ fn a_refusal_names_the_file_of_either_queue() {
 
 #[test]
 fn a_tail_of_any_length_is_told() {
-    let sound = batch_bytes(file(1), |batch| batch.clean(7).unwrap());
+    let sound = batch_bytes(append_file(1), |batch| batch.clean(7).unwrap());
     for len in 1..sound.len() {
         let torn = [&sound[..], &sound[..len]].concat();
-        let part = FilePart::new(file(1), &torn);
+        let part = FilePart::new(append_file(1), &torn);
         let (front, refused) = readable_front(part).unwrap();
         assert_eq!((front, refused.is_some()), (sound.len(), true), "{len}");
         let batches = Batches::new(part).unwrap();
@@ -115,11 +115,11 @@ fn a_tail_of_any_length_is_told() {
 
 #[test]
 fn a_part_may_begin_anywhere_and_end_at_the_last_offset() {
-    let sound = batch_bytes(file(3), |batch| batch.clean(7).unwrap());
+    let sound = batch_bytes(append_file(3), |batch| batch.clean(7).unwrap());
     let torn = [&sound[..], &sound[..20]].concat();
     let part = |offset| FilePart {
         offset,
-        ..FilePart::new(file(3), &torn)
+        ..FilePart::new(append_file(3), &torn)
     };
     let last = u64::MAX - torn.len() as u64;
     for offset in [0, 1, 1 << 40, last] {
@@ -144,14 +144,14 @@ fn a_part_may_begin_anywhere_and_end_at_the_last_offset() {
 
 #[test]
 fn entries_stand_where_the_part_and_the_batch_before_them_say() {
-    let bytes = batch_bytes(file(3), |batch| {
+    let bytes = batch_bytes(append_file(3), |batch| {
         batch.add_entries(7, 1, &["an entry"]).unwrap();
     });
     let twice = bytes.repeat(2);
     for offset in [0, 1, 1 << 40] {
         let part = FilePart {
             offset,
-            ..FilePart::new(file(3), &twice)
+            ..FilePart::new(append_file(3), &twice)
         };
         let expected = [0, bytes.len()].map(|at| offset + at as u64 + 16);
         let blocks = Batches::new(part).unwrap().map(|batch| {

@@ -1,6 +1,6 @@
 //! Tests that each public call is made by a test that runs with either heap.
 
-use crate::common::top;
+use crate::common::repository_folder;
 use std::collections::BTreeSet;
 use std::fs;
 use std::path::Path;
@@ -73,7 +73,7 @@ fn calls(text: &str, calls: &mut BTreeSet<(String, String)>) {
 
 #[test]
 fn each_public_call_is_made_by_a_test() {
-    let rust = top().join("rust");
+    let rust = repository_folder().join("rust");
     let mut public = BTreeSet::new();
     for text in sources(&rust.join("src"), "sys") {
         if !text.starts_with("//! What crosses to the library") {

@@ -1,7 +1,7 @@
 //! Tests what a purge says: which files it deleted, which regions need the oldest one, and whether there is something to do.
 
-use crate::common::engines::{engine, write};
-use crate::common::model::{Change, Draw, Region, region_of};
+use crate::common::engines::{new_engine, write_batch};
+use crate::common::model::{Change, Draw, Region, read_region};
 use raft_recover::{
     Engine, ErrorKind, FileId, Files, Holder, LogBatch, MemoryFiles, Options, Queue, QueueUsage,
 };
@@ -25,14 +25,14 @@ fn holder_numbers(holder: &Holder) -> (u64, u64, Option<u64>, u64) {
 
 #[test]
 fn the_files_are_named_that_went() {
-    let engine = engine();
+    let engine = new_engine();
     for index in 1..=4 {
-        write(&engine, |batch| batch.add_entries(7, index, &["an entry"]));
+        write_batch(&engine, |batch| batch.add_entries(7, index, &["an entry"]));
         engine.rotate().unwrap();
     }
     let purged = engine.purge().unwrap();
     assert_eq!((purged.files, purged.append_files), (vec![], 0));
-    write(&engine, |batch| batch.compact(7, 4));
+    write_batch(&engine, |batch| batch.compact(7, 4));
     let purged = engine.purge().unwrap();
     assert_eq!(purged.files, [1, 2, 3].map(append));
     assert_eq!((purged.append_files, purged.rewrite_files), (3, 0));
@@ -45,8 +45,8 @@ fn the_files_are_named_that_went() {
 
 #[test]
 fn a_needless_file_of_either_queue_is_something_to_do() {
-    let engine = engine();
-    write(&engine, |batch| batch.add_entries(7, 1, &["an entry"]));
+    let engine = new_engine();
+    write_batch(&engine, |batch| batch.add_entries(7, 1, &["an entry"]));
     engine.rotate().unwrap();
     assert!(!engine.needs_purge().unwrap());
     engine.rewrite(1).unwrap();
@@ -62,8 +62,8 @@ fn a_needless_file_of_either_queue_is_something_to_do() {
 
 #[test]
 fn the_holders_of_the_oldest_file_are_named_with_what_they_have_there() {
-    let engine = engine();
-    write(&engine, |batch| {
+    let engine = new_engine();
+    write_batch(&engine, |batch| {
         batch.add_entries(7, 10, &["10", "11", "12"])?; // three of them in the first file
         batch.add_entries(8, 1, &["1", "2"])?; // one stays there, the other one is replaced
         batch.put(9, b"key", b"value")?; // a key alone
@@ -73,7 +73,7 @@ fn the_holders_of_the_oldest_file_are_named_with_what_they_have_there() {
         batch.put(12, b"key", b"value") // it is put again
     });
     engine.rotate().unwrap();
-    write(&engine, |batch| {
+    write_batch(&engine, |batch| {
         batch.add_entries(7, 13, &["13"])?;
         batch.add_entries(8, 2, &["another 2", "3"])?;
         batch.compact(10, 6)?;
@@ -89,7 +89,7 @@ fn the_holders_of_the_oldest_file_are_named_with_what_they_have_there() {
     ];
     assert_eq!(holders.iter().map(holder_numbers).collect::<Vec<_>>(), rows);
 
-    write(&engine, |batch| {
+    write_batch(&engine, |batch| {
         batch.compact(7, 13)?;
         batch.compact(8, 2)?;
         batch.put(9, b"key", b"value")?;
@@ -100,19 +100,19 @@ fn the_holders_of_the_oldest_file_are_named_with_what_they_have_there() {
         holders.iter().map(holder_numbers).collect::<Vec<_>>(),
         [(11, 1, None, 0)]
     );
-    write(&engine, |batch| batch.delete(11, b"key"));
+    write_batch(&engine, |batch| batch.delete(11, b"key"));
     let purged = engine.purge().unwrap();
     assert_eq!((purged.files, purged.holders), (vec![append(1)], vec![]));
 }
 
 #[test]
 fn what_moved_is_held_by_nobody() {
-    let engine = engine();
-    write(&engine, |batch| batch.add_entries(7, 1, &["1", "2"]));
+    let engine = new_engine();
+    write_batch(&engine, |batch| batch.add_entries(7, 1, &["1", "2"]));
     engine.rotate().unwrap();
-    write(&engine, |batch| batch.add_entries(7, 3, &["3", "4", "5"]));
+    write_batch(&engine, |batch| batch.add_entries(7, 3, &["3", "4", "5"]));
     engine.rotate().unwrap();
-    write(&engine, |batch| batch.add_entries(7, 6, &["6"]));
+    write_batch(&engine, |batch| batch.add_entries(7, 6, &["6"]));
     engine.rewrite(1).unwrap();
     let purged = engine.purge().unwrap();
     assert_eq!(purged.files, [append(1)]);
@@ -132,9 +132,9 @@ fn what_moved_is_held_by_nobody() {
 /// Draws options with small files, some of which are deleted at once, and some only when their records have moved.
 fn draw_options(draw: &mut Draw) -> Options {
     Options::new()
-        .target_file_size(200 + draw.below(400) as u64)
-        .purge_above(800 + draw.below(3000) as u64)
-        .purge_garbage(20 + draw.below(70) as u8)
+        .target_file_size(200 + draw.number_below(400) as u64)
+        .purge_above(800 + draw.number_below(3000) as u64)
+        .purge_garbage(20 + draw.number_below(70) as u8)
 }
 
 /// Makes a random change of a random region, in the engine and in the model.
@@ -143,11 +143,11 @@ fn make_random_change(
     model: &mut BTreeMap<u64, Region>,
     draw: &mut Draw,
 ) {
-    let id = draw.below(4) as u64;
+    let id = draw.number_below(4) as u64;
     let region = model.entry(id).or_default();
     let change = Change::draw(draw, region);
     change.apply(region);
-    write(engine, |batch| change.add(id, batch));
+    write_batch(engine, |batch| change.add_to_batch(id, batch));
 }
 
 #[test]
@@ -160,7 +160,7 @@ fn a_purge_asks_something_of_the_files_where_one_is_needed_and_else_nothing() {
         let mut model = BTreeMap::new();
         for step in 0..300 {
             make_random_change(&engine, &mut model, &mut draw);
-            if draw.once_in(6) {
+            if draw.happens_once_in(6) {
                 let (is_needed, before) = (engine.needs_purge().unwrap(), engine.files().asked());
                 engine.purge().unwrap();
                 let is_asked = engine.files().asked() > before;
@@ -173,7 +173,7 @@ fn a_purge_asks_something_of_the_files_where_one_is_needed_and_else_nothing() {
             }
         }
         for (id, region) in model {
-            assert_eq!(region_of(&engine, id).unwrap(), region, "seed {seed}");
+            assert_eq!(read_region(&engine, id).unwrap(), region, "seed {seed}");
         }
     }
     assert!(needed > 100 && needless > 100, "{needed} {needless}");
@@ -187,7 +187,7 @@ fn drawn_holders(seed: u64) -> (Engine<MemoryFiles>, Vec<Holder>) {
     let mut model = BTreeMap::new();
     for _ in 0..60 {
         make_random_change(&engine, &mut model, &mut draw);
-        if draw.once_in(20) {
+        if draw.happens_once_in(20) {
             let first = engine.stats().append.first_file;
             engine.rewrite(first).unwrap();
         }
@@ -246,13 +246,13 @@ fn once_its_holders_let_go_the_oldest_file_goes_and_nothing_moves() {
 /// bytes there, or some more, aren't needed.
 fn rewritten_with_garbage(options: Options, garbage: u8) -> Engine<MemoryFiles> {
     let engine = Engine::with_files(MemoryFiles::new(), options).unwrap();
-    write(&engine, |batch| {
+    write_batch(&engine, |batch| {
         batch.add_entries(7, 1, &vec!["x".repeat(90); 100])
     });
     engine.rotate().unwrap();
     engine.rewrite(1).unwrap();
     engine.purge().unwrap();
-    write(&engine, |batch| batch.compact(7, 1 + u64::from(garbage)));
+    write_batch(&engine, |batch| batch.compact(7, 1 + u64::from(garbage)));
     engine
 }
 
@@ -282,9 +282,9 @@ fn records_move_again_where_so_many_of_a_hundred_bytes_arent_needed() {
 
 #[test]
 fn bytes_that_are_needed_are_counted_by_queue() {
-    let engine = engine();
+    let engine = new_engine();
     assert_eq!(engine.usage().unwrap(), Default::default());
-    write(&engine, |batch| {
+    write_batch(&engine, |batch| {
         batch.add_entries(7, 1, &["1", "22", "333"])?;
         batch.put(7, b"key", b"value")?;
         batch.put(8, b"k", b"")
@@ -302,8 +302,8 @@ fn bytes_that_are_needed_are_counted_by_queue() {
 
     engine.rotate().unwrap();
     engine.rewrite(1).unwrap();
-    write(&engine, |batch| batch.add_entries(7, 4, &["4444"]));
-    write(&engine, |batch| batch.compact(7, 2));
+    write_batch(&engine, |batch| batch.add_entries(7, 4, &["4444"]));
+    write_batch(&engine, |batch| batch.compact(7, 2));
     let usage = engine.usage().unwrap();
     assert_eq!((usage.append.live, usage.rewrite.live), (4, 5 + 8 + 1));
     assert_eq!(
@@ -339,8 +339,8 @@ fn a_hundredth_is_never_more_than_there_is() {
 
 #[test]
 fn a_failed_engine_says_what_it_needs_as_long_as_it_is_read() {
-    let engine = engine();
-    write(&engine, |batch| batch.add_entries(7, 1, &["an entry"]));
+    let engine = new_engine();
+    write_batch(&engine, |batch| batch.add_entries(7, 1, &["an entry"]));
     engine.rotate().unwrap();
     engine.files().rotate(append(3)).unwrap(); // behind the engine's back: its next file can't be begun
     engine.rotate().unwrap_err();

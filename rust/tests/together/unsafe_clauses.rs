@@ -1,6 +1,6 @@
 //! Tests that each call of the library has a comment which names the clauses of its contract that a caller has to keep.
 
-use crate::common::top;
+use crate::common::repository_folder;
 use std::collections::BTreeMap;
 use std::fs;
 use std::path::Path;
@@ -19,7 +19,7 @@ fn sources(folder: &Path, ending: &str) -> Vec<(String, String)> {
 /// Returns for each exported function of the library the names of the clauses that bind its caller.
 fn required_clauses() -> BTreeMap<String, Vec<String>> {
     let mut asked = BTreeMap::new();
-    for (_, text) in sources(&top().join("crates/raft_ffi/src"), ".rt") {
+    for (_, text) in sources(&repository_folder().join("crates/raft_ffi/src"), ".rt") {
         for function in text.split("pub extern \"C\" fn ").skip(1) {
             let (name, rest) = function.split_once('(').unwrap();
             let (contract, _) = rest.split_once("\n{").unwrap();
@@ -64,7 +64,7 @@ fn calls(text: &str) -> Vec<(String, String)> {
 fn each_call_names_the_clauses_that_it_keeps() {
     let (asked, mut called) = (required_clauses(), BTreeMap::new());
     assert!(asked.len() > 80, "{}", asked.len());
-    let src = top().join("rust/src");
+    let src = repository_folder().join("rust/src");
     let mut all = sources(&src.join("sys"), ".rs");
     all.extend(sources(&src, "/sys.rs"));
     for (file, text) in all {

@@ -25,12 +25,12 @@ fn five_files() -> MemoryFiles {
     files
 }
 
-/// Returns a copy of files without one of them.
+/// Returns a copy of all files but `missing`, as files that are found.
 fn without_file(files: &MemoryFiles, missing: FileId) -> MemoryFiles {
     let [append, rewrite] = [Queue::Append, Queue::Rewrite].map(|queue| {
-        let mut held = files.files(queue);
-        held.retain(|(seq, _)| FileId::new(queue, *seq) != missing);
-        held
+        let mut kept = files.files(queue);
+        kept.retain(|(seq, _)| FileId::new(queue, *seq) != missing);
+        kept
     });
     MemoryFiles::found(append, rewrite)
 }
@@ -67,7 +67,7 @@ fn of_several_missing_files_the_first_one_is_named() {
 }
 
 #[test]
-fn several_threads_read_whole_files_at_once() {
+fn all_threads_of_an_opening_read_files_at_the_same_time() {
     let files = five_files();
     for threads in [2, 3] {
         let (reading, is_met) = (Mutex::new(BTreeSet::new()), Condvar::new());
@@ -90,9 +90,9 @@ fn several_threads_read_whole_files_at_once() {
     }
 }
 
-/// Returns how many bytes both queues have at most while an engine does steady work: ten regions keep their last 200 entries of a
-/// hundred bytes. The engine is opened `lives` times, and does so many `rounds` each time.
-fn most_bytes(lives: u64, rounds: u64) -> u64 {
+/// Has an engine do steady work, and returns how many bytes both queues had together at most: ten regions keep their last 200
+/// entries of a hundred bytes. The engine is opened `lives` times, and does so many `rounds` each time.
+fn measure_most_bytes(lives: u64, rounds: u64) -> u64 {
     let options = Options::new()
         .target_file_size(64 << 10)
         .purge_above(256 << 10);
@@ -125,12 +125,13 @@ fn most_bytes(lives: u64, rounds: u64) -> u64 {
 }
 
 #[test]
-fn files_grow_no_more_where_an_engine_is_often_opened_again() {
-    let (once, often) = (most_bytes(1, 300), most_bytes(60, 5));
+fn files_grow_no_larger_where_an_engine_is_opened_often() {
+    let (once, often) = (measure_most_bytes(1, 300), measure_most_bytes(60, 5));
     assert!(often < 2 * once, "{often} in 60 lives, {once} in one");
 }
 
-/// Returns files with ten regions, whose entry of a thousand bytes, or else value, is in the rewrite queue.
+/// Returns files with ten regions in the rewrite queue alone: each has an entry of a thousand bytes if `is_entry`, else a value of
+/// as many.
 fn ten_moved_regions(is_entry: bool) -> MemoryFiles {
     let files = MemoryFiles::new();
     let engine = Engine::with_files(files.clone(), Options::new()).unwrap();
@@ -147,7 +148,7 @@ fn ten_moved_regions(is_entry: bool) -> MemoryFiles {
 }
 
 #[test]
-fn what_was_found_moves_again_where_half_of_it_isnt_needed() {
+fn rewritten_records_of_an_earlier_run_move_again_where_half_of_them_arent_needed() {
     for is_entry in [true, false] {
         for (cleaned, moves) in [(0, 0), (3, 0), (6, 1)] {
             let files = ten_moved_regions(is_entry);
@@ -165,8 +166,8 @@ fn what_was_found_moves_again_where_half_of_it_isnt_needed() {
     }
 }
 
-/// Returns files whose append queue takes away rewritten records of four regions, while the rewrite queue doesn't have that yet.
-fn files_with_untold_changes() -> MemoryFiles {
+/// Returns files with five regions in the rewrite queue. Batches in the append queue alone take away records of four of them.
+fn files_with_changes_of_moved_records() -> MemoryFiles {
     let files = MemoryFiles::new();
     let engine = Engine::with_files(files.clone(), Options::new()).unwrap();
     for region in 1..=5 {
@@ -184,8 +185,9 @@ fn files_with_untold_changes() -> MemoryFiles {
     files
 }
 
-/// Opens an engine over these files, tests that it has what is left of the five regions, and returns it.
-fn assert_taken_away(files: &MemoryFiles) -> Engine<MemoryFiles> {
+/// Opens an engine over the files of `files_with_changes_of_moved_records`, tests that it has what these changes leave of the five
+/// regions, and returns it.
+fn open_and_check_left(files: &MemoryFiles) -> Engine<MemoryFiles> {
     let engine = Engine::with_files(files.clone(), Options::new()).unwrap();
     let bounds = |region| {
         let first = engine.first_index(region).unwrap();
@@ -208,21 +210,21 @@ fn assert_taken_away(files: &MemoryFiles) -> Engine<MemoryFiles> {
 
 #[test]
 fn files_stay_as_they_are_however_often_they_are_opened() {
-    let files = files_with_untold_changes();
+    let files = files_with_changes_of_moved_records();
     let asked = files.asked();
     let bytes = [Queue::Append, Queue::Rewrite].map(|queue| files.files(queue));
     for _ in 0..1000 {
-        assert_taken_away(&files);
+        open_and_check_left(&files);
     }
     assert_eq!(files.asked(), asked);
     assert_eq!(
         [Queue::Append, Queue::Rewrite].map(|queue| files.files(queue)),
         bytes
     );
-    let engine = assert_taken_away(&files);
+    let engine = open_and_check_left(&files);
     engine.rotate().unwrap();
     engine.rewrite(2).unwrap();
     assert_eq!(engine.purge().unwrap().append_files, 2); // so the rewrite queue was told
     drop(engine);
-    assert_taken_away(&files);
+    open_and_check_left(&files);
 }

@@ -37,6 +37,8 @@ fn layout_with_note(layout: Layout) -> (Layout, usize) {
 
 // SAFETY: the system's allocator does the work. A block that grows is a new one, as it is by default.
 unsafe impl GlobalAlloc for Noting {
+    /// Allocates a block with a note of its layout before it. Where it is that request's turn, it refuses one of the library:
+    /// returns null.
     unsafe fn alloc(&self, layout: Layout) -> *mut u8 {
         if layout.align() == OF_LIBRARY {
             if GRANTED.get() == 0 {
@@ -56,6 +58,7 @@ unsafe impl GlobalAlloc for Noting {
         }
     }
 
+    /// Frees a block, and counts it as wrong where its note has another layout.
     unsafe fn dealloc(&self, at: *mut u8, layout: Layout) {
         // SAFETY: the block came from `alloc`.
         unsafe {
@@ -75,8 +78,9 @@ unsafe impl GlobalAlloc for Noting {
 #[global_allocator]
 static NOTING: Noting = Noting;
 
-/// Writes, moves and deletes in an engine, opens its files again, and returns how many entries it has.
-fn engine_steps() -> Result<usize> {
+/// Writes, moves and deletes in an engine, opens its files again, and returns how many entries are there. Errs where a call finds
+/// no memory, or the engine has failed before.
+fn run_engine_steps() -> Result<usize> {
     let files = MemoryFiles::new();
     let options = Options::new().recovery_threads(1);
     let engine = Engine::with_files(files.clone(), options.clone())?;
@@ -93,8 +97,9 @@ fn engine_steps() -> Result<usize> {
     Ok(Engine::with_files(files, options)?.entries(7, ..)?.len())
 }
 
-/// Recovers the files of demo/, reads a batch item by item, and returns how many regions and items there were.
-fn recovery_steps() -> Result<usize> {
+/// Recovers the files of demo/, reads a batch item by item, and returns how many regions and items there were. Errs where a call
+/// finds no memory.
+fn run_recovery_steps() -> Result<usize> {
     let files = demo_files();
     let mut regions = recover(&append_parts(&files), Queue::Append, 1)?
         .regions()?
@@ -109,8 +114,8 @@ fn recovery_steps() -> Result<usize> {
 }
 
 #[test]
-fn what_the_library_takes_goes_back_as_it_came() {
-    for steps in [engine_steps, recovery_steps] {
+fn blocks_go_back_to_the_allocator_with_the_layout_that_they_came_with() {
+    for steps in [run_engine_steps, run_recovery_steps] {
         assert!(steps().unwrap() > 1);
         assert_eq!(LIVE.get(), 0);
         assert_eq!(WRONG.load(SeqCst), 0);
@@ -118,10 +123,10 @@ fn what_the_library_takes_goes_back_as_it_came() {
 }
 
 #[test]
-fn each_request_is_refused_in_turn_and_nothing_is_left() {
+fn no_block_is_left_whichever_request_is_refused() {
     for granted in 0.. {
         GRANTED.set(granted);
-        let result = engine_steps();
+        let result = run_engine_steps();
         let is_over = GRANTED.replace(u64::MAX) > 0;
         assert_eq!((LIVE.get(), WRONG.load(SeqCst)), (0, 0), "{granted}");
         match result {

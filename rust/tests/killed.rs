@@ -9,7 +9,7 @@ use std::io::{BufRead, BufReader};
 use std::path::PathBuf;
 use std::process::{Command, Stdio};
 
-/// Returns the path of the program, which `cargo test` builds beside the tests.
+/// Returns the path of the program `ten_lines`, which `cargo test` builds beside the tests. Panics where it isn't there.
 fn program_path() -> PathBuf {
     let tests = env::current_exe().unwrap();
     let path = tests.ancestors().nth(2).unwrap().join("examples/ten_lines");

@@ -22,42 +22,47 @@ struct Noting {
 }
 
 impl Noting {
-    /// Notes a call.
-    fn note(&self, text: String) {
+    /// Adds the words for a call to those that were noted.
+    fn note_call(&self, text: String) {
         self.told.lock().unwrap().push(text);
     }
 
-    /// Returns the calls that were noted since the last call of this.
-    fn take(&self) -> Vec<String> {
+    /// Returns the words for the calls that were noted since the last call of this, in order.
+    fn take_noted(&self) -> Vec<String> {
         std::mem::take(&mut self.told.lock().unwrap())
     }
 }
 
 impl Listener for Noting {
+    /// Notes which file was begun.
     fn on_begin(&self, file: FileId) {
-        self.note(format!("begin {file}"));
+        self.note_call(format!("begin {file}"));
     }
 
+    /// Notes which queue was synced, and adds the time that it took.
     fn on_sync(&self, file: FileId, took: Duration) {
         *self.sync_time.lock().unwrap() += took;
-        self.note(format!("sync {}", file.queue));
+        self.note_call(format!("sync {}", file.queue));
     }
 
+    /// Notes which file was deleted.
     fn on_delete(&self, file: FileId) {
-        self.note(format!("delete {file}"));
+        self.note_call(format!("delete {file}"));
     }
 
+    /// Notes how many records moved, and out of which queue.
     fn on_move(&self, from: Queue, records: usize) {
-        self.note(format!("move {records} {from}"));
+        self.note_call(format!("move {records} {from}"));
     }
 
+    /// Notes which file was cut, and to which length.
     fn on_cut(&self, cut: &CutTail) {
-        self.note(format!("cut {} to {}", cut.file, cut.offset));
+        self.note_call(format!("cut {} to {}", cut.file, cut.offset));
     }
 }
 
-/// Returns what was asked of files, as words, without writes.
-fn asked(files: &MemoryFiles) -> Vec<String> {
+/// Returns all asks of files but writes, each in the words that a [`Noting`] listener has for it.
+fn asks_without_writes(files: &MemoryFiles) -> Vec<String> {
     let asks = files.asks().into_iter();
     let shown = asks.filter_map(|ask| match ask {
         Ask::Write(..) => None,
@@ -70,15 +75,17 @@ fn asked(files: &MemoryFiles) -> Vec<String> {
     shown.collect()
 }
 
-fn small() -> Options {
+/// Returns options with files so small that records soon move, and files are deleted.
+fn small_file_options() -> Options {
     Options::new().target_file_size(400).purge_above(1500)
 }
 
 #[test]
-fn all_that_is_done_to_files_is_told_in_order() {
+fn a_listener_is_told_all_that_is_done_to_files_in_order() {
     let told = Arc::new(Noting::default());
     let found = MemoryFiles::found(vec![(4, b"torn".to_vec())], vec![]);
-    let engine = Engine::with_files_and_listener(found, small(), told.clone()).unwrap();
+    let engine =
+        Engine::with_files_and_listener(found, small_file_options(), told.clone()).unwrap();
     write_batch(&engine, |batch| batch.put(8, b"key", b"it stays"));
     for index in 1..=60 {
         write_batch(&engine, |batch| {
@@ -92,11 +99,11 @@ fn all_that_is_done_to_files_is_told_in_order() {
     }
     engine.rewrite_again().unwrap();
     engine.purge().unwrap();
-    let told_all = told.take();
+    let told_all = told.take_noted();
     let (moves, told_files): (Vec<_>, Vec<_>) = told_all
         .into_iter()
         .partition(|text| text.starts_with("move "));
-    assert_eq!(told_files, asked(engine.files()));
+    assert_eq!(told_files, asks_without_writes(engine.files()));
     for word in [
         "begin append",
         "begin rewrite",
@@ -119,12 +126,12 @@ fn all_that_is_done_to_files_is_told_in_order() {
 }
 
 #[test]
-fn records_that_move_are_counted() {
+fn a_listener_is_told_how_many_records_move() {
     let told = Arc::new(Noting::default());
     let files = MemoryFiles::new();
     let engine = Engine::with_files_and_listener(files, Options::new(), told.clone()).unwrap();
     let moves = || -> Vec<_> {
-        let told = told.take().into_iter();
+        let told = told.take_noted().into_iter();
         told.filter(|text| text.starts_with("move ")).collect()
     };
     write_batch(&engine, |batch| batch.add_entries(7, 1, &["1", "2", "3"]));
@@ -140,7 +147,7 @@ fn records_that_move_are_counted() {
 }
 
 #[test]
-fn what_is_cut_in_a_folder_is_told_with_its_reason() {
+fn a_listener_is_told_what_an_opening_cuts_with_the_reason() {
     #[derive(Default)]
     struct Cuts(Mutex<Vec<CutTail>>);
     impl Listener for Cuts {
@@ -175,7 +182,7 @@ struct Calling {
 impl Calling {
     /// Tests that no other call of the listener runs. Then writes, reads and purges in the engine, in this thread and in
     /// another one.
-    fn call(&self) {
+    fn call_engine(&self) {
         assert!(!self.is_within.swap(true, SeqCst), "two calls at once");
         let count = self.told.fetch_add(1, SeqCst) as u64;
         if let Some(engine) = self.engine.get().and_then(Weak::upgrade) {
@@ -198,26 +205,27 @@ impl Calling {
 
 impl Listener for Calling {
     fn on_begin(&self, _: FileId) {
-        self.call();
+        self.call_engine();
     }
 
     fn on_sync(&self, _: FileId, _: Duration) {
-        self.call();
+        self.call_engine();
     }
 
     fn on_delete(&self, _: FileId) {
-        self.call();
+        self.call_engine();
     }
 
     fn on_move(&self, _: Queue, _: usize) {
-        self.call();
+        self.call_engine();
     }
 }
 
 #[test]
-fn a_listener_makes_calls_of_the_engine_and_so_do_other_threads_meanwhile() {
+fn a_listener_can_call_the_engine_while_other_threads_do() {
     let calling = Arc::new(Calling::default());
-    let engine = Engine::with_files_and_listener(MemoryFiles::new(), small(), calling.clone());
+    let engine =
+        Engine::with_files_and_listener(MemoryFiles::new(), small_file_options(), calling.clone());
     let engine = Arc::new(engine.unwrap());
     let at_opening = calling.told.load(SeqCst);
     calling.engine.set(Arc::downgrade(&engine)).unwrap();
@@ -242,7 +250,7 @@ fn a_listener_makes_calls_of_the_engine_and_so_do_other_threads_meanwhile() {
 }
 
 #[test]
-fn a_listener_that_panics_harms_its_caller_alone() {
+fn a_panic_of_a_listener_reaches_only_the_caller_of_the_engine() {
     #[derive(Default)]
     struct Panicking(AtomicUsize);
     impl Listener for Panicking {
@@ -275,17 +283,17 @@ fn a_refused_change_tells_nothing_and_what_came_before_a_failure_is_told() {
     let told = Arc::new(Noting::default());
     let files = MemoryFiles::new();
     let engine = Engine::with_files_and_listener(files, Options::new(), told.clone()).unwrap();
-    told.take();
+    told.take_noted();
     let mut batch = LogBatch::new().unwrap();
     batch.add_entries(7, 1, &["an entry"]).unwrap();
     batch.add_entries(7, 9, &["behind a hole"]).unwrap();
     engine.write(&mut batch, false).unwrap_err();
-    assert_eq!(told.take(), [""; 0]);
+    assert_eq!(told.take_noted(), [""; 0]);
     // somebody else deletes the last file: the next change of it fails
     engine.rotate().unwrap();
-    assert_eq!(told.take(), ["sync append", "begin append file 2"]);
+    assert_eq!(told.take_noted(), ["sync append", "begin append file 2"]);
     let last = FileId::new(Queue::Append, 3);
     engine.files().rotate(last).unwrap();
     engine.rotate().unwrap_err();
-    assert_eq!(told.take(), ["sync append"]);
+    assert_eq!(told.take_noted(), ["sync append"]);
 }

@@ -5,8 +5,8 @@
 use raft_recover::{FileId, Files, FolderFiles, MemoryFiles, Queue};
 use std::io;
 
-/// Files in a folder, with a copy in memory. Each change is made in the folder, and, if that succeeds, in memory. An error is that of
-/// the folder or, after it, of the copy. What is read is compared.
+/// Files in a folder, with a copy in memory. Each change is made in the folder, and, if that succeeds, in memory. An error is that
+/// of the folder or, after it, of the copy. What is read is compared.
 pub struct FolderWithCopy {
     pub folder: FolderFiles,
     pub memory: MemoryFiles,

@@ -91,9 +91,9 @@ pub fn batch_bytes(file: LogFile, add: impl FnOnce(&mut LogBatch)) -> Vec<u8> {
     batch.bytes().unwrap()
 }
 
-/// Returns the bytes of a batch with its key `__\x02` replaced by `__\x01`, which makes a group marker of it. The last four bytes are
-/// the CRC-32 of the items, combined with the signature by exclusive or; so they change by as much as the CRC-32 does. Panics where
-/// the batch has no such key.
+/// Returns the bytes of a batch with its key `__\x02` replaced by `__\x01`, which makes a group marker of it. The last four bytes
+/// are the CRC-32 of the items, combined with the signature by exclusive or; so they change by as much as the CRC-32 does. Panics
+/// where the batch has no such key.
 pub fn with_group_marker(mut bytes: Vec<u8>) -> Vec<u8> {
     let items = u64::from_be_bytes(bytes[8..16].try_into().unwrap()) as usize;
     let end = bytes.len() - 4;

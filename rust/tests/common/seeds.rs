@@ -10,8 +10,8 @@ pub fn number_from_env(variable: &str, otherwise: u64) -> u64 {
     env::var(variable).map_or(otherwise, |text| text.parse().unwrap())
 }
 
-/// Calls `run` once with each of `histories` seeds from `first` on, on all processors. Prints the seed of a history that panics, and
-/// panics itself once all threads are done.
+/// Calls `run` once with each of `histories` seeds from `first` on, on all processors. Prints the seed of a history that panics,
+/// and panics itself once all threads are done.
 pub fn run_histories(first: u64, histories: u64, run: impl Fn(u64) + Sync) {
     let next = AtomicU64::new(first);
     let threads = thread::available_parallelism().map_or(1, usize::from);

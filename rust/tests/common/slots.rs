@@ -20,8 +20,8 @@ pub fn region_of_other_slot(region: u64) -> u64 {
     (0..).find(|id| slot_of(*id) != slot_of(region)).unwrap()
 }
 
-/// Makes the tables of regions 0 to 599, each with three entries and a key. Each seventh was cleaned before, and each second has entries in the
-/// rewrite queue. Region 700 is listed as cleaned twice.
+/// Makes the tables of regions 0 to 599, each with three entries and a key. Each seventh was cleaned before, and each second has
+/// entries in the rewrite queue. Region 700 is listed as cleaned twice.
 pub fn tables_of_600_regions() -> Tables {
     let mut tables = Tables::new().unwrap();
     for region in 0..600 {

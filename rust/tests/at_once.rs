@@ -4,7 +4,7 @@
 
 mod common;
 
-use common::hooked::{Call, Hooked};
+use common::hooked::{Call, HookedFiles};
 use common::{append_file, append_parts, batch_bytes};
 use raft_recover::{Engine, MemoryFiles, Options, Queue, recover};
 use std::collections::HashSet;
@@ -66,7 +66,7 @@ fn end_meeting() -> Option<usize> {
 
 /// The answer to a request for memory, as the library reads it: whether it is granted, and the block.
 #[repr(C)]
-struct Tried {
+struct HeapAnswer {
     ok: bool,
     p: *mut c_void,
 }
@@ -78,14 +78,14 @@ unsafe extern "C" {
 }
 
 /// Returns the answer that grants a request with the block at `p`. Panics where there is none.
-fn grant_block(p: *mut c_void) -> Tried {
+fn grant_block(p: *mut c_void) -> HeapAnswer {
     assert!(!p.is_null());
-    Tried { ok: true, p }
+    HeapAnswer { ok: true, p }
 }
 
 /// Allocates a block of `n` bytes for the library, after the calling thread has met the others.
 #[unsafe(no_mangle)]
-extern "C" fn rattle_alloc(n: usize, _a: usize) -> Tried {
+extern "C" fn rattle_alloc(n: usize, _a: usize) -> HeapAnswer {
     meet();
     // SAFETY: any size may be asked for; blocks are aligned to 16 bytes.
     grant_block(unsafe { malloc(n.max(1)) })
@@ -93,7 +93,12 @@ extern "C" fn rattle_alloc(n: usize, _a: usize) -> Tried {
 
 /// Gives a block of the library `n` bytes, and returns it at its new place.
 #[unsafe(no_mangle)]
-unsafe extern "C" fn rattle_realloc(p: *mut c_void, _kept: usize, n: usize, _a: usize) -> Tried {
+unsafe extern "C" fn rattle_realloc(
+    p: *mut c_void,
+    _kept: usize,
+    n: usize,
+    _a: usize,
+) -> HeapAnswer {
     // SAFETY: the block came from `grant_block`.
     grant_block(unsafe { realloc(p, n.max(1)) })
 }
@@ -141,7 +146,7 @@ fn an_engine_is_opened_on_as_many_threads_as_its_options_say() {
         for threads in 1..=8 {
             let found = MemoryFiles::found(files.clone(), vec![(1, vec![])]);
             // each thread replays what it has read of a file, and waits there
-            let hooked = Hooked::new(&found, |call: Call<'_>| {
+            let hooked = HookedFiles::new(&found, |call: Call<'_>| {
                 if let Call::Read(..) = call {
                     call_meeting(threads);
                 }

@@ -9,14 +9,14 @@ use std::path::PathBuf;
 use std::process::Command;
 
 /// The build script, compiled for a package in a folder of its own, so that no archive is beside it.
-struct Script {
+struct BuildScript {
     room: TempFolder,
     program: PathBuf,
 }
 
-impl Script {
+impl BuildScript {
     /// Compiles the script in a new folder. Panics where it doesn't compile.
-    fn new() -> Script {
+    fn new() -> BuildScript {
         let room = TempFolder::new();
         let program = room.path().join("script");
         let rustc = env::var_os("RUSTC").unwrap_or_else(|| "rustc".into());
@@ -28,7 +28,7 @@ impl Script {
             .status()
             .unwrap();
         assert!(compiled.success());
-        Script { room, program }
+        BuildScript { room, program }
     }
 
     /// Runs the script for a target, given as its system, processor and C library, with these environment variables. Returns the
@@ -59,7 +59,7 @@ const GLOBAL: (&str, &str) = ("CARGO_FEATURE_GLOBAL_ALLOCATOR", "1");
 
 #[test]
 fn on_other_machines_one_line_says_what_is_missing_and_nothing_is_linked() {
-    let script = Script::new();
+    let script = BuildScript::new();
     for target in [
         ["windows", "x86_64", "msvc"],
         ["macos", "aarch64", ""],
@@ -77,7 +77,7 @@ fn on_other_machines_one_line_says_what_is_missing_and_nothing_is_linked() {
 
 #[test]
 fn without_the_library_one_line_says_how_to_make_it() {
-    let said = Script::new().run_for_target(OURS, &[GLOBAL]);
+    let said = BuildScript::new().run_for_target(OURS, &[GLOBAL]);
     let warnings = said
         .iter()
         .filter(|line| line.starts_with("cargo::warning="));
@@ -91,7 +91,7 @@ fn without_the_library_one_line_says_how_to_make_it() {
 
 #[test]
 fn without_the_heap_of_the_toolchain_one_more_line_names_the_feature_that_needs_none() {
-    let said = Script::new().run_for_target(OURS, &[]);
+    let said = BuildScript::new().run_for_target(OURS, &[]);
     let warnings = said
         .iter()
         .filter(|line| line.starts_with("cargo::warning="));
@@ -104,7 +104,7 @@ fn without_the_heap_of_the_toolchain_one_more_line_names_the_feature_that_needs_
 
 #[test]
 fn an_archive_that_the_variable_names_is_linked_and_is_an_error_where_it_is_missing() {
-    let script = Script::new();
+    let script = BuildScript::new();
     let archive = script.room.path().join("libmine.a");
     let named = [GLOBAL, ("RAFT_FFI_ARCHIVE", archive.to_str().unwrap())];
     let said = script.run_for_target(OURS, &named);

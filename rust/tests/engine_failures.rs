@@ -2,7 +2,7 @@
 
 mod common;
 
-use common::hooked::{Call, Hooked};
+use common::hooked::{Call, HookedFiles};
 use common::model::read_region;
 use raft_recover::{
     Engine, Error, ErrorKind, FileId, Files, LogBatch, MemoryFiles, Options, Queue, Result,
@@ -164,7 +164,7 @@ fn assert_nothing_is_lost(files: MemoryFiles, certain: u64, failing: usize) {
 #[test]
 fn after_a_failed_change_all_later_ones_fail_reads_go_on_and_nothing_is_lost() {
     let count = AtomicUsize::new(0);
-    let counting = Hooked::new(&MemoryFiles::new(), |call: Call<'_>| {
+    let counting = HookedFiles::new(&MemoryFiles::new(), |call: Call<'_>| {
         count.fetch_add(usize::from(call.is_change()), SeqCst);
         Ok(())
     });
@@ -176,7 +176,7 @@ fn after_a_failed_change_all_later_ones_fail_reads_go_on_and_nothing_is_lost() {
     for failing in opening..changes {
         let (made, place) = (AtomicUsize::new(0), OnceLock::new());
         let files = MemoryFiles::new();
-        let hooked = Hooked::new(&files, |call: Call<'_>| {
+        let hooked = HookedFiles::new(&files, |call: Call<'_>| {
             if call.is_change() && made.fetch_add(1, SeqCst) == failing {
                 place.set(expected_place(call, &files)).unwrap();
                 if let Call::Write(file, bytes) = call {
@@ -207,7 +207,7 @@ fn after_a_failed_change_all_later_ones_fail_reads_go_on_and_nothing_is_lost() {
 fn a_synced_batch_lasts_where_the_next_file_cant_be_begun() {
     let (has_failed, since) = (AtomicBool::new(false), AtomicUsize::new(0));
     let files = MemoryFiles::new();
-    let hooked = Hooked::new(&files, |call: Call<'_>| {
+    let hooked = HookedFiles::new(&files, |call: Call<'_>| {
         since.fetch_add(usize::from(has_failed.load(SeqCst)), SeqCst);
         match call {
             Call::Rotate(file) if file.seq == 2 => {
@@ -243,7 +243,7 @@ fn after_an_opening_that_failed_another_one_finds_all() {
     for (failing, expected) in [(Some(0), 0), (Some(1), 1), (None, 7)] {
         let found = MemoryFiles::found(torn.clone(), files.files(Queue::Rewrite));
         let made = AtomicUsize::new(0);
-        let hooked = Hooked::new(&found, |call: Call<'_>| {
+        let hooked = HookedFiles::new(&found, |call: Call<'_>| {
             if call.is_change() && Some(made.fetch_add(1, SeqCst)) == failing {
                 return Err(io::ErrorKind::StorageFull.into());
             }
@@ -263,7 +263,7 @@ fn after_an_opening_that_failed_another_one_finds_all() {
 fn a_failed_read_names_the_file_and_the_engine_goes_on() {
     let is_broken = AtomicBool::new(false);
     let files = MemoryFiles::new();
-    let hooked = Hooked::new(&files, |call: Call<'_>| match call {
+    let hooked = HookedFiles::new(&files, |call: Call<'_>| match call {
         Call::Read(FIRST, ..) if is_broken.load(SeqCst) => {
             Err(io::ErrorKind::PermissionDenied.into())
         }
@@ -291,7 +291,7 @@ fn a_failed_read_names_the_file_and_the_engine_goes_on() {
 #[test]
 fn who_waits_for_a_turn_is_told_why_the_engine_failed() {
     let (entered, is_over) = (AtomicBool::new(false), AtomicBool::new(false));
-    let hooked = Hooked::new(&MemoryFiles::new(), |call: Call<'_>| {
+    let hooked = HookedFiles::new(&MemoryFiles::new(), |call: Call<'_>| {
         if !matches!(call, Call::Rotate(file) if file.seq == 2) {
             return Ok(());
         }
@@ -320,7 +320,7 @@ fn who_waits_for_a_turn_is_told_why_the_engine_failed() {
 #[test]
 fn files_that_panic_leave_a_failed_engine_and_nobody_waits_for_ever() {
     let (entered, is_over) = (AtomicBool::new(false), AtomicBool::new(false));
-    let hooked = Hooked::new(&MemoryFiles::new(), |call: Call<'_>| {
+    let hooked = HookedFiles::new(&MemoryFiles::new(), |call: Call<'_>| {
         if !matches!(call, Call::Sync(Queue::Append)) {
             return Ok(());
         }

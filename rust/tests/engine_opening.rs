@@ -3,7 +3,7 @@
 mod common;
 
 use common::engines::write_batch;
-use common::hooked::{Call, Hooked};
+use common::hooked::{Call, HookedFiles};
 use common::model::read_region;
 use raft_recover::{Engine, ErrorKind, FileId, MemoryFiles, Options, Queue};
 use std::collections::BTreeSet;
@@ -71,7 +71,7 @@ fn all_threads_of_an_opening_read_files_at_the_same_time() {
     let files = five_files();
     for threads in [2, 3] {
         let (reading, is_met) = (Mutex::new(BTreeSet::new()), Condvar::new());
-        let hooked = Hooked::new(&files, |call: Call<'_>| {
+        let hooked = HookedFiles::new(&files, |call: Call<'_>| {
             if let Call::Read(file, 0, _) = call {
                 let mut reading = reading.lock().unwrap();
                 reading.insert(file.seq);

@@ -2,7 +2,7 @@
 
 mod common;
 
-use common::hooked::{Call, Hooked};
+use common::hooked::{Call, HookedFiles};
 use raft_recover::{Engine, FileId, LogBatch, MemoryFiles, Options, Queue, Result};
 use std::sync::atomic::{AtomicBool, AtomicUsize, Ordering::SeqCst};
 use std::sync::{Arc, Condvar, Mutex};
@@ -17,9 +17,9 @@ struct Gate {
 }
 
 /// A gate that is closed until this is dropped, also where a test fails.
-struct Closed<'a>(&'a Gate);
+struct ClosedGate<'a>(&'a Gate);
 
-impl Drop for Closed<'_> {
+impl Drop for ClosedGate<'_> {
     /// Opens the gate, and wakes the calls that wait there.
     fn drop(&mut self) {
         self.0.state.lock().unwrap().0 = false;
@@ -29,9 +29,9 @@ impl Drop for Closed<'_> {
 
 impl Gate {
     /// Closes the gate, until the returned value is dropped.
-    fn close(&self) -> Closed<'_> {
+    fn close(&self) -> ClosedGate<'_> {
         self.state.lock().unwrap().0 = true;
-        Closed(self)
+        ClosedGate(self)
     }
 
     /// Comes to the gate, and returns once it is open.
@@ -86,7 +86,7 @@ fn one_entry_batch(region: u64, index: u64) -> LogBatch {
 #[test]
 fn threads_that_write_at_the_same_time_share_syncs() {
     let files = MemoryFiles::new();
-    let hooked = Hooked::new(&files, |call: Call<'_>| {
+    let hooked = HookedFiles::new(&files, |call: Call<'_>| {
         if matches!(call, Call::Sync(_)) {
             thread::sleep(Duration::from_millis(2));
         }
@@ -125,7 +125,7 @@ fn threads_that_write_at_the_same_time_share_syncs() {
 #[test]
 fn nobody_goes_on_before_the_sync_and_all_who_wait_go_on_after_one() {
     let gate = Arc::new(Gate::default());
-    let hooked = Hooked::new(&MemoryFiles::new(), |call: Call<'_>| {
+    let hooked = HookedFiles::new(&MemoryFiles::new(), |call: Call<'_>| {
         if matches!(call, Call::Sync(_)) {
             gate.pass();
         }
@@ -156,7 +156,7 @@ fn nobody_goes_on_before_the_sync_and_all_who_wait_go_on_after_one() {
 /// syncs that took.
 fn count_syncs_of_four() -> u64 {
     let gate = Gate::default();
-    let hooked = Hooked::new(&MemoryFiles::new(), |call: Call<'_>| {
+    let hooked = HookedFiles::new(&MemoryFiles::new(), |call: Call<'_>| {
         if matches!(call, Call::Rotate(_)) {
             gate.pass();
         }
@@ -189,7 +189,7 @@ fn who_comes_while_the_leader_waits_for_a_turn_is_in_its_group() {
 /// seven go on before that sync is over.
 fn count_going_on_before_sync() -> usize {
     let (gates, is_first_over) = ([Gate::default(), Gate::default()], AtomicBool::new(false));
-    let hooked = Hooked::new(&MemoryFiles::new(), |call: Call<'_>| {
+    let hooked = HookedFiles::new(&MemoryFiles::new(), |call: Call<'_>| {
         match call {
             Call::Sync(_) => gates[usize::from(is_first_over.load(SeqCst))].pass(),
             // those that were woken in vain wait again by then
@@ -242,7 +242,7 @@ type Write<'a> = &'a dyn Fn(&mut LogBatch, bool) -> Result<()>;
 /// `write` returned.
 fn hands_sync_on(fails: bool, write: impl FnOnce(Write<'_>) -> bool + Send) -> bool {
     let [rotating, syncing] = [Gate::default(), Gate::default()];
-    let hooked = Hooked::new(&MemoryFiles::new(), |call: Call<'_>| match call {
+    let hooked = HookedFiles::new(&MemoryFiles::new(), |call: Call<'_>| match call {
         Call::Rotate(_) => {
             rotating.pass();
             Ok(())
@@ -313,7 +313,7 @@ fn whose_batch_is_refused_makes_no_sync_for_others() {
 #[test]
 fn reading_waits_for_no_sync() {
     let gate = Arc::new(Gate::default());
-    let hooked = Hooked::new(&MemoryFiles::new(), |call: Call<'_>| {
+    let hooked = HookedFiles::new(&MemoryFiles::new(), |call: Call<'_>| {
         if matches!(call, Call::Sync(_)) {
             gate.pass();
         }
@@ -338,8 +338,8 @@ fn reading_waits_for_no_sync() {
 fn gated_engine(
     writes: &Gate,
     syncs: &Gate,
-) -> Engine<Hooked<impl Fn(Call<'_>) -> io::Result<()> + Send + Sync>> {
-    let hooked = Hooked::new(&MemoryFiles::new(), |call: Call<'_>| {
+) -> Engine<HookedFiles<impl Fn(Call<'_>) -> io::Result<()> + Send + Sync>> {
+    let hooked = HookedFiles::new(&MemoryFiles::new(), |call: Call<'_>| {
         match call {
             Call::Write(..) => writes.pass(),
             Call::Sync(_) => syncs.pass(),
@@ -379,7 +379,7 @@ fn the_newest_entry_is_read_while_its_bytes_are_on_their_way() {
 #[test]
 fn what_is_written_is_read_from_its_file() {
     let reads = AtomicUsize::new(0);
-    let hooked = Hooked::new(&MemoryFiles::new(), |call: Call<'_>| {
+    let hooked = HookedFiles::new(&MemoryFiles::new(), |call: Call<'_>| {
         reads.fetch_add(usize::from(matches!(call, Call::Read(..))), SeqCst);
         Ok(())
     });
@@ -422,7 +422,7 @@ fn an_entry_that_moves_while_it_is_read_is_found() {
     let is_reader =
         |call: Call<'_>| matches!(call, Call::Read(file, ..) if file.queue == Queue::Append);
     let is_held = AtomicBool::new(false);
-    let hooked = Hooked::new(&MemoryFiles::new(), |call: Call<'_>| {
+    let hooked = HookedFiles::new(&MemoryFiles::new(), |call: Call<'_>| {
         if is_reader(call) && is_held.swap(false, SeqCst) {
             gate.pass();
         }
@@ -448,7 +448,7 @@ fn an_entry_that_moves_while_it_is_read_is_found() {
 fn an_entry_that_moves_twice_while_it_is_read_is_found() {
     let (gate, looked_again) = (Gate::default(), Gate::default());
     let [is_held, is_moved] = [false, false].map(AtomicBool::new);
-    let hooked = Hooked::new(&MemoryFiles::new(), |call: Call<'_>| {
+    let hooked = HookedFiles::new(&MemoryFiles::new(), |call: Call<'_>| {
         let Call::Read(file, ..) = call else {
             return Ok(());
         };
@@ -486,7 +486,7 @@ fn an_entry_that_moves_twice_while_it_is_read_is_found() {
 #[test]
 fn no_two_changes_of_files_run_at_once() {
     let within = AtomicBool::new(false);
-    let hooked = Hooked::new(&MemoryFiles::new(), |call: Call<'_>| {
+    let hooked = HookedFiles::new(&MemoryFiles::new(), |call: Call<'_>| {
         if !call.is_change() {
             return Ok(());
         }
@@ -525,7 +525,7 @@ fn no_two_changes_of_files_run_at_once() {
 #[test]
 fn a_refused_batch_keeps_none_of_its_group_from_being_written() {
     let gate = Arc::new(Gate::default());
-    let hooked = Hooked::new(&MemoryFiles::new(), |call: Call<'_>| {
+    let hooked = HookedFiles::new(&MemoryFiles::new(), |call: Call<'_>| {
         if matches!(call, Call::Sync(_)) {
             gate.pass();
         }

@@ -5,7 +5,7 @@ mod common;
 
 use common::TempFolder;
 use common::engines::{asks_as_words, write_batch};
-use common::hooked::{Call, Hooked};
+use common::hooked::{Call, HookedFiles};
 use raft_recover::{
     Engine, Error, ErrorKind, FileId, Files, FolderFiles, LogBatch, MemoryFiles, Options, Queue,
     Result,
@@ -311,7 +311,7 @@ fn a_write_that_finds_no_room_leaves_its_file_unchanged() -> io::Result<()> {
 fn a_purge_deletes_what_it_can_before_records_move() -> Result<()> {
     // many small batches may be written to the rewrite queue, but no records may move
     let files = MemoryFiles::new();
-    let hooked = Hooked::new(&files, |call: Call<'_>| match call {
+    let hooked = HookedFiles::new(&files, |call: Call<'_>| match call {
         Call::Write(file, bytes) if file.queue == Queue::Rewrite && bytes.len() > 500 => {
             Err(io::ErrorKind::StorageFull.into())
         }

@@ -26,7 +26,7 @@ thread_local! {
 }
 
 /// The allocator, which notes the layout of each block before it.
-struct Noting;
+struct NotingAllocator;
 
 /// Returns the layout of a block with room for a note of `layout` before it, and how many bytes that room has.
 fn layout_with_note(layout: Layout) -> (Layout, usize) {
@@ -36,7 +36,7 @@ fn layout_with_note(layout: Layout) -> (Layout, usize) {
 }
 
 // SAFETY: the system's allocator does the work. A block that grows is a new one, as it is by default.
-unsafe impl GlobalAlloc for Noting {
+unsafe impl GlobalAlloc for NotingAllocator {
     /// Allocates a block with a note of its layout before it. Where it is that request's turn, it refuses one of the library:
     /// returns null.
     unsafe fn alloc(&self, layout: Layout) -> *mut u8 {
@@ -76,7 +76,7 @@ unsafe impl GlobalAlloc for Noting {
 }
 
 #[global_allocator]
-static NOTING: Noting = Noting;
+static NOTING: NotingAllocator = NotingAllocator;
 
 /// Writes, moves and deletes in an engine, opens its files again, and returns how many entries are there. Errs where a call finds
 /// no memory, or the engine has failed before.

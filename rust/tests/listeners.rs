@@ -16,12 +16,12 @@ use std::{fs, thread};
 
 /// A listener that notes its calls.
 #[derive(Default)]
-struct Noting {
+struct NotingListener {
     told: Mutex<Vec<String>>,
     sync_time: Mutex<Duration>,
 }
 
-impl Noting {
+impl NotingListener {
     /// Adds the words for a call to those that were noted.
     fn note_call(&self, text: String) {
         self.told.lock().unwrap().push(text);
@@ -33,7 +33,7 @@ impl Noting {
     }
 }
 
-impl Listener for Noting {
+impl Listener for NotingListener {
     /// Notes which file was begun.
     fn on_begin(&self, file: FileId) {
         self.note_call(format!("begin {file}"));
@@ -61,7 +61,7 @@ impl Listener for Noting {
     }
 }
 
-/// Returns all asks of files but writes, each in the words that a [`Noting`] listener has for it.
+/// Returns all asks of files but writes, each in the words that a [`NotingListener`] listener has for it.
 fn asks_without_writes(files: &MemoryFiles) -> Vec<String> {
     let asks = files.asks().into_iter();
     let shown = asks.filter_map(|ask| match ask {
@@ -82,7 +82,7 @@ fn small_file_options() -> Options {
 
 #[test]
 fn a_listener_is_told_all_that_is_done_to_files_in_order() {
-    let told = Arc::new(Noting::default());
+    let told = Arc::new(NotingListener::default());
     let found = MemoryFiles::found(vec![(4, b"torn".to_vec())], vec![]);
     let engine =
         Engine::with_files_and_listener(found, small_file_options(), told.clone()).unwrap();
@@ -127,7 +127,7 @@ fn a_listener_is_told_all_that_is_done_to_files_in_order() {
 
 #[test]
 fn a_listener_is_told_how_many_records_move() {
-    let told = Arc::new(Noting::default());
+    let told = Arc::new(NotingListener::default());
     let files = MemoryFiles::new();
     let engine = Engine::with_files_and_listener(files, Options::new(), told.clone()).unwrap();
     let moves = || -> Vec<_> {
@@ -149,8 +149,9 @@ fn a_listener_is_told_how_many_records_move() {
 #[test]
 fn a_listener_is_told_what_an_opening_cuts_with_the_reason() {
     #[derive(Default)]
-    struct Cuts(Mutex<Vec<CutTail>>);
-    impl Listener for Cuts {
+    struct CutListener(Mutex<Vec<CutTail>>);
+    impl Listener for CutListener {
+        /// Keeps a copy of the cut.
         fn on_cut(&self, cut: &CutTail) {
             self.0.lock().unwrap().push(cut.clone());
         }
@@ -163,7 +164,7 @@ fn a_listener_is_told_what_an_opening_cuts_with_the_reason() {
     drop(engine);
     let mut file = fs::OpenOptions::new().append(true).open(path).unwrap();
     file.write_all(b"torn").unwrap();
-    let cuts = Arc::new(Cuts::default());
+    let cuts = Arc::new(CutListener::default());
     let engine = Engine::open_with_listener(room.path(), Options::new(), cuts.clone()).unwrap();
     let told = cuts.0.lock().unwrap().clone();
     assert!(told.iter().eq(engine.recovered().cuts()));
@@ -173,13 +174,13 @@ fn a_listener_is_told_what_an_opening_cuts_with_the_reason() {
 
 /// A listener that makes calls of the engine which tells it something, and has another thread make some.
 #[derive(Default)]
-struct Calling {
+struct CallingListener {
     engine: OnceLock<Weak<Engine<MemoryFiles>>>,
     told: AtomicUsize,
     is_within: AtomicBool,
 }
 
-impl Calling {
+impl CallingListener {
     /// Tests that no other call of the listener runs. Then writes, reads and purges in the engine, in this thread and in
     /// another one.
     fn call_engine(&self) {
@@ -203,19 +204,23 @@ impl Calling {
     }
 }
 
-impl Listener for Calling {
+impl Listener for CallingListener {
+    /// Calls the engine where a file was begun.
     fn on_begin(&self, _: FileId) {
         self.call_engine();
     }
 
+    /// Calls the engine where a queue was synced.
     fn on_sync(&self, _: FileId, _: Duration) {
         self.call_engine();
     }
 
+    /// Calls the engine where a file was deleted.
     fn on_delete(&self, _: FileId) {
         self.call_engine();
     }
 
+    /// Calls the engine where records moved.
     fn on_move(&self, _: Queue, _: usize) {
         self.call_engine();
     }
@@ -223,7 +228,7 @@ impl Listener for Calling {
 
 #[test]
 fn a_listener_can_call_the_engine_while_other_threads_do() {
-    let calling = Arc::new(Calling::default());
+    let calling = Arc::new(CallingListener::default());
     let engine =
         Engine::with_files_and_listener(MemoryFiles::new(), small_file_options(), calling.clone());
     let engine = Arc::new(engine.unwrap());
@@ -252,15 +257,16 @@ fn a_listener_can_call_the_engine_while_other_threads_do() {
 #[test]
 fn a_panic_of_a_listener_reaches_only_the_caller_of_the_engine() {
     #[derive(Default)]
-    struct Panicking(AtomicUsize);
-    impl Listener for Panicking {
+    struct PanickingListener(AtomicUsize);
+    impl Listener for PanickingListener {
+        /// Counts the syncs, and panics at the fourth one.
         fn on_sync(&self, _: FileId, _: Duration) {
             if self.0.fetch_add(1, SeqCst) == 3 {
                 panic!("the fourth sync is told");
             }
         }
     }
-    let listener = Arc::new(Panicking::default());
+    let listener = Arc::new(PanickingListener::default());
     let files = MemoryFiles::new();
     let engine = Engine::with_files_and_listener(files, Options::new(), listener.clone()).unwrap();
     let mut panics = 0;
@@ -280,7 +286,7 @@ fn a_panic_of_a_listener_reaches_only_the_caller_of_the_engine() {
 
 #[test]
 fn a_refused_change_tells_nothing_and_what_came_before_a_failure_is_told() {
-    let told = Arc::new(Noting::default());
+    let told = Arc::new(NotingListener::default());
     let files = MemoryFiles::new();
     let engine = Engine::with_files_and_listener(files, Options::new(), told.clone()).unwrap();
     told.take_noted();

@@ -8,7 +8,7 @@ mod common;
 mod raft_storage;
 
 use common::TempFolder;
-use common::hooked::{Call, Hooked};
+use common::hooked::{Call, HookedFiles};
 use common::model::Draw;
 use common::seeds::number_from_env;
 use raft_recover::{Engine, Files, MemoryFiles, Options, Queue, Unsynced};
@@ -272,7 +272,7 @@ fn a_log_has_what_was_acknowledged_wherever_the_machine_stops() {
 fn the_term_of_an_entry_is_told_without_a_read_of_files() {
     let reads = Arc::new(AtomicUsize::new(0));
     let counted = reads.clone();
-    let files = Hooked::new(&MemoryFiles::new(), move |call: Call<'_>| {
+    let files = HookedFiles::new(&MemoryFiles::new(), move |call: Call<'_>| {
         counted.fetch_add(usize::from(!call.is_change()), SeqCst);
         Ok(())
     });

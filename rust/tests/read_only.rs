@@ -4,7 +4,7 @@ mod common;
 
 use common::TempFolder;
 use common::engines::write_batch;
-use common::hooked::{Call, Hooked};
+use common::hooked::{Call, HookedFiles};
 use common::model::{Region, read_region};
 use raft_recover::{
     Engine, ErrorKind, FileId, Files, FolderFiles, LogBatch, MemoryFiles, Options, Queue,
@@ -79,7 +79,7 @@ fn a_read_only_engine_only_reads_and_refuses_every_change_by_name() {
         lens.concat().iter().map(|(_, len)| len).sum::<u64>()
     };
     let found = lens(&files);
-    let hooked = Hooked::new(&files, |call: Call<'_>| {
+    let hooked = HookedFiles::new(&files, |call: Call<'_>| {
         assert!(!call.is_change(), "{call:?}");
         Ok(())
     });

@@ -25,7 +25,7 @@ static TURN: Mutex<()> = Mutex::new(());
 
 /// The answer to a request for memory, as the library reads it: whether it is granted, and the block.
 #[repr(C)]
-struct Tried {
+struct HeapAnswer {
     ok: bool,
     p: *mut u8,
 }
@@ -40,14 +40,14 @@ fn layout_with_head(n: usize) -> Layout {
 
 /// Returns the answer to a request for `n` bytes, which were allocated at `p`, with the bytes before the block. It is a
 /// refusal if `p` is null.
-fn answer_request(p: *mut u8, n: usize) -> Tried {
+fn answer_request(p: *mut u8, n: usize) -> HeapAnswer {
     if p.is_null() {
         return refuse_request();
     }
     // SAFETY: the block has room for its size in front.
     unsafe {
         p.cast::<usize>().write(n);
-        Tried {
+        HeapAnswer {
             ok: true,
             p: p.add(HEAD),
         }
@@ -58,8 +58,8 @@ fn answer_request(p: *mut u8, n: usize) -> Tried {
 static NOTHING: AtomicU64 = AtomicU64::new(0);
 
 /// Returns the answer that refuses a request.
-fn refuse_request() -> Tried {
-    Tried {
+fn refuse_request() -> HeapAnswer {
+    HeapAnswer {
         ok: false,
         p: NOTHING.as_ptr().cast(),
     }
@@ -72,7 +72,7 @@ fn is_refused() -> bool {
 
 /// Allocates a block for the library, unless the request is to be refused.
 #[unsafe(no_mangle)]
-extern "C" fn rattle_alloc(n: usize, _a: usize) -> Tried {
+extern "C" fn rattle_alloc(n: usize, _a: usize) -> HeapAnswer {
     if is_refused() {
         return refuse_request();
     }
@@ -83,7 +83,7 @@ extern "C" fn rattle_alloc(n: usize, _a: usize) -> Tried {
 
 /// Gives a block of the library another size, unless the request is to be refused.
 #[unsafe(no_mangle)]
-unsafe extern "C" fn rattle_realloc(p: *mut u8, _kept: usize, n: usize, _a: usize) -> Tried {
+unsafe extern "C" fn rattle_realloc(p: *mut u8, _kept: usize, n: usize, _a: usize) -> HeapAnswer {
     if is_refused() {
         return refuse_request();
     }

@@ -11,10 +11,10 @@ thread_local! {
 }
 
 /// The allocator, which counts the requests of each thread.
-struct Counting;
+struct CountingAllocator;
 
 // SAFETY: the system's allocator does the work.
-unsafe impl GlobalAlloc for Counting {
+unsafe impl GlobalAlloc for CountingAllocator {
     /// Counts a request, and allocates a block.
     unsafe fn alloc(&self, layout: Layout) -> *mut u8 {
         REQUESTS.set(REQUESTS.get() + 1);
@@ -30,7 +30,7 @@ unsafe impl GlobalAlloc for Counting {
 }
 
 #[global_allocator]
-static COUNTING: Counting = Counting;
+static COUNTING: CountingAllocator = CountingAllocator;
 
 /// Recovers parts without batches on so many threads, and returns how many requests for memory the calling thread made meanwhile.
 fn count_requests(parts: &[FilePart<'_>], workers: usize) -> usize {

@@ -2,7 +2,7 @@
 
 mod common;
 
-use common::hooked::{Call, Hooked};
+use common::hooked::{Call, HookedFiles};
 use raft_recover::{Engine, LogBatch, MemoryFiles, Options, Queue};
 use std::sync::Mutex;
 use std::sync::atomic::{AtomicBool, Ordering::SeqCst};
@@ -19,7 +19,7 @@ fn batch_of_one_entry(region: u64, index: u64, len: usize) -> LogBatch {
 #[test]
 fn writers_take_turns_with_the_moves_of_many_regions() {
     let (calls, is_moving) = (Mutex::new(Vec::new()), AtomicBool::new(false));
-    let hooked = Hooked::new(&MemoryFiles::new(), |call: Call<'_>| {
+    let hooked = HookedFiles::new(&MemoryFiles::new(), |call: Call<'_>| {
         if let Call::Write(file, _) = call {
             calls.lock().unwrap().push(file.queue);
             if file.queue == Queue::Rewrite {
@@ -65,7 +65,7 @@ fn writers_take_turns_with_the_moves_of_many_regions() {
 #[test]
 fn a_region_moves_in_turns_of_few_bytes() {
     let calls = Mutex::new(Vec::new());
-    let hooked = Hooked::new(&MemoryFiles::new(), |call: Call<'_>| {
+    let hooked = HookedFiles::new(&MemoryFiles::new(), |call: Call<'_>| {
         match call {
             Call::Write(file, bytes) if file.queue == Queue::Rewrite => {
                 calls.lock().unwrap().push(Some(bytes.len()));

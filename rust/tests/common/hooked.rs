@@ -26,20 +26,20 @@ impl Call<'_> {
 
 /// Files in memory that make a call of a test, the hook, before each call on them. Where the hook returns an error, so does the
 /// call, and nothing is done.
-pub struct Hooked<H> {
+pub struct HookedFiles<H> {
     pub files: MemoryFiles,
     hook: H,
 }
 
-impl<H: Fn(Call<'_>) -> io::Result<()> + Send + Sync> Hooked<H> {
+impl<H: Fn(Call<'_>) -> io::Result<()> + Send + Sync> HookedFiles<H> {
     /// Returns a handle to the same files that calls `hook` before each of their calls but `list`.
-    pub fn new(files: &MemoryFiles, hook: H) -> Hooked<H> {
+    pub fn new(files: &MemoryFiles, hook: H) -> HookedFiles<H> {
         let files = files.clone();
-        Hooked { files, hook }
+        HookedFiles { files, hook }
     }
 }
 
-impl<H: Fn(Call<'_>) -> io::Result<()> + Send + Sync> Files for Hooked<H> {
+impl<H: Fn(Call<'_>) -> io::Result<()> + Send + Sync> Files for HookedFiles<H> {
     /// Lists the files, without a call of the hook.
     fn list(&self, queue: Queue) -> io::Result<Vec<(u64, u64)>> {
         self.files.list(queue)

@@ -14,7 +14,7 @@ pub mod model;
 pub mod seeds;
 pub mod slots;
 
-/// Returns the name of file `seq` of the append queue, in version 2.
+/// Returns what names append file `seq`, as a file of version 2.
 pub fn append_file(seq: u64) -> LogFile {
     LogFile {
         queue: Queue::Append,

@@ -75,7 +75,7 @@ fn a_cleared_batch_is_open_and_has_no_items() {
 }
 
 #[test]
-fn a_batch_has_the_room_that_is_asked_for() {
+fn a_batch_takes_entries_whatever_room_it_was_made_with() {
     let engine = new_engine();
     for bytes in [0, 1, 4, 5 << 20] {
         let mut batch = LogBatch::with_capacity(bytes).unwrap();
@@ -134,7 +134,7 @@ const REFUSED: [&[Add]; 9] = [
 ];
 
 #[test]
-fn the_item_is_named_that_is_refused() {
+fn a_refused_batch_names_the_first_item_that_doesnt_fit() {
     for (row, adds) in REFUSED.iter().enumerate() {
         let engine = new_engine();
         write_batch(&engine, |batch| batch.add_entries(7, 3, &["3", "4", "5"]));
@@ -163,7 +163,7 @@ fn the_item_is_named_that_is_refused() {
 }
 
 #[test]
-fn a_written_batch_has_no_items_and_those_that_come_are_counted_anew() {
+fn a_written_batch_has_no_items_and_counts_new_ones_from_0() {
     let engine = new_engine();
     let mut batch = LogBatch::new().unwrap();
     for sync in [true, false] {
@@ -179,7 +179,7 @@ fn a_written_batch_has_no_items_and_those_that_come_are_counted_anew() {
     }
 }
 
-/// Draws changes of regions, some of which don't fit.
+/// Draws one to eight changes of the three regions, some of which tables refuse.
 fn draw_changes(draw: &mut Draw) -> Vec<(u64, Change)> {
     let count = 1 + draw.number_below(8);
     let change = |draw: &mut Draw| {
@@ -195,8 +195,8 @@ fn draw_changes(draw: &mut Draw) -> Vec<(u64, Change)> {
     (0..count).map(|_| change(draw)).collect()
 }
 
-/// Returns a batch with changes of regions.
-fn batch_of(changes: &[(u64, Change)]) -> LogBatch {
+/// Makes a batch with these changes, each given with its region. Panics where a batch can't have one.
+fn batch_of_changes(changes: &[(u64, Change)]) -> LogBatch {
     let mut batch = LogBatch::new().unwrap();
     for (region, change) in changes {
         change.add_to_batch(*region, &mut batch).unwrap();
@@ -205,7 +205,7 @@ fn batch_of(changes: &[(u64, Change)]) -> LogBatch {
 }
 
 #[test]
-fn all_items_before_the_named_one_fit_and_it_doesnt() {
+fn all_items_before_the_one_that_an_error_names_fit_and_it_doesnt() {
     let mut draw = Draw::new(5);
     let mut refused = 0;
     for _ in 0..3000 {
@@ -218,7 +218,7 @@ fn all_items_before_the_named_one_fit_and_it_doesnt() {
             }
         }
         let changes = draw_changes(&mut draw);
-        let batch = batch_of(&changes);
+        let batch = batch_of_changes(&changes);
         assert_eq!(batch.len(), changes.len());
         let Err(e) = tables.check_append(&batch) else {
             continue;
@@ -230,8 +230,10 @@ fn all_items_before_the_named_one_fit_and_it_doesnt() {
             panic!("item {item} has no entries: {e}")
         };
         assert_eq!((e.region, e.index), (Some(*region), Some(*first)));
-        tables.check_append(&batch_of(&changes[..item])).unwrap();
-        let same = tables.check_append(&batch_of(&changes[..=item]));
+        tables
+            .check_append(&batch_of_changes(&changes[..item]))
+            .unwrap();
+        let same = tables.check_append(&batch_of_changes(&changes[..=item]));
         assert_eq!(same, Err(e));
     }
     assert!(refused > 300, "{refused}");

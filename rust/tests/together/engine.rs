@@ -11,14 +11,14 @@ use std::ops::Bound;
 
 const FIRST: FileId = FileId::new(Queue::Append, 1);
 
-/// Returns entries as texts.
-fn texts(entries: Result<Entries>) -> Vec<String> {
+/// Returns entries that were read as texts. Panics where the read failed, or an entry is no text.
+fn entry_texts(entries: Result<Entries>) -> Vec<String> {
     let texts = entries.unwrap().map(String::from_utf8);
     texts.collect::<std::result::Result<_, _>>().unwrap()
 }
 
 #[test]
-fn what_is_written_is_found_again() {
+fn all_records_are_found_when_a_folder_is_opened_again() {
     let room = TempFolder::new();
     for (version, other) in [(Version::V2, Version::V1), (Version::V1, Version::V2)] {
         let path = room.path().join(version.to_string());
@@ -33,7 +33,7 @@ fn what_is_written_is_found_again() {
         write_batch(&engine, |batch| batch.compact(7, 2));
         drop(engine);
         let engine = open(version).unwrap();
-        assert_eq!(texts(engine.entries(7, ..)), ["", "three"]);
+        assert_eq!(entry_texts(engine.entries(7, ..)), ["", "three"]);
         assert_eq!(engine.entry(8, 5).unwrap().unwrap(), b"five");
         assert_eq!(engine.entry(8, 6).unwrap(), None);
         assert_eq!(engine.get(7, b"key").unwrap().unwrap(), b"value");
@@ -57,7 +57,7 @@ fn what_is_written_is_found_again() {
     }
 }
 
-/// Opens an engine whose region 7 has the entries 3 to 6.
+/// Opens an engine whose region 7 has the entries 3 to 6, of 3, 1, 2 and 1 bytes, after a compaction took 1 and 2.
 fn compacted_engine() -> Engine<MemoryFiles> {
     let engine = new_engine();
     write_batch(&engine, |batch| {
@@ -87,14 +87,14 @@ fn entries_are_read_by_ranges() {
         ((Bound::Excluded(u64::MAX), Bound::Included(u64::MAX)), &[]),
     ];
     for (range, expected) in rows {
-        assert_eq!(texts(engine.entries(7, range)), expected, "{range:?}");
+        assert_eq!(entry_texts(engine.entries(7, range)), expected, "{range:?}");
     }
-    assert_eq!(texts(engine.entries(9, ..)), [""; 0]);
-    assert_eq!(texts(engine.entries(9, 4..)), [""; 0]);
+    assert_eq!(entry_texts(engine.entries(9, ..)), [""; 0]);
+    assert_eq!(entry_texts(engine.entries(9, 4..)), [""; 0]);
 }
 
 #[test]
-fn ranges_that_a_region_has_not_are_refused() {
+fn ranges_that_a_region_lacks_are_refused() {
     let engine = compacted_engine();
     for (begin, end, kind, index) in [
         (2, 4, ErrorKind::EntryCompacted, 2),
@@ -116,7 +116,7 @@ fn ranges_that_a_region_has_not_are_refused() {
 }
 
 #[test]
-fn entries_are_read_up_to_a_size() {
+fn entries_are_read_up_to_a_number_of_bytes_and_at_least_one() {
     let engine = compacted_engine();
     for (max_size, expected) in [
         (0, 1),
@@ -138,8 +138,8 @@ fn an_entry_of_index_0_is_the_first_and_the_last_one() {
     write_batch(&engine, |batch| batch.add_entries(7, 0, &["none before"]));
     assert_eq!(engine.first_index(7).unwrap(), Some(0));
     assert_eq!(engine.last_index(7).unwrap(), Some(0));
-    assert_eq!(texts(engine.entries(7, ..)), ["none before"]);
-    assert_eq!(texts(engine.entries(7, 0..=0)), ["none before"]);
+    assert_eq!(entry_texts(engine.entries(7, ..)), ["none before"]);
+    assert_eq!(entry_texts(engine.entries(7, 0..=0)), ["none before"]);
 }
 
 #[test]
@@ -150,9 +150,9 @@ fn blocks_at_the_same_offset_of_several_files_are_told_apart() {
         engine.rotate().unwrap();
         assert_eq!(engine.entries(7, ..).unwrap().len() as u64, index);
     }
-    assert_eq!(texts(engine.entries(7, ..)), ["a", "b", "c"]);
+    assert_eq!(entry_texts(engine.entries(7, ..)), ["a", "b", "c"]);
     engine.rewrite(1).unwrap();
-    assert_eq!(texts(engine.entries(7, ..)), ["a", "b", "c"]);
+    assert_eq!(entry_texts(engine.entries(7, ..)), ["a", "b", "c"]);
 }
 
 #[test]
@@ -164,7 +164,7 @@ fn read_entries_are_an_iterator_from_both_ends() {
     let mut entries = engine.entries(7, 2..).unwrap();
     assert_eq!((entries.len(), entries.index()), (3, Some(2)));
     assert_eq!(entries.next_back().unwrap(), b"4");
-    assert_eq!(texts(Ok(entries.clone())), ["2", "3"]);
+    assert_eq!(entry_texts(Ok(entries.clone())), ["2", "3"]);
     assert_eq!(entries.nth(1).unwrap(), b"3");
     assert_eq!(
         (entries.next(), entries.next_back(), entries.index()),
@@ -178,7 +178,7 @@ fn read_entries_are_an_iterator_from_both_ends() {
 }
 
 #[test]
-fn a_refused_batch_stays_as_it_was_and_the_engine_goes_on() {
+fn a_refused_batch_is_left_unchanged_and_the_engine_goes_on() {
     let engine = new_engine();
     write_batch(&engine, |batch| batch.add_entries(7, 1, &["1", "2"]));
     let asked = engine.files().asked();
@@ -193,7 +193,7 @@ fn a_refused_batch_stays_as_it_was_and_the_engine_goes_on() {
     assert_eq!(engine.files().asked(), asked);
     write_batch(&engine, |batch| batch.add_entries(7, 3, &["3"]));
     engine.write(&mut batch, true).unwrap();
-    assert_eq!(texts(engine.entries(7, ..)), ["1", "2", "3", "4"]);
+    assert_eq!(entry_texts(engine.entries(7, ..)), ["1", "2", "3", "4"]);
     assert_eq!(engine.get(8, b"key").unwrap().unwrap(), b"value");
     assert_eq!(engine.stats().batches, 3);
 
@@ -220,7 +220,7 @@ fn a_batch_is_empty_once_it_was_written() {
 }
 
 #[test]
-fn a_sync_is_asked_where_it_is_wanted() {
+fn files_are_synced_only_where_a_call_wants_a_sync() {
     let engine = new_engine();
     let mut batch = LogBatch::new().unwrap();
     let mut asked = |sync, items: usize| {
@@ -241,7 +241,7 @@ fn a_sync_is_asked_where_it_is_wanted() {
 }
 
 #[test]
-fn batches_are_counted_that_have_items_and_syncs_that_are_made() {
+fn stats_count_batches_with_items_and_all_syncs() {
     let engine = new_engine();
     let before = engine.stats().syncs;
     let mut batch = LogBatch::new().unwrap();
@@ -261,7 +261,7 @@ fn batches_are_counted_that_have_items_and_syncs_that_are_made() {
 }
 
 #[test]
-fn files_are_begun_where_the_last_one_is_long_enough() {
+fn a_file_is_begun_once_the_last_one_has_enough_bytes() {
     let options = Options::new().target_file_size(200);
     let engine = Engine::with_files(MemoryFiles::new(), options).unwrap();
     for index in 1..=10 {
@@ -318,7 +318,7 @@ fn a_sync_begins_no_file_behind_an_empty_one() {
 }
 
 #[test]
-fn damaged_bytes_are_told_by_region_and_index_file_and_offset() {
+fn an_error_names_region_index_file_and_offset_of_damaged_entries() {
     let engine = new_engine();
     write_batch(&engine, |batch| batch.put(7, b"key", b"value"));
     write_batch(&engine, |batch| batch.add_entries(8, 1, &["damaged"]));
@@ -357,7 +357,7 @@ fn damaged_bytes_are_told_by_region_and_index_file_and_offset() {
 }
 
 #[test]
-fn damaged_bytes_that_are_to_move_again_are_told_by_file_and_offset() {
+fn an_error_names_file_and_offset_of_damaged_entries_that_are_to_move_again() {
     let engine = new_engine();
     for (region, text) in [(7, "sound"), (8, "damaged")] {
         write_batch(&engine, |batch| batch.add_entries(region, 1, &[text]));
@@ -390,11 +390,11 @@ fn damaged_bytes_that_are_to_move_again_are_told_by_file_and_offset() {
     assert_eq!((unmoved.file, unmoved.offset), (told.file, told.offset));
     write_batch(&engine, |batch| batch.clean(8));
     write_batch(&engine, |batch| batch.add_entries(7, 2, &["sound too"]));
-    assert_eq!(texts(engine.entries(7, 2..)), ["sound too"]);
+    assert_eq!(entry_texts(engine.entries(7, 2..)), ["sound too"]);
 }
 
 #[test]
-fn files_that_no_engine_of_this_crate_wrote_are_refused_and_stay_as_they_are() {
+fn foreign_damaged_and_torn_files_are_refused_and_left_unchanged() {
     let engine = new_engine();
     write_batch(&engine, |batch| batch.put(7, b"key", b"value"));
     write_batch(&engine, |batch| batch.put(7, b"key", b"another"));
@@ -429,7 +429,7 @@ fn files_that_no_engine_of_this_crate_wrote_are_refused_and_stay_as_they_are() {
 }
 
 #[test]
-fn a_file_of_raft_engine_is_found_wherever_it_stands() {
+fn a_file_of_raft_engine_is_refused_by_its_name_in_either_queue() {
     let foreign = b"RAFT-LOG-FILE-HEADER-9986AB3E47F320B394C8E84916EB0ED5".to_vec();
     let files = vec![(1, vec![]), (2, foreign.clone())];
     for (queue, append, rewrite) in [
@@ -465,7 +465,7 @@ fn a_torn_tail_is_cut_wherever_it_was_torn() {
         assert_eq!(engine.get(7, b"key").unwrap().unwrap(), b"value");
         assert_eq!(engine.entries(7, ..).unwrap().len(), 0);
         write_batch(&engine, |batch| batch.add_entries(7, 5, &["behind"]));
-        assert_eq!(texts(engine.entries(7, ..)), ["behind"]);
+        assert_eq!(entry_texts(engine.entries(7, ..)), ["behind"]);
     }
 }
 

@@ -20,7 +20,7 @@ fn four_batches(file: LogFile) -> (Vec<u8>, Vec<usize>) {
     (bytes, places)
 }
 
-/// Returns files of which the last one of a queue has this id and these bytes; the other queue has none.
+/// Returns a single file with this id and these bytes, as one that is found.
 fn found_files(id: FileId, bytes: &[u8]) -> MemoryFiles {
     let held = vec![(id.seq, bytes.to_vec())];
     match id.queue {
@@ -29,15 +29,16 @@ fn found_files(id: FileId, bytes: &[u8]) -> MemoryFiles {
     }
 }
 
-/// Opens such files, and returns how many bytes of that file the opening leaves, and how many it cuts off.
+/// Opens a single file with this id and these bytes, and returns how many of these the opening leaves, and how many it cuts off.
+/// Errs where it refuses the file.
 fn open_and_measure(id: FileId, bytes: &[u8], options: &Options) -> Result<(u64, u64), Error> {
     let engine = Engine::with_files(found_files(id, bytes), options.clone())?;
     let cut = engine.recovered().cuts().map(|cut| cut.len).sum();
     Ok((bytes.len() as u64 - cut, cut))
 }
 
-/// Tests that such files are refused at an offset, also where they are opened for reading only, and that nothing is asked of
-/// them.
+/// Tests that a single file with this id and these bytes is refused with this offset and reason, also where it is opened for
+/// reading only, and that nothing is asked of it but to read.
 fn assert_refused(id: FileId, bytes: &[u8], offset: usize, reason: &str) {
     let text =
         format!("Corruption: {id}, offset {offset}: no batch can be read there, but {reason}");
@@ -74,7 +75,7 @@ fn a_changed_bit_in_front_of_a_batch_that_can_be_read_is_damage() {
 }
 
 #[test]
-fn all_of_a_last_batch_that_cant_be_read_is_cut() {
+fn a_last_batch_that_cant_be_read_is_cut_as_a_whole() {
     let (bytes, places) = four_batches(append_file(1));
     let last = places[3];
     let id = FileId::from(append_file(1));
@@ -90,7 +91,7 @@ fn all_of_a_last_batch_that_cant_be_read_is_cut() {
 }
 
 #[test]
-fn a_changed_checksum_of_a_last_batch_may_be_that_for_another_file() {
+fn a_changed_bit_in_the_last_checksum_is_refused_where_it_signs_for_another_file() {
     let (bytes, places) = four_batches(append_file(1));
     let (id, last) = (FileId::from(append_file(1)), places[3]);
     for bit in 0..32 {
@@ -113,7 +114,7 @@ fn a_changed_checksum_of_a_last_batch_may_be_that_for_another_file() {
 }
 
 #[test]
-fn a_file_of_another_number_is_refused_and_that_is_named() {
+fn a_file_signed_for_another_number_is_refused_and_that_number_is_named() {
     for queue in [Queue::Append, Queue::Rewrite] {
         let (bytes, places) = four_batches(LogFile::new(queue, 3, Version::V2));
         let taken = FileId::new(queue, 2);
@@ -161,7 +162,7 @@ fn a_part_of_one_batch_is_cut_whatever_its_entries_hold() {
 }
 
 #[test]
-fn an_entry_that_ends_behind_its_block_is_refused_by_its_name() {
+fn an_entry_that_ends_behind_its_block_is_refused_by_region_and_index() {
     // of region 7 the entries 10 and 11, which end at the bytes 2 and 5 of no bytes
     let items = [1, 7, 1, 2, 10, 2, 3];
     let (len, block_end) = (16 + items.len() as u64 + 4, 16u64);
@@ -185,7 +186,7 @@ fn an_entry_that_ends_behind_its_block_is_refused_by_its_name() {
     }
 }
 
-/// Returns options with a mode.
+/// Returns the options that are the default, with this recovery mode.
 fn options_in_mode(mode: RecoveryMode) -> Options {
     Options::new().recovery_mode(mode)
 }

@@ -6,7 +6,7 @@ use crate::common::{append_file, batch_bytes};
 use raft_recover::{Ask, Engine, MemoryFiles, Options, Queue};
 
 #[test]
-fn records_move_and_files_go() {
+fn records_move_to_the_rewrite_queue_and_needless_files_are_deleted() {
     let options = Options::new().target_file_size(300);
     let files = MemoryFiles::new();
     let engine = Engine::with_files(files.clone(), options.clone()).unwrap();
@@ -78,7 +78,7 @@ fn a_large_region_moves_again_in_a_group_of_batches() {
 }
 
 #[test]
-fn a_rewriting_of_more_than_is_read_at_once_moves_all() {
+fn a_rewriting_moves_more_bytes_than_it_reads_at_once() {
     // 30 MiB, where 1 MiB or a region is read at once: so the blocks are listed many times
     let engine = new_engine();
     let entry = |region: u64| vec![region as u8; 3 << 20];
@@ -113,7 +113,7 @@ fn records_move_out_of_a_file_of_number_0() {
 }
 
 #[test]
-fn a_gate_behind_the_last_file_is_that_file() {
+fn a_gate_behind_the_last_file_moves_all_records() {
     let files = MemoryFiles::new();
     let engine = Engine::with_files(files.clone(), Options::new()).unwrap();
     for index in 1..=3 {
@@ -135,7 +135,7 @@ fn a_gate_behind_the_last_file_is_that_file() {
 }
 
 #[test]
-fn small_regions_move_all_at_once() {
+fn a_hundred_small_regions_move_in_one_write() {
     let engine = new_engine();
     for region in 1..=100 {
         write_batch(&engine, |batch| batch.add_entries(region, 1, &["x"]));
@@ -148,7 +148,7 @@ fn small_regions_move_all_at_once() {
 }
 
 #[test]
-fn a_purge_moves_records_where_there_are_too_many_bytes() {
+fn purges_keep_the_bytes_of_both_queues_within_limits() {
     let options = Options::new().target_file_size(500).purge_above(4000);
     let engine = Engine::with_files(MemoryFiles::new(), options).unwrap();
     for index in 1..=400 {
@@ -177,8 +177,9 @@ fn a_purge_moves_records_where_there_are_too_many_bytes() {
     }
 }
 
-/// Opens an engine, and writes ten entries of a hundred bytes, each in an append file of its own. An eleventh file is the last.
-fn ten_files(options: &Options) -> Engine<MemoryFiles> {
+/// Opens an engine with these options over new files in memory, and writes ten entries of a hundred bytes, each in an append file
+/// of its own. An eleventh file, the last one, is empty.
+fn engine_with_ten_files(options: &Options) -> Engine<MemoryFiles> {
     let options = options.clone().target_file_size(100);
     let engine = Engine::with_files(MemoryFiles::new(), options).unwrap();
     for index in 1..=10 {
@@ -190,10 +191,10 @@ fn ten_files(options: &Options) -> Engine<MemoryFiles> {
 
 #[test]
 fn a_purge_leaves_half_of_the_bytes_that_may_stay() {
-    let len = ten_files(&Options::new()).stats().append.bytes / 10;
+    let len = engine_with_ten_files(&Options::new()).stats().append.bytes / 10;
     // of so many files those that stay
     for (may_stay, stay) in [(10, 10), (9, 4), (8, 4), (7, 3), (1, 0)] {
-        let engine = ten_files(&Options::new().purge_above(may_stay * len));
+        let engine = engine_with_ten_files(&Options::new().purge_above(may_stay * len));
         let purged = engine.purge().unwrap();
         assert_eq!(purged.append_files as u64, 10 - stay, "{may_stay}");
         assert_eq!(engine.stats().append.bytes, stay * len);
@@ -237,9 +238,9 @@ fn a_purge_moves_nothing_out_of_the_file_that_is_written_to() {
 }
 
 #[test]
-fn records_move_again_once_there_are_twice_as_many_bytes() {
+fn records_move_again_once_the_rewrite_queue_has_twice_as_many_bytes() {
     for (more, purged) in [(8, 0), (12, 1)] {
-        let engine = ten_files(&Options::new().purge_above(200));
+        let engine = engine_with_ten_files(&Options::new().purge_above(200));
         engine.purge().unwrap();
         let before = engine.stats().rewrite.bytes;
         for index in 11..=10 + more {
@@ -253,8 +254,8 @@ fn records_move_again_once_there_are_twice_as_many_bytes() {
 }
 
 #[test]
-fn records_move_no_more_where_there_are_not_more_bytes() {
-    let engine = ten_files(&Options::new().purge_above(200));
+fn a_purge_asks_nothing_of_files_that_didnt_grow_since_the_last_one() {
+    let engine = engine_with_ten_files(&Options::new().purge_above(200));
     engine.purge().unwrap();
     let moved = engine.stats().rewrite;
     assert!(moved.bytes > 1000 && moved.files == 1, "{moved:?}");

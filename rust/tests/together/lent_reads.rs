@@ -58,7 +58,7 @@ fn entries_are_lent_in_order_with_their_indexes() {
 }
 
 #[test]
-fn an_entry_is_lent_if_there_is_one() {
+fn a_single_entry_is_lent_where_there_is_one() {
     let engine = engine_of_four_blocks();
     for (index, text) in (2..).zip(TEXTS) {
         let is_equal = engine.entry_with(7, index, |bytes| bytes == text.as_bytes());

@@ -7,7 +7,7 @@ use raft_recover::{
 };
 
 #[test]
-fn batches_are_walked_item_by_item() {
+fn the_batches_of_a_part_are_read_item_by_item() {
     let files = demo_files();
     let (mut batches, mut items, mut entries) = (0, 0, 0);
     for part in &append_parts(&files)[..3] {
@@ -33,7 +33,7 @@ fn batches_are_walked_item_by_item() {
 }
 
 #[test]
-fn a_torn_tail_is_found() {
+fn a_readable_front_ends_before_a_torn_batch() {
     let files = demo_files();
     let whole = append_parts(&files)[0];
     assert_eq!(readable_front(whole).unwrap(), (whole.bytes.len(), None));
@@ -72,7 +72,7 @@ fn a_torn_tail_is_found() {
 }
 
 #[test]
-fn batches_end_behind_a_refusal() {
+fn nothing_is_read_behind_a_batch_that_is_refused() {
     let sound = batch_bytes(append_file(1), |batch| batch.clean(7).unwrap());
     let torn = [&sound[..], &sound[..20], &sound[..]].concat();
     let mut batches = Batches::new(FilePart::new(append_file(1), &torn)).unwrap();
@@ -101,7 +101,7 @@ fn a_refusal_names_the_file_of_either_queue() {
 }
 
 #[test]
-fn a_tail_of_any_length_is_told() {
+fn a_torn_tail_of_any_length_is_refused() {
     let sound = batch_bytes(append_file(1), |batch| batch.clean(7).unwrap());
     for len in 1..sound.len() {
         let torn = [&sound[..], &sound[..len]].concat();
@@ -143,7 +143,7 @@ fn a_part_may_begin_anywhere_and_end_at_the_last_offset() {
 }
 
 #[test]
-fn entries_stand_where_the_part_and_the_batch_before_them_say() {
+fn offsets_of_entries_count_from_the_offset_of_their_part() {
     let bytes = batch_bytes(append_file(3), |batch| {
         batch.add_entries(7, 1, &["an entry"]).unwrap();
     });

@@ -7,8 +7,8 @@ use raft_recover::{
 };
 use std::collections::BTreeMap;
 
-/// Returns append file `seq`.
-fn append(seq: u64) -> FileId {
+/// Returns the id of append file `seq`.
+fn append_id(seq: u64) -> FileId {
     FileId::new(Queue::Append, seq)
 }
 
@@ -24,7 +24,7 @@ fn holder_numbers(holder: &Holder) -> (u64, u64, Option<u64>, u64) {
 }
 
 #[test]
-fn the_files_are_named_that_went() {
+fn a_purge_names_the_files_that_it_deleted() {
     let engine = new_engine();
     for index in 1..=4 {
         write_batch(&engine, |batch| batch.add_entries(7, index, &["an entry"]));
@@ -34,24 +34,24 @@ fn the_files_are_named_that_went() {
     assert_eq!((purged.files, purged.append_files), (vec![], 0));
     write_batch(&engine, |batch| batch.compact(7, 4));
     let purged = engine.purge().unwrap();
-    assert_eq!(purged.files, [1, 2, 3].map(append));
+    assert_eq!(purged.files, [1, 2, 3].map(append_id));
     assert_eq!((purged.append_files, purged.rewrite_files), (3, 0));
     engine.rewrite(4).unwrap();
     engine.rewrite_again().unwrap();
     let purged = engine.purge().unwrap();
-    assert_eq!(purged.files, [append(4), FileId::new(Queue::Rewrite, 1)]);
+    assert_eq!(purged.files, [append_id(4), FileId::new(Queue::Rewrite, 1)]);
     assert_eq!((purged.append_files, purged.rewrite_files), (1, 1));
 }
 
 #[test]
-fn a_needless_file_of_either_queue_is_something_to_do() {
+fn a_needless_file_of_either_queue_makes_a_purge_needed() {
     let engine = new_engine();
     write_batch(&engine, |batch| batch.add_entries(7, 1, &["an entry"]));
     engine.rotate().unwrap();
     assert!(!engine.needs_purge().unwrap());
     engine.rewrite(1).unwrap();
     assert!(engine.needs_purge().unwrap());
-    assert_eq!(engine.purge().unwrap().files, [append(1)]);
+    assert_eq!(engine.purge().unwrap().files, [append_id(1)]);
     assert!(!engine.needs_purge().unwrap());
     engine.rewrite_again().unwrap();
     assert!(engine.needs_purge().unwrap());
@@ -102,11 +102,11 @@ fn the_holders_of_the_oldest_file_are_named_with_what_they_have_there() {
     );
     write_batch(&engine, |batch| batch.delete(11, b"key"));
     let purged = engine.purge().unwrap();
-    assert_eq!((purged.files, purged.holders), (vec![append(1)], vec![]));
+    assert_eq!((purged.files, purged.holders), (vec![append_id(1)], vec![]));
 }
 
 #[test]
-fn what_moved_is_held_by_nobody() {
+fn a_region_whose_records_moved_is_no_holder() {
     let engine = new_engine();
     write_batch(&engine, |batch| batch.add_entries(7, 1, &["1", "2"]));
     engine.rotate().unwrap();
@@ -115,7 +115,7 @@ fn what_moved_is_held_by_nobody() {
     write_batch(&engine, |batch| batch.add_entries(7, 6, &["6"]));
     engine.rewrite(1).unwrap();
     let purged = engine.purge().unwrap();
-    assert_eq!(purged.files, [append(1)]);
+    assert_eq!(purged.files, [append_id(1)]);
     // those that moved go with the compaction, too
     assert_eq!(
         purged
@@ -151,7 +151,7 @@ fn make_random_change(
 }
 
 #[test]
-fn a_purge_asks_something_of_the_files_where_one_is_needed_and_else_nothing() {
+fn a_purge_asks_nothing_of_files_unless_one_is_needed() {
     let (mut needed, mut needless) = (0, 0);
     for seed in 0..30 {
         let mut draw = Draw::new(seed);
@@ -179,8 +179,9 @@ fn a_purge_asks_something_of_the_files_where_one_is_needed_and_else_nothing() {
     assert!(needed > 100 && needless > 100, "{needed} {needless}");
 }
 
-/// Opens an engine, gives it a random history, and returns it with the regions that need its oldest file.
-fn drawn_holders(seed: u64) -> (Engine<MemoryFiles>, Vec<Holder>) {
+/// Opens an engine, gives it the random history of a seed, and purges it. Returns it with the regions that need its oldest append
+/// file.
+fn draw_holders(seed: u64) -> (Engine<MemoryFiles>, Vec<Holder>) {
     let mut draw = Draw::new(seed);
     let options = Options::new().target_file_size(300);
     let engine = Engine::with_files(MemoryFiles::new(), options).unwrap();
@@ -196,17 +197,17 @@ fn drawn_holders(seed: u64) -> (Engine<MemoryFiles>, Vec<Holder>) {
     (engine, holders)
 }
 
-/// Returns the regions of those holders that need a file.
-fn regions<'a>(holders: impl IntoIterator<Item = &'a Holder>, file: FileId) -> Vec<u64> {
+/// Returns the regions of those holders whose file is `file`, in order.
+fn regions_that_need<'a>(holders: impl IntoIterator<Item = &'a Holder>, file: FileId) -> Vec<u64> {
     let of_file = holders.into_iter().filter(|holder| holder.file == file);
     of_file.map(|holder| holder.region).collect()
 }
 
 #[test]
-fn once_its_holders_let_go_the_oldest_file_goes_and_nothing_moves() {
+fn the_oldest_file_is_deleted_without_a_move_once_its_holders_let_go() {
     let mut held = 0;
     for seed in 0..60 {
-        let (engine, holders) = drawn_holders(seed);
+        let (engine, holders) = draw_holders(seed);
         let Some(file) = holders.first().map(|holder| holder.file) else {
             continue;
         };
@@ -227,8 +228,12 @@ fn once_its_holders_let_go_the_oldest_file_goes_and_nothing_moves() {
         engine.write(&mut batch, false).unwrap();
         let left = engine.purge().unwrap().holders;
         let with_entries = holders.iter().filter(|holder| holder.compact_to.is_some());
-        let kept = regions(with_entries.clone(), file);
-        assert_eq!(regions(&left, file), kept, "seed {seed}: {holders:?}");
+        let kept = regions_that_need(with_entries.clone(), file);
+        assert_eq!(
+            regions_that_need(&left, file),
+            kept,
+            "seed {seed}: {holders:?}"
+        );
         for holder in with_entries {
             let index = holder.compact_to.unwrap();
             batch.compact(holder.region, index).unwrap();
@@ -244,7 +249,7 @@ fn once_its_holders_let_go_the_oldest_file_goes_and_nothing_moves() {
 
 /// Opens an engine, moves a hundred entries to its rewrite queue, and compacts `garbage` of them, so that as many of a hundred
 /// bytes there, or some more, aren't needed.
-fn rewritten_with_garbage(options: Options, garbage: u8) -> Engine<MemoryFiles> {
+fn engine_with_garbage(options: Options, garbage: u8) -> Engine<MemoryFiles> {
     let engine = Engine::with_files(MemoryFiles::new(), options).unwrap();
     write_batch(&engine, |batch| {
         batch.add_entries(7, 1, &vec!["x".repeat(90); 100])
@@ -257,7 +262,7 @@ fn rewritten_with_garbage(options: Options, garbage: u8) -> Engine<MemoryFiles> 
 }
 
 #[test]
-fn records_move_again_where_so_many_of_a_hundred_bytes_arent_needed() {
+fn records_move_again_once_the_share_of_garbage_reaches_the_limit() {
     for (garbage, limit, is_moved) in [
         (60, 60, true),
         (60, 80, false),
@@ -268,7 +273,7 @@ fn records_move_again_where_so_many_of_a_hundred_bytes_arent_needed() {
         (0, 0, true),
     ] {
         let options = Options::new().purge_above(1000).purge_garbage(limit);
-        let engine = rewritten_with_garbage(options, garbage);
+        let engine = engine_with_garbage(options, garbage);
         let found = MemoryFiles::found(
             engine.files().files(Queue::Append),
             engine.files().files(Queue::Rewrite),
@@ -281,7 +286,7 @@ fn records_move_again_where_so_many_of_a_hundred_bytes_arent_needed() {
 }
 
 #[test]
-fn bytes_that_are_needed_are_counted_by_queue() {
+fn usage_counts_the_bytes_that_are_needed_in_each_queue() {
     let engine = new_engine();
     assert_eq!(engine.usage().unwrap(), Default::default());
     write_batch(&engine, |batch| {
@@ -319,7 +324,7 @@ fn bytes_that_are_needed_are_counted_by_queue() {
 }
 
 #[test]
-fn a_hundredth_is_never_more_than_there_is() {
+fn the_share_of_garbage_is_rounded_down() {
     for (live, dead, garbage) in [
         (0, 0, 0),
         (1, 0, 0),
@@ -338,11 +343,11 @@ fn a_hundredth_is_never_more_than_there_is() {
 }
 
 #[test]
-fn a_failed_engine_says_what_it_needs_as_long_as_it_is_read() {
+fn a_failed_engine_still_says_its_usage_and_needs() {
     let engine = new_engine();
     write_batch(&engine, |batch| batch.add_entries(7, 1, &["an entry"]));
     engine.rotate().unwrap();
-    engine.files().rotate(append(3)).unwrap(); // behind the engine's back: its next file can't be begun
+    engine.files().rotate(append_id(3)).unwrap(); // behind the engine's back: its next file can't be begun
     engine.rotate().unwrap_err();
     assert_eq!(engine.purge().unwrap_err().kind, ErrorKind::Failed);
     assert_eq!(engine.usage().unwrap().append.live, 8);

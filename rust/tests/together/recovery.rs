@@ -59,7 +59,7 @@ fn contexts_move_to_other_threads() {
 }
 
 #[test]
-fn nothing_is_recovered_of_nothing() {
+fn recovery_of_no_parts_finds_no_regions() {
     let tables = recover(&[], Queue::Append, 3).unwrap();
     assert_eq!(tables.to_string(), "cleaned -\nlive 0 0\n");
     let tables = recover_both(&[], &[], 3).unwrap();
@@ -143,7 +143,7 @@ fn a_batch_is_read_in_the_version_that_it_is_written_in() {
 }
 
 #[test]
-fn a_context_says_how_much_it_holds() {
+fn a_context_counts_what_its_tables_have() {
     let files = demo_files();
     let mut context = Context::new().unwrap();
     for part in append_parts(&files) {
@@ -163,7 +163,7 @@ fn a_context_says_how_much_it_holds() {
 }
 
 #[test]
-fn the_numbers_of_a_context_are_told_apart() {
+fn a_context_counts_each_kind_of_what_it_keeps() {
     let file = LogFile {
         queue: Queue::Rewrite,
         ..append_file(1)
@@ -232,7 +232,7 @@ fn parts_without_bytes_change_nothing() {
 }
 
 #[test]
-fn of_several_refusals_the_first_is_told() {
+fn of_several_files_that_are_refused_the_first_one_is_named() {
     let run = |seq, first| {
         batch_bytes(append_file(seq), |batch| {
             batch.add_entries(7, first, &["x"]).unwrap();
@@ -253,7 +253,7 @@ fn of_several_refusals_the_first_is_told() {
 }
 
 #[test]
-fn a_refusal_has_a_kind_and_a_text_and_empties_the_context() {
+fn after_a_refusal_all_calls_of_a_context_fail() {
     let files = demo_files();
     let mut context = Context::new().unwrap();
     let whole = append_parts(&files)[0];
@@ -275,7 +275,7 @@ fn a_refusal_has_a_kind_and_a_text_and_empties_the_context() {
 }
 
 #[test]
-fn a_hole_is_told_by_its_batch_or_by_its_region() {
+fn a_hole_is_refused_by_its_batch_or_in_a_merge_by_its_region() {
     let run = |first, seq| {
         batch_bytes(append_file(seq), |batch| {
             batch.add_entries(7, first, &["x"]).unwrap();
@@ -369,7 +369,7 @@ fn a_merge_in_the_wrong_order_is_refused() {
 }
 
 #[test]
-fn an_overlay_asks_for_one_context_of_each_queue() {
+fn an_overlay_takes_one_context_of_each_queue() {
     let files = demo_files();
     let read = || {
         let mut context = Context::new().unwrap();
@@ -421,6 +421,7 @@ fn an_overlaid_context_serves_kept_and_finish_alone() {
 
 #[test]
 fn types_may_move_to_other_threads_but_not_be_shared() {
+    /// Compiles only for types that may move to other threads.
     fn is_send<T: Send>() {}
     is_send::<Context>();
     is_send::<Tables>();

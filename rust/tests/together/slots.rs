@@ -99,7 +99,7 @@ fn a_region_of_another_slot_is_refused() {
 }
 
 #[test]
-fn a_group_marker_changes_no_slot() {
+fn a_slot_takes_a_group_marker_and_stays_unchanged() {
     let mut slot = empty_slot(7);
     let key = b"__\x01".to_vec();
     let put = Content::Put {
@@ -155,7 +155,7 @@ fn the_items_of_a_batch_are_written_one_by_one() {
 }
 
 #[test]
-fn a_clean_that_is_written_is_listed() {
+fn a_region_that_a_written_item_cleans_is_listed() {
     let mut slot = empty_slot(7);
     slot.append(7, &entries_in_file(Queue::Append, 9, 10..20))
         .unwrap();
@@ -294,7 +294,7 @@ fn a_slot_lists_its_regions() {
 }
 
 #[test]
-fn slots_under_locks_get_the_recovered_tables() {
+fn slots_that_threads_fill_under_locks_have_the_recovered_tables() {
     let files = demo_files();
     let slots: Vec<_> = (0..SLOTS)
         .map(|n| Mutex::new(Slot::new(n).unwrap()))
@@ -383,6 +383,7 @@ fn recovered_tables_are_divided_into_slots() {
 
 #[test]
 fn a_slot_moves_to_another_thread() {
+    /// Compiles only for types that may move to other threads.
     fn is_send<T: Send>() {}
     is_send::<Slot>();
     is_send::<LogBatch>();

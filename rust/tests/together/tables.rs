@@ -46,7 +46,7 @@ fn entries_are_appended_read_and_dropped() {
 }
 
 #[test]
-fn entries_keep_their_places() {
+fn entries_keep_their_blocks_offsets_and_lengths() {
     let place = |queue, index, offset, len| Entry {
         index,
         block: Block {
@@ -114,7 +114,7 @@ fn keys_are_put_read_and_deleted() {
 }
 
 #[test]
-fn places_are_rewritten_up_to_the_gate() {
+fn records_move_up_to_the_gate() {
     let mut tables = Tables::new().unwrap();
     tables
         .append(7, &entries_in_file(Queue::Append, 9, 10..12))
@@ -328,7 +328,7 @@ fn regions_are_removed_and_listed() {
 }
 
 #[test]
-fn tables_are_merged() {
+fn newer_tables_are_merged_into_older_ones_and_a_hole_is_refused() {
     let mut older = Tables::new().unwrap();
     older
         .append(7, &entries_in_file(Queue::Append, 9, 10..20))
@@ -351,8 +351,8 @@ fn tables_are_merged() {
     assert_eq!(older.summary(7).unwrap().entries, 7);
 }
 
-/// Makes tables with these runs of entries, each given as its region and its indexes, which moved from file 1 of the append queue
-/// to file 2 of the rewrite queue. Region 7 also has a key in that file.
+/// Makes tables with runs of entries, each given as its region and its indexes. They have moved from file 1 of the append queue to
+/// file 2 of the rewrite queue, where region 7 also has a key.
 fn rewritten_tables(runs: &[(u64, std::ops::Range<u64>)]) -> Tables {
     let mut tables = Tables::new().unwrap();
     for (region, range) in runs {
@@ -420,7 +420,7 @@ fn the_items_of_all_batches_give_the_recovered_tables() {
 }
 
 #[test]
-fn items_of_the_append_queue_are_no_rewriting() {
+fn a_batch_of_the_append_queue_is_refused_as_a_rewriting() {
     let files = demo_files();
     let batch = Batches::new(append_parts(&files)[0])
         .unwrap()

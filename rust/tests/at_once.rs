@@ -139,7 +139,7 @@ fn all_threads_of_a_recovery_read_at_the_same_time() {
 }
 
 #[test]
-fn an_engine_is_opened_on_as_many_threads_as_its_options_say() {
+fn an_engine_is_opened_on_the_number_of_threads_in_its_options() {
     let _turn = TURN.lock();
     for value in [0, 100 << 10] {
         let files: Vec<_> = (1..).zip(eight_files(value)).collect();

@@ -54,7 +54,7 @@ impl Writer {
     }
 
     /// Returns the number of its last batch, 0 before the first one.
-    fn last_batch(&self) -> u64 {
+    fn last_batch_number(&self) -> u64 {
         self.states.len() as u64 - 1
     }
 
@@ -62,7 +62,7 @@ impl Writer {
     fn take_all_steps<F: Files>(&mut self, engine: &Engine<F>, files: &MemoryFiles) -> Result<()> {
         for _ in 0..STEPS {
             if self.take_step(engine)? {
-                self.acks.push((files.asked(), self.last_batch()));
+                self.acks.push((files.asked(), self.last_batch_number()));
             }
         }
         Ok(())
@@ -98,7 +98,7 @@ impl Writer {
         batch.put(
             self.region_id(0),
             COUNT,
-            &(self.last_batch() + 1).to_le_bytes(),
+            &(self.last_batch_number() + 1).to_le_bytes(),
         )?;
         for _ in 0..1 + self.draw.number_below(3) {
             let i = self.draw.number_below(2);

@@ -14,6 +14,7 @@ use std::sync::{Arc, OnceLock};
 use std::time::Duration;
 use std::{io, thread};
 
+/// The first append file.
 const FIRST: FileId = FileId::new(Queue::Append, 1);
 
 /// Makes the batch of a number: an entry of region 7 with the number as its index and text, and a key with it as its value.

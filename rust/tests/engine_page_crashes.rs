@@ -23,6 +23,7 @@ const STEPS: usize = 30;
 /// How many regions have entries: 1 to 3. Region 0 has the number of the last batch.
 const REGIONS: usize = 3;
 
+/// Both queues, the append queue first.
 const QUEUES: [Queue; 2] = [Queue::Append, Queue::Rewrite];
 
 /// What an engine has to have after a batch.
@@ -236,7 +237,7 @@ impl Left {
     }
 
     /// Opens an engine over what is left, and returns the files and the result of the opening, which may be a refusal.
-    fn open(&self, seed: u64) -> (MemoryFiles, Result<Engine<MemoryFiles>>) {
+    fn open_engine(&self, seed: u64) -> (MemoryFiles, Result<Engine<MemoryFiles>>) {
         let [append, rewrite] = self.files.clone();
         let files = MemoryFiles::found(append, rewrite);
         let engine = Engine::with_files(files.clone(), options_of_seed(seed));
@@ -427,7 +428,7 @@ fn crash_everywhere(history: &History, counts: &Counts) {
         let synced = places.iter().filter(|place| Some(**place) < sync).count();
         for _ in 0..4 {
             let left = Left::draw_crash(history, asked, &mut draw);
-            let (files, opened) = left.open(history.seed);
+            let (files, opened) = left.open_engine(history.seed);
             let engine = match opened {
                 Ok(engine) => engine,
                 Err(e) => {

@@ -15,8 +15,11 @@ use std::sync::mpsc;
 use std::thread;
 use std::time::Duration;
 
+/// The first append file.
 const FIRST: FileId = FileId::new(Queue::Append, 1);
+/// The second append file.
 const SECOND: FileId = FileId::new(Queue::Append, 2);
+/// The first rewrite file.
 const REWRITTEN: FileId = FileId::new(Queue::Rewrite, 1);
 
 /// Returns the names of the files in a folder, in order.

@@ -10,8 +10,11 @@ use std::ffi::c_int;
 use std::path::Path;
 use std::{fs, io, mem};
 
+/// The first append file.
 const FIRST: FileId = FileId::new(Queue::Append, 1);
+/// The second append file.
 const SECOND: FileId = FileId::new(Queue::Append, 2);
+/// The first rewrite file.
 const REWRITTEN: FileId = FileId::new(Queue::Rewrite, 1);
 
 thread_local! {

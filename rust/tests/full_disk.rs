@@ -16,6 +16,7 @@ use std::process::Command;
 use std::sync::{Mutex, MutexGuard, PoisonError};
 use std::{fs, io};
 
+/// The first append file.
 const FIRST: FileId = FileId::new(Queue::Append, 1);
 
 /// The length of an entry, in bytes.

@@ -23,6 +23,7 @@ use std::sync::atomic::{AtomicUsize, Ordering::SeqCst};
 use std::time::Duration;
 use std::{env, thread};
 
+/// The region that has the log.
 const REGION: u64 = 7;
 
 /// What a log has to have.

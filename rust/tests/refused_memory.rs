@@ -322,7 +322,7 @@ fn run_with_granted_requests(files: &MemoryFiles, granted: i64, written: &mut u6
 }
 
 #[test]
-fn a_torn_tail_that_is_found_without_memory_is_cut_where_it_begins() {
+fn a_torn_tail_is_cut_where_it_begins_or_nothing_is_opened_where_memory_lacks() {
     let _turn = TURN.lock();
     let sound = batch_bytes(append_file(1), |more| {
         more.merge(&mut small_batch()).unwrap()
@@ -348,7 +348,7 @@ fn a_torn_tail_that_is_found_without_memory_is_cut_where_it_begins() {
 }
 
 #[test]
-fn damaged_batches_that_are_found_without_memory_are_all_named_or_nothing_is_opened() {
+fn damaged_batches_are_all_named_or_nothing_is_opened_where_memory_lacks() {
     let _turn = TURN.lock();
     let mut one = batch_bytes(append_file(1), |more| {
         more.merge(&mut small_batch()).unwrap()

@@ -5,6 +5,7 @@
 use super::entries_in_file;
 use raft_recover::{FileId, Queue, Slot, Tables, slot_of};
 
+/// Append file 9.
 pub const APPEND_9: FileId = FileId {
     queue: Queue::Append,
     seq: 9,

@@ -7,6 +7,7 @@ use raft_recover::{
     Error, ErrorKind, LogBatch, LogFile, Queue, Result, Stage, Tables, Version, slot_of,
 };
 
+/// The regions that changes are drawn for.
 const REGIONS: [u64; 3] = [7, 8, 9];
 
 #[test]

@@ -7,6 +7,7 @@ use raft_recover::{
 };
 use std::thread;
 
+/// Append file 3.
 const APPEND_3: FileId = FileId {
     queue: Queue::Append,
     seq: 3,

@@ -8,6 +8,7 @@ use raft_recover::{
     Engine, Error, ErrorKind, FileId, LogBatch, MemoryFiles, Options, Queue, Result,
 };
 
+/// The first append file.
 const FIRST: FileId = FileId::new(Queue::Append, 1);
 
 /// Returns a copy of files, as files that are found, after `change` has changed its two queues, the append queue first.

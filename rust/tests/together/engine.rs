@@ -9,6 +9,7 @@ use raft_recover::{
 };
 use std::ops::Bound;
 
+/// The first append file.
 const FIRST: FileId = FileId::new(Queue::Append, 1);
 
 /// Returns entries that were read as texts. Panics where the read failed, or an entry is no text.

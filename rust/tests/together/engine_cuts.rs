@@ -9,6 +9,7 @@ use std::collections::BTreeMap;
 use std::fs;
 use std::path::Path;
 
+/// The first append file.
 const FIRST: FileId = FileId::new(Queue::Append, 1);
 
 /// Returns the bytes of an append file of two batches, and how many of them are those of the first batch.

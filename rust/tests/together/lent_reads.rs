@@ -19,6 +19,7 @@ fn engine_of_four_blocks() -> Engine<MemoryFiles> {
     engine
 }
 
+/// The texts of the entries 2 to 7 of `engine_of_four_blocks`.
 const TEXTS: [&str; 6] = ["22", "333", "4444", "5", "66", ""];
 
 /// Tests whether two byte strings follow one another in memory, so that neither was copied.

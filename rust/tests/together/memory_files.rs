@@ -5,9 +5,13 @@ use raft_recover::{Ask, Engine, FileId, Files, LogBatch, MemoryFiles, Options, Q
 use std::io;
 use std::sync::Arc;
 
+/// The first append file.
 const FIRST: FileId = FileId::new(Queue::Append, 1);
+/// The second append file.
 const SECOND: FileId = FileId::new(Queue::Append, 2);
+/// The first rewrite file.
 const REWRITTEN: FileId = FileId::new(Queue::Rewrite, 1);
+/// Nothing of what isn't synced.
 const NONE: Unsynced = Unsynced {
     steps: 0,
     deletions: 0,

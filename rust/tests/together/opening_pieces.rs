@@ -12,11 +12,13 @@ use std::collections::BTreeMap;
 use std::io;
 use std::sync::Mutex;
 
+/// How many bytes of a file are read at once, unless a batch is longer.
 const PIECE: usize = 4 << 20;
 
 /// The length in bytes of the entries of which most files are made. More than six of them make a piece.
 const ENTRY: usize = 600 << 10;
 
+/// The numbers of threads that files are opened on.
 const THREADS: [usize; 3] = [1, 2, 4];
 
 /// What an engine has, by its regions.

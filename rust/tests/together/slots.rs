@@ -168,7 +168,7 @@ fn a_region_that_a_written_item_cleans_is_listed() {
 }
 
 #[test]
-fn a_slot_keeps_limits_and_gates() {
+fn a_slot_returns_no_records_beyond_a_limit_or_gate() {
     let mut slot = empty_slot(7);
     let first = FileId { seq: 0, ..APPEND_9 };
     slot.append(7, &entries_in_file(Queue::Append, 0, 10..14))

@@ -8,6 +8,7 @@ use raft_recover::{
     Summary, Tables, crc32, recover,
 };
 
+/// Append file 9.
 const APPEND_9: FileId = FileId {
     queue: Queue::Append,
     seq: 9,

@@ -77,7 +77,7 @@ all_are!(Send, Sync => Arc<dyn Listener>);
 all_are!(Send, Sync, Clone => Batches<'static>);
 
 #[test]
-fn queues_have_words_and_numbers() {
+fn queues_are_converted_from_words_and_numbers() {
     for (number, queue, word) in [(0, Queue::Append, "append"), (1, Queue::Rewrite, "rewrite")] {
         assert_eq!(Queue::try_from(number), Ok(queue));
         assert_eq!(word.parse(), Ok(queue));
@@ -95,7 +95,7 @@ fn queues_have_words_and_numbers() {
 }
 
 #[test]
-fn versions_have_numbers() {
+fn versions_are_converted_from_numbers() {
     for (number, version, text) in [(1, Version::V1, "V1"), (2, Version::V2, "V2")] {
         assert_eq!(Version::try_from(number), Ok(version));
         assert_eq!(version.to_string(), text);
@@ -127,7 +127,7 @@ fn files_are_ordered_by_queue_and_number() {
 }
 
 #[test]
-fn kinds_have_words_of_their_own() {
+fn each_kind_of_error_has_words_of_its_own() {
     let kinds = (1..=12).map(|number| ErrorKind::try_from(number).unwrap());
     let words: HashSet<_> = kinds.map(|kind| kind.to_string()).collect();
     assert_eq!(words.len(), 12);

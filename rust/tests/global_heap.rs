@@ -1,5 +1,5 @@
 //! Tests that with the feature `global-allocator` the library's memory comes from the program's allocator, and goes back there
-//! with the same layout. Each request is also refused once.
+//! with the same layout. Each request is also the first one that is refused.
 #![cfg(feature = "global-allocator")]
 
 mod common;
@@ -21,7 +21,7 @@ static WRONG: AtomicUsize = AtomicUsize::new(0);
 thread_local! {
     /// How many blocks of the library this thread holds.
     static LIVE: Cell<i64> = const { Cell::new(0) };
-    /// How many requests of the library are granted before one is refused.
+    /// How many more requests of the library are granted to this thread; all later ones are refused.
     static GRANTED: Cell<u64> = const { Cell::new(u64::MAX) };
 }
 
@@ -37,8 +37,7 @@ fn layout_with_note(layout: Layout) -> (Layout, usize) {
 
 // SAFETY: the system's allocator does the work. A block that grows is a new one, as it is by default.
 unsafe impl GlobalAlloc for NotingAllocator {
-    /// Allocates a block with a note of its layout before it. Where it is that request's turn, it refuses one of the library:
-    /// returns null.
+    /// Allocates a block with a note of its layout before it. Returns null to the library once its granted requests are used up.
     unsafe fn alloc(&self, layout: Layout) -> *mut u8 {
         if layout.align() == OF_LIBRARY {
             if GRANTED.get() == 0 {
@@ -123,7 +122,7 @@ fn blocks_go_back_to_the_allocator_with_the_layout_that_they_came_with() {
 }
 
 #[test]
-fn no_block_is_left_whichever_request_is_refused() {
+fn no_block_is_left_whichever_request_is_the_first_to_be_refused() {
     for granted in 0.. {
         GRANTED.set(granted);
         let result = run_engine_steps();

@@ -20,7 +20,7 @@ const STEP: u64 = 7_919;
 type MemoryEngine = Engine<MemoryFiles>;
 
 /// Runs a phase, which returns how many units it had, and prints its line: the name, that number, the unit, and how many
-/// nanoseconds each took.
+/// nanoseconds each took. Errs, and prints nothing, where the phase does.
 fn run_phase(name: &str, unit: &str, phase: impl FnOnce() -> Result<u64>) -> Result<()> {
     let begun = Instant::now();
     let count = phase()?;
@@ -29,44 +29,44 @@ fn run_phase(name: &str, unit: &str, phase: impl FnOnce() -> Result<u64>) -> Res
     Ok(())
 }
 
-/// Adds to a batch the entries of the batch numbered `number` of a region.
-fn fill_batch(batch: &mut LogBatch, region: u64, number: u64) -> Result<()> {
+/// Adds the entries of the batch with this number of a region to `batch`: the first batch is number 0.
+fn add_batch_entries(batch: &mut LogBatch, region: u64, number: u64) -> Result<()> {
     batch.add_entries(region, number * ENTRIES + 1, &[[7; 128]; ENTRIES as usize])
 }
 
-/// Makes batches, and writes none.
+/// Makes `batches` batches of each region, and writes none.
 #[inline(never)]
 fn phase_make(batches: u64) -> Result<u64> {
     for number in 0..batches {
         for region in 0..REGIONS {
             let mut batch = LogBatch::new()?;
-            fill_batch(&mut batch, region, number)?;
+            add_batch_entries(&mut batch, region, number)?;
             hint::black_box(&batch);
         }
     }
     Ok(batches * REGIONS)
 }
 
-/// Makes batches, and writes each once.
+/// Makes `batches` batches of each region, and writes each once.
 #[inline(never)]
 fn phase_write(engine: &MemoryEngine, batches: u64) -> Result<u64> {
     for number in 0..batches {
         for region in 0..REGIONS {
             let mut batch = LogBatch::new()?;
-            fill_batch(&mut batch, region, number)?;
+            add_batch_entries(&mut batch, region, number)?;
             engine.write(&mut batch, false)?;
         }
     }
     Ok(batches * REGIONS)
 }
 
-/// Fills a single batch again and again, and writes it each time.
+/// Fills a single batch again and again, `batches` times for each region, and writes it each time.
 #[inline(never)]
 fn phase_write_again(engine: &MemoryEngine, batches: u64) -> Result<u64> {
     let mut batch = LogBatch::new()?;
     for number in batches..2 * batches {
         for region in 0..REGIONS {
-            fill_batch(&mut batch, region, number)?;
+            add_batch_entries(&mut batch, region, number)?;
             engine.write(&mut batch, false)?;
         }
     }
@@ -115,15 +115,15 @@ fn phase_for_each_entry(engine: &MemoryEngine, entries: u64) -> Result<u64> {
     Ok(entries * REGIONS)
 }
 
-/// Moves all records to the rewrite queue.
+/// Moves all records, those of append file 1, to the rewrite queue. Returns how many entries these are.
 #[inline(never)]
 fn phase_rewrite(engine: &MemoryEngine, entries: u64) -> Result<u64> {
     engine.rewrite(1)?;
     Ok(entries * REGIONS)
 }
 
-/// Runs the phases that read. `which` is added to their names.
-fn read_all(engine: &MemoryEngine, entries: u64, which: &str) -> Result<()> {
+/// Runs the phases that read, each of as many calls as there are entries. `which` is added to their names.
+fn run_read_phases(engine: &MemoryEngine, entries: u64, which: &str) -> Result<()> {
     run_phase(&format!("entry{which}"), "entry", || {
         phase_entry(engine, entries)
     })?;
@@ -149,9 +149,9 @@ fn main() -> std::result::Result<(), Box<dyn std::error::Error>> {
     run_phase("fill again and write", "batch", || {
         phase_write_again(&engine, batches)
     })?;
-    read_all(&engine, entries, "")?;
+    run_read_phases(&engine, entries, "")?;
     engine.rotate()?;
     run_phase("rewrite", "entry", || phase_rewrite(&engine, entries))?;
-    read_all(&engine, entries, " of rewritten ones")?;
+    run_read_phases(&engine, entries, " of rewritten ones")?;
     Ok(())
 }

@@ -32,36 +32,36 @@ impl<F: Files> RaftStorage<F> {
             snapshot: SnapshotMetadata::default(),
             terms: vec![0],
         };
-        if let [index, term, voters @ ..] = &log.numbers(SNAPSHOT)?[..] {
+        if let [index, term, voters @ ..] = &log.read_u64s(SNAPSHOT)?[..] {
             (log.snapshot.index, log.snapshot.term) = (*index, *term);
             (log.snapshot.conf_state, log.terms) = (voters.to_vec(), vec![*term]);
         }
         let found = log.engine.entries(region, ..).map_err(Other)?;
-        log.terms.extend(found.iter().map(|e| entry_of(e).term));
+        log.terms.extend(found.iter().map(|e| decode_entry(e).term));
         Ok(log)
     }
 
-    /// Returns the numbers in the value of a key, none where there is no value.
-    fn numbers(&self, key: &[u8]) -> Result<Vec<u64>> {
+    /// Reads the numbers in the value of a key: none where there is no value.
+    fn read_u64s(&self, key: &[u8]) -> Result<Vec<u64>> {
         let value = self.engine.get(self.region, key).map_err(Other)?;
         let numbers = value.as_deref().unwrap_or_default().as_chunks().0;
         Ok(numbers.iter().map(|n| u64::from_le_bytes(*n)).collect())
     }
 
-    /// Writes what `add` adds to a batch, and syncs it: all of it or nothing.
-    fn write(&self, add: impl FnOnce(&mut LogBatch) -> raft_recover::Result<()>) -> Result<()> {
+    /// Writes a batch with what `add` adds to it, all of it or nothing, and syncs it.
+    fn persist(&self, add: impl FnOnce(&mut LogBatch) -> raft_recover::Result<()>) -> Result<()> {
         let mut batch = LogBatch::new().map_err(Other)?;
         add(&mut batch).map_err(Other)?;
         self.engine.write(&mut batch, true).map_err(Other)
     }
 
-    /// Appends entries with consecutive indexes. Those from the first one's index on are replaced.
+    /// Appends entries with consecutive indexes, in place of those from the first one's index on.
     pub fn append(&mut self, entries: &[Entry]) -> Result<()> {
         let first = entries.first().map_or(self.last_index()? + 1, |e| e.index);
         self.term(first.wrapping_sub(1))?;
         let bytes = |entry: &Entry| [&entry.term.to_le_bytes(), &entry.data[..]].concat();
         let bytes: Vec<_> = entries.iter().map(bytes).collect();
-        self.write(|batch| batch.add_entries(self.region, first, &bytes))?;
+        self.persist(|batch| batch.add_entries(self.region, first, &bytes))?;
         self.terms.truncate((first - self.snapshot.index) as usize);
         self.terms.extend(entries.iter().map(|entry| entry.term));
         Ok(())
@@ -70,7 +70,7 @@ impl<F: Files> RaftStorage<F> {
     /// Replaces the hard state.
     pub fn set_hard_state(&mut self, state: HardState) -> Result<()> {
         let bytes = [state.term, state.vote, state.commit].map(u64::to_le_bytes);
-        self.write(|batch| batch.put(self.region, HARD_STATE, &bytes.concat()))
+        self.persist(|batch| batch.put(self.region, HARD_STATE, &bytes.concat()))
     }
 
     /// Removes the entries in a snapshot that the node made, whose term is taken from the log.
@@ -87,11 +87,11 @@ impl<F: Files> RaftStorage<F> {
         self.put_snapshot(self.last_index()? + 1, vec![snapshot.term], snapshot)
     }
 
-    /// Writes that entries below `end` are removed, and the snapshot that has them.
+    /// Writes the snapshot `of`, and that entries below `end` are removed. `terms` are the terms from then on.
     fn put_snapshot(&mut self, end: u64, terms: Vec<u64>, of: SnapshotMetadata) -> Result<()> {
         let numbers = [&[of.index, of.term], &of.conf_state[..]].concat();
         let bytes: Vec<_> = numbers.iter().flat_map(|n| n.to_le_bytes()).collect();
-        self.write(|batch| {
+        self.persist(|batch| {
             batch.compact(self.region, end)?;
             batch.put(self.region, SNAPSHOT, &bytes)
         })?;
@@ -102,7 +102,7 @@ impl<F: Files> RaftStorage<F> {
 
 impl<F: Files> Storage for RaftStorage<F> {
     fn initial_state(&self) -> Result<(HardState, ConfState)> {
-        let [term, vote, commit] = self.numbers(HARD_STATE)?.try_into().unwrap_or_default();
+        let [term, vote, commit] = self.read_u64s(HARD_STATE)?.try_into().unwrap_or_default();
         let commit = commit.max(self.snapshot.index); // what is in a snapshot is committed
         let conf_state = self.snapshot.conf_state.clone();
         Ok((HardState { term, vote, commit }, conf_state))
@@ -113,7 +113,7 @@ impl<F: Files> Storage for RaftStorage<F> {
         self.term(high.wrapping_sub(1))?;
         let size = max_size.into().unwrap_or(u64::MAX);
         let found = self.engine.entries_up_to(self.region, low..high, size);
-        Ok(found.map_err(Other)?.iter().map(entry_of).collect())
+        Ok(found.map_err(Other)?.iter().map(decode_entry).collect())
     }
 
     fn term(&self, index: u64) -> Result<u64> {
@@ -135,8 +135,8 @@ impl<F: Files> Storage for RaftStorage<F> {
     }
 }
 
-/// Makes an entry of its index and of the bytes that `append` wrote.
-fn entry_of((index, bytes): (u64, &[u8])) -> Entry {
+/// Makes an entry from its index and the bytes that `append` wrote: its term, then its data.
+fn decode_entry((index, bytes): (u64, &[u8])) -> Entry {
     let (term, data) = bytes.split_first_chunk().expect("a term stands in front");
     let (term, data) = (u64::from_le_bytes(*term), data.to_vec());
     Entry { index, term, data }

@@ -21,29 +21,29 @@ const WRITING: [(u64, bool); 4] = [(1, false), (4, false), (1, true), (4, true)]
 const READING: [usize; 3] = [1, 2, 4];
 
 /// Makes a batch of a region: eight entries of 128 bytes, the first of them at the index `first`, and a key with the last index.
-fn batch(region: u64, first: u64) -> Result<LogBatch> {
+fn new_batch(region: u64, first: u64) -> Result<LogBatch> {
     let mut batch = LogBatch::new()?;
     batch.add_entries(region, first, &[[7; 128]; 8])?;
     batch.put(region, b"last", &(first + 7).to_le_bytes())?;
     Ok(batch)
 }
 
-/// Returns how many bytes such a batch has in a file.
+/// Returns how many bytes a batch of `new_batch` has in a file.
 fn encoded_len() -> Result<usize> {
-    let mut batch = batch(1, 1)?;
+    let mut batch = new_batch(1, 1)?;
     batch.finish()
 }
 
-/// Writes batches from so many threads for half a second. Returns how many batches a second that were, and how many shared a sync
-/// on average.
-fn write(folder: &Path, threads: u64, sync: bool) -> Result<(f64, f64)> {
+/// Writes batches to a new folder from so many threads for half a second, each with a sync if `sync`. Returns how many batches a
+/// second that were, and how many shared a sync on average.
+fn time_writes(folder: &Path, threads: u64, sync: bool) -> Result<(f64, f64)> {
     let engine = Engine::open(folder, Options::new())?;
     let begun = Instant::now();
     thread::scope(|scope| {
         let write = |region| -> Result<()> {
             let mut first = engine.last_index(region)?.map_or(1, |last| last + 1);
             while begun.elapsed() < HALF_A_SECOND {
-                engine.write(&mut batch(region, first)?, sync)?;
+                engine.write(&mut new_batch(region, first)?, sync)?;
                 first += 8;
             }
             Ok(())
@@ -62,7 +62,7 @@ fn write(folder: &Path, threads: u64, sync: bool) -> Result<(f64, f64)> {
 }
 
 /// Appends `len` bytes to a new file again and again for half a second, without a sync, and returns how often a second that was.
-fn append(path: &Path, len: usize) -> io::Result<f64> {
+fn time_appends(path: &Path, len: usize) -> io::Result<f64> {
     let (mut file, bytes) = (fs::File::create_new(path)?, vec![7; len]);
     let (begun, mut count) = (Instant::now(), 0.0);
     while begun.elapsed() < HALF_A_SECOND {
@@ -72,11 +72,11 @@ fn append(path: &Path, len: usize) -> io::Result<f64> {
     Ok(count / begun.elapsed().as_secs_f64())
 }
 
-/// Fills a folder with batches of a thousand regions until its append files have `bytes` bytes.
+/// Writes batches of a thousand regions to a new folder until its append files have `bytes` bytes, and syncs them.
 fn fill_folder(folder: &Path, bytes: u64) -> Result<()> {
     let engine = Engine::open(folder, Options::new())?;
     for n in 0.. {
-        engine.write(&mut batch(n % 1000, n / 1000 * 8 + 1)?, false)?;
+        engine.write(&mut new_batch(n % 1000, n / 1000 * 8 + 1)?, false)?;
         if engine.stats().append.bytes >= bytes {
             break;
         }
@@ -84,7 +84,7 @@ fn fill_folder(folder: &Path, bytes: u64) -> Result<()> {
     engine.sync()
 }
 
-/// Reads the append files of a folder into memory, oldest first.
+/// Reads the append files of a folder into memory, and returns each with its bytes, oldest first.
 fn read_append_files(folder: &Path) -> Result<Vec<(LogFile, Vec<u8>)>> {
     let engine = Engine::open(folder, Options::new())?;
     let mut files = Vec::new();
@@ -127,14 +127,14 @@ fn time_all_reads(log: &Path, rounds: u64) -> Result<[f64; 2]> {
 
 /// Writes to a log of `bytes` bytes while another thread purges it. Returns how many milliseconds the longest write took, and how
 /// many writes there were.
-fn write_beside_a_purge(log: &Path, bytes: u64) -> Result<(f64, u64)> {
+fn time_writes_beside_purge(log: &Path, bytes: u64) -> Result<(f64, u64)> {
     let engine = Engine::open(log, Options::new().purge_above(bytes / 2))?;
     engine.rotate()?;
     let (mut longest, mut count) = (0.0, 0);
     thread::scope(|scope| {
         let purge = scope.spawn(|| engine.purge());
         while !purge.is_finished() {
-            let mut batch = batch(1000, 8 * count + 1)?;
+            let mut batch = new_batch(1000, 8 * count + 1)?;
             let took = time_call(|| engine.write(&mut batch, false))?;
             longest = took.max(longest);
             count += 1;
@@ -170,14 +170,14 @@ fn main() -> std::result::Result<(), Box<dyn std::error::Error>> {
     for round in 0..rounds {
         for (best, (threads, sync)) in written.iter_mut().zip(WRITING) {
             let path = folder.join(format!("{round}-{threads}-{sync}"));
-            let now = write(&path, threads, sync)?;
+            let now = time_writes(&path, threads, sync)?;
             fs::remove_dir_all(path)?;
             if now.0 > best.0 {
                 *best = now;
             }
         }
         let path = folder.join(format!("{round}-plain"));
-        appended = append(&path, len)?.max(appended);
+        appended = time_appends(&path, len)?.max(appended);
         fs::remove_file(path)?;
         for (i, threads) in READING.into_iter().enumerate() {
             let now = time_call(|| recover(&parts, Queue::Append, threads))?;
@@ -200,7 +200,7 @@ fn main() -> std::result::Result<(), Box<dyn std::error::Error>> {
     }
     let [kept, in_order] = time_all_reads(&log, rounds)?;
     println!("an entry of blocks in turn: {kept:.0} ns, of regions in order: {in_order:.0} ns");
-    let (longest, count) = write_beside_a_purge(&log, bytes)?;
+    let (longest, count) = time_writes_beside_purge(&log, bytes)?;
     println!("the longest of {count} writes beside a purge: {longest:.1} ms");
     Ok(())
 }

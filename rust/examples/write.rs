@@ -20,8 +20,13 @@ struct Log {
     len: u64,
 }
 
-/// Writes a batch to the end of the log, syncs it, and applies its items to the tables.
-fn write(log: &Mutex<Log>, slots: &[Mutex<Slot>; SLOTS], mut batch: LogBatch) -> Outcome<()> {
+/// Writes a batch to the end of the log, syncs it, and applies its items to the tables of their slots. Errs where one of these
+/// fails; then the file may have the batch and the tables not.
+fn write_and_apply(
+    log: &Mutex<Log>,
+    slots: &[Mutex<Slot>; SLOTS],
+    mut batch: LogBatch,
+) -> Outcome<()> {
     batch.finish()?;
     batch.sign(FILE)?;
     let bytes = batch.bytes()?;
@@ -45,7 +50,7 @@ fn write_region(log: &Mutex<Log>, slots: &[Mutex<Slot>; SLOTS], region: u64) -> 
         let mut batch = LogBatch::new()?;
         batch.add_entries(region, first, &["an entry"; 10])?;
         batch.put(region, b"last", &(first + 9).to_le_bytes())?;
-        write(log, slots, batch)?;
+        write_and_apply(log, slots, batch)?;
     }
     Ok(())
 }

@@ -4,8 +4,8 @@
 
 mod common;
 
-use common::hooked::{Call, Hooked};
-use common::{batch_bytes, file, parts};
+use common::hooked::{Call, HookedFiles};
+use common::{append_file, append_parts, batch_bytes};
 use raft_recover::{Engine, MemoryFiles, Options, Queue, recover};
 use std::collections::HashSet;
 use std::ffi::c_void;
@@ -29,7 +29,8 @@ static MEETING: Mutex<Option<Meeting>> = Mutex::new(None);
 /// Wakes the waiting threads when another one has come.
 static HAS_COME: Condvar = Condvar::new();
 
-/// Comes to the meeting, if there is one, and waits until all have come, for 20 seconds at most.
+/// Comes to the meeting, if there is one, and waits until all have come. After 20 seconds in vain the meeting is missed, and all
+/// go on.
 fn meet() {
     let mut meeting = MEETING.lock().unwrap();
     if let Some(meeting) = &mut *meeting {
@@ -48,7 +49,7 @@ fn meet() {
     }
 }
 
-/// Begins a meeting of so many threads, unless there is one.
+/// Begins a meeting of `expected` threads, unless there is one already.
 fn call_meeting(expected: usize) {
     let meeting = Meeting {
         expected,
@@ -57,7 +58,7 @@ fn call_meeting(expected: usize) {
     MEETING.lock().unwrap().get_or_insert(meeting);
 }
 
-/// Ends the meeting, and returns how many threads came; `None` where one of them waited in vain.
+/// Ends the meeting, and returns how many threads came; `None` where one of them waited in vain. Panics where there is no meeting.
 fn end_meeting() -> Option<usize> {
     let meeting = MEETING.lock().unwrap().take().unwrap();
     (!meeting.is_missed).then_some(meeting.come.len())
@@ -65,7 +66,7 @@ fn end_meeting() -> Option<usize> {
 
 /// The answer to a request for memory, as the library reads it: whether it is granted, and the block.
 #[repr(C)]
-struct Tried {
+struct HeapAnswer {
     ok: bool,
     p: *mut c_void,
 }
@@ -76,39 +77,44 @@ unsafe extern "C" {
     fn free(p: *mut c_void);
 }
 
-/// Returns the answer that grants a request, with its block.
-fn granted(p: *mut c_void) -> Tried {
+/// Returns the answer that grants a request with the block at `p`. Panics where there is none.
+fn grant_block(p: *mut c_void) -> HeapAnswer {
     assert!(!p.is_null());
-    Tried { ok: true, p }
+    HeapAnswer { ok: true, p }
 }
 
-/// Allocates a block for the library, after the calling thread has met the others.
+/// Allocates a block of `n` bytes for the library, after the calling thread has met the others.
 #[unsafe(no_mangle)]
-extern "C" fn rattle_alloc(n: usize, _a: usize) -> Tried {
+extern "C" fn rattle_alloc(n: usize, _a: usize) -> HeapAnswer {
     meet();
     // SAFETY: any size may be asked for; blocks are aligned to 16 bytes.
-    granted(unsafe { malloc(n.max(1)) })
+    grant_block(unsafe { malloc(n.max(1)) })
 }
 
-/// Gives a block of the library another size.
+/// Gives a block of the library `n` bytes, and returns it at its new place.
 #[unsafe(no_mangle)]
-unsafe extern "C" fn rattle_realloc(p: *mut c_void, _kept: usize, n: usize, _a: usize) -> Tried {
-    // SAFETY: the block came from `granted`.
-    granted(unsafe { realloc(p, n.max(1)) })
+unsafe extern "C" fn rattle_realloc(
+    p: *mut c_void,
+    _kept: usize,
+    n: usize,
+    _a: usize,
+) -> HeapAnswer {
+    // SAFETY: the block came from `grant_block`.
+    grant_block(unsafe { realloc(p, n.max(1)) })
 }
 
 /// Frees a block of the library.
 #[unsafe(no_mangle)]
 unsafe extern "C" fn rattle_dealloc(p: *mut c_void) {
-    // SAFETY: the block came from `granted`.
+    // SAFETY: the block came from `grant_block`.
     unsafe { free(p) }
 }
 
-/// Returns the bytes of eight files, each of a batch that puts a value of `value` bytes and then cleans its region.
-fn files(value: usize) -> Vec<Vec<u8>> {
+/// Returns the bytes of eight files, each of one batch that puts a value of `value` bytes and then cleans its region.
+fn eight_files(value: usize) -> Vec<Vec<u8>> {
     (1..=8)
         .map(|seq| {
-            batch_bytes(file(seq), |batch| {
+            batch_bytes(append_file(seq), |batch| {
                 batch.put(seq, b"key", &vec![7; value]).unwrap();
                 batch.clean(seq).unwrap();
             })
@@ -122,8 +128,8 @@ static TURN: Mutex<()> = Mutex::new(());
 #[test]
 fn all_threads_of_a_recovery_read_at_the_same_time() {
     let _turn = TURN.lock();
-    let files = files(0);
-    let parts = parts(&files);
+    let files = eight_files(0);
+    let parts = append_parts(&files);
     for workers in 1..=8 {
         call_meeting(workers);
         let tables = recover(&parts, Queue::Append, workers);
@@ -133,14 +139,14 @@ fn all_threads_of_a_recovery_read_at_the_same_time() {
 }
 
 #[test]
-fn an_engine_is_opened_on_as_many_threads_as_its_options_say() {
+fn an_engine_is_opened_on_the_number_of_threads_in_its_options() {
     let _turn = TURN.lock();
     for value in [0, 100 << 10] {
-        let files: Vec<_> = (1..).zip(files(value)).collect();
+        let files: Vec<_> = (1..).zip(eight_files(value)).collect();
         for threads in 1..=8 {
             let found = MemoryFiles::found(files.clone(), vec![(1, vec![])]);
             // each thread replays what it has read of a file, and waits there
-            let hooked = Hooked::new(&found, |call: Call<'_>| {
+            let hooked = HookedFiles::new(&found, |call: Call<'_>| {
                 if let Call::Read(..) = call {
                     call_meeting(threads);
                 }

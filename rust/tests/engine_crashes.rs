@@ -6,9 +6,9 @@
 mod common;
 
 use common::TempFolder;
-use common::both::Both;
-use common::model::{COUNT, Change, Draw, Region, region_of};
-use common::seeds::{number, run_each};
+use common::both::FolderWithCopy;
+use common::model::{COUNT, Change, Draw, Region, read_region};
+use common::seeds::{number_from_env, run_histories};
 use raft_recover::{
     Ask, Batches, Content, Engine, FilePart, Files, FolderFiles, LogBatch, LogFile, MemoryFiles,
     Options, Queue, Result, Unsynced, Version,
@@ -38,7 +38,7 @@ struct Writer {
 }
 
 impl Writer {
-    /// Returns the thread with the number `id` in the history of a seed. It has written nothing yet.
+    /// Returns the thread with the number `id` in the history of a seed, before its first step.
     fn new(seed: u64, id: u64) -> Writer {
         Writer {
             id,
@@ -48,59 +48,65 @@ impl Writer {
         }
     }
 
-    /// Returns its region with the number `i`: 0 has the number of its last batch, 1 and 2 what it writes.
-    fn region(&self, i: u64) -> u64 {
+    /// Returns the id of its region at position `i`: 0 has the number of its last batch, 1 and 2 have what it writes.
+    fn region_id(&self, i: u64) -> u64 {
         10 * self.id + i
     }
 
-    /// Returns the number of its last batch.
-    fn last(&self) -> u64 {
+    /// Returns the number of its last batch, 0 before the first one.
+    fn last_batch_number(&self) -> u64 {
         self.states.len() as u64 - 1
     }
 
-    /// Takes all of its steps, and notes after which of them all that it has written is synced.
-    fn run<F: Files>(&mut self, engine: &Engine<F>, files: &MemoryFiles) -> Result<()> {
+    /// Takes all of its steps, and notes after which of them all that it has written is synced. Errs where a step does.
+    fn take_all_steps<F: Files>(&mut self, engine: &Engine<F>, files: &MemoryFiles) -> Result<()> {
         for _ in 0..STEPS {
-            if self.step(engine)? {
-                self.acks.push((files.asked(), self.last()));
+            if self.take_step(engine)? {
+                self.acks.push((files.asked(), self.last_batch_number()));
             }
         }
         Ok(())
     }
 
-    /// Takes a random step, and returns whether all that the thread has written is synced then.
-    fn step<F: Files>(&mut self, engine: &Engine<F>) -> Result<bool> {
-        match self.draw.below(20) {
+    /// Takes a random step, and returns whether all that the thread has written is synced then. Errs where a call of the engine
+    /// does.
+    fn take_step<F: Files>(&mut self, engine: &Engine<F>) -> Result<bool> {
+        match self.draw.number_below(20) {
             0 => engine.rotate().map(|()| true),
             1 | 2 => {
                 let last = engine.stats().append.last_file;
-                let gate = last - self.draw.below(2) as u64;
+                let gate = last - self.draw.number_below(2) as u64;
                 engine.rewrite(gate).map(|()| false)
             }
             3 => engine.rewrite_again().map(|()| false),
             4 => engine.purge().map(|_| false),
             5 => engine.sync().map(|()| true),
             6 => {
-                let found = [1, 2].map(|i| region_of(engine, self.region(i)).unwrap());
+                let found = [1, 2].map(|i| read_region(engine, self.region_id(i)).unwrap());
                 assert_eq!(&found, self.states.last().unwrap());
                 Ok(false)
             }
-            _ => self.write(engine),
+            _ => self.write_random_batch(engine),
         }
     }
 
-    /// Writes a batch of random changes, and returns whether it is synced.
-    fn write<F: Files>(&mut self, engine: &Engine<F>) -> Result<bool> {
+    /// Writes a batch of random changes, notes the state after it, and returns whether it is synced. Errs where a call of the
+    /// engine does.
+    fn write_random_batch<F: Files>(&mut self, engine: &Engine<F>) -> Result<bool> {
         let mut state = self.states.last().unwrap().clone();
         let mut batch = LogBatch::new()?;
-        batch.put(self.region(0), COUNT, &(self.last() + 1).to_le_bytes())?;
-        for _ in 0..1 + self.draw.below(3) {
-            let i = self.draw.below(2);
+        batch.put(
+            self.region_id(0),
+            COUNT,
+            &(self.last_batch_number() + 1).to_le_bytes(),
+        )?;
+        for _ in 0..1 + self.draw.number_below(3) {
+            let i = self.draw.number_below(2);
             let change = Change::draw(&mut self.draw, &state[i]);
             change.apply(&mut state[i]);
-            change.add(self.region(1 + i as u64), &mut batch)?;
+            change.add_to_batch(self.region_id(1 + i as u64), &mut batch)?;
         }
-        let sync = self.draw.once_in(2);
+        let sync = self.draw.happens_once_in(2);
         engine.write(&mut batch, sync)?;
         self.states.push(state);
         Ok(sync)
@@ -116,8 +122,8 @@ struct History {
     order: Vec<(usize, usize, u64)>,
 }
 
-/// Returns options with files so small that an engine does all that it can do to them.
-fn options(seed: u64) -> Options {
+/// Returns the options of a history: files so small that records move and files are deleted, and version 1 for one seed in five.
+fn options_of_seed(seed: u64) -> Options {
     let version = if seed.is_multiple_of(5) {
         Version::V1
     } else {
@@ -137,10 +143,10 @@ impl History {
         let mut writers: Vec<_> = (0..1 + seed % 3).map(|id| Writer::new(seed, id)).collect();
         thread::scope(|scope| {
             for writer in &mut writers {
-                scope.spawn(|| writer.run(engine, files).unwrap());
+                scope.spawn(|| writer.take_all_steps(engine, files).unwrap());
             }
         });
-        let order = order_of(&files.asks(), engine.options().version);
+        let order = batch_order(&files.asks(), engine.options().version);
         History {
             seed,
             writers,
@@ -149,14 +155,14 @@ impl History {
         }
     }
 
-    /// Tests that an engine opened over what a crash behind the first `asks` asks left has a prefix of all batches, with all that
-    /// were synced, and just their records. Returns the number of each thread's last batch that is there.
-    fn check<F: Files>(&self, engine: &Engine<F>, asks: usize) -> Vec<u64> {
+    /// Tests an engine that was opened over what a crash behind the first `asks` asks left: it has a prefix of all batches, with
+    /// all that were synced, and just their records. Returns for each thread the number of its last batch that is there.
+    fn assert_prefix<F: Files>(&self, engine: &Engine<F>, asks: usize) -> Vec<u64> {
         let counts: Vec<_> = self
             .writers
             .iter()
             .map(|writer| {
-                let value = engine.get(writer.region(0), COUNT).unwrap();
+                let value = engine.get(writer.region_id(0), COUNT).unwrap();
                 value.map_or(0, |value| u64::from_le_bytes(value.try_into().unwrap()))
             })
             .collect();
@@ -164,7 +170,7 @@ impl History {
             let acks = writer.acks.iter().filter(|(asked, _)| *asked <= asks);
             let acked = acks.map(|(_, number)| *number).max().unwrap_or(0);
             assert!(acked <= *count, "{acked} batches last, {count} are there");
-            let found = [1, 2].map(|i| region_of(engine, writer.region(i)).unwrap());
+            let found = [1, 2].map(|i| read_region(engine, writer.region_id(i)).unwrap());
             assert_eq!(found, writer.states[*count as usize]);
         }
         // the batches are a prefix of all that were written
@@ -177,7 +183,7 @@ impl History {
 }
 
 /// Returns the batches that the asks write, in order: the position of the ask, the thread, and the number of the batch.
-fn order_of(asks: &[Ask], version: Version) -> Vec<(usize, usize, u64)> {
+fn batch_order(asks: &[Ask], version: Version) -> Vec<(usize, usize, u64)> {
     let mut order = Vec::new();
     for (at, ask) in asks.iter().enumerate() {
         let Ask::Write(file, bytes) = ask else {
@@ -203,74 +209,80 @@ fn order_of(asks: &[Ask], version: Version) -> Vec<(usize, usize, u64)> {
 
 /// Returns how much of what isn't synced behind the first `asks` asks crashes may leave of both queues: nothing, all, and random
 /// prefixes; with `by_byte` also each prefix of one queue.
-fn stops(history: &History, asks: usize, draw: &mut Draw, by_byte: bool) -> Vec<[Unsynced; 2]> {
+fn possible_crashes(
+    history: &History,
+    asks: usize,
+    draw: &mut Draw,
+    by_byte: bool,
+) -> Vec<[Unsynced; 2]> {
     let most = [Queue::Append, Queue::Rewrite].map(|queue| history.files.unsynced(asks, queue));
     let none = Unsynced::default();
-    let mut stops = vec![[none; 2], most, [most[0], none], [none, most[1]]];
+    let mut crashes = vec![[none; 2], most, [most[0], none], [none, most[1]]];
     if by_byte {
         for steps in 0..=most[0].steps {
             let front = Unsynced { steps, ..most[0] };
-            stops.push([front, none]);
+            crashes.push([front, none]);
         }
         for steps in 0..=most[1].steps {
             let front = Unsynced { steps, ..most[1] };
-            stops.push([most[0], front]);
+            crashes.push([most[0], front]);
         }
     }
-    stops.push(most.map(|most| Unsynced {
-        steps: draw.below(most.steps + 1),
-        deletions: draw.below(most.deletions + 1),
+    crashes.push(most.map(|most| Unsynced {
+        steps: draw.number_below(most.steps + 1),
+        deletions: draw.number_below(most.deletions + 1),
     }));
-    stops
+    crashes
 }
 
-/// Crashes the machine in a history behind one in four asks, and opens and tests what is left. Returns how many crashes there
-/// were.
-fn stop_everywhere(history: &History) -> u64 {
+/// Crashes the machine behind one in four asks of a history, opens what each crash leaves, and tests it. Returns how many crashes
+/// there were.
+fn crash_everywhere(history: &History) -> u64 {
     let seed = history.seed;
     let mut draw = Draw::new(!seed);
     let by_byte = seed.is_multiple_of(BY_BYTE);
     let mut count = 0;
     for asks in 0..=history.files.asked() {
-        if !draw.once_in(4) {
+        if !draw.happens_once_in(4) {
             continue;
         }
-        for [append, rewrite] in stops(history, asks, &mut draw, by_byte) {
+        for [append, rewrite] in possible_crashes(history, asks, &mut draw, by_byte) {
             let left = history.files.left(asks, append, rewrite);
-            if seed.is_multiple_of(IN_FOLDER) && draw.once_in(8) {
-                open_in_folder(history, &left, asks);
+            if seed.is_multiple_of(IN_FOLDER) && draw.happens_once_in(8) {
+                assert_prefix_in_folder(history, &left, asks);
             }
-            let threads = if draw.once_in(40) { 3 } else { 1 };
-            let options = options(seed).recovery_threads(threads);
+            let threads = if draw.happens_once_in(40) { 3 } else { 1 };
+            let options = options_of_seed(seed).recovery_threads(threads);
             let engine = Engine::with_files(left.clone(), options).unwrap();
-            let counts = history.check(&engine, asks);
+            let counts = history.assert_prefix(&engine, asks);
             count += 1;
-            if draw.once_in(16) {
-                go_on(history, &engine, &left, &counts, &mut draw);
-            } else if draw.once_in(16) {
+            if draw.happens_once_in(16) {
+                write_after_crash(history, &engine, &left, &counts, &mut draw);
+            } else if draw.happens_once_in(16) {
                 drop(engine);
-                count += stop_in_opening(history, &left, asks, &counts);
+                count += crash_in_opening(history, &left, asks, &counts);
             }
         }
     }
     count
 }
 
-/// Writes files that a crash left into a folder, opens that, and tests it.
-fn open_in_folder(history: &History, left: &MemoryFiles, asks: usize) {
+/// Writes files that a crash behind the first `asks` asks left into a folder, opens that, and tests that the engine has a prefix
+/// of all batches.
+fn assert_prefix_in_folder(history: &History, left: &MemoryFiles, asks: usize) {
     let room = TempFolder::new();
     for (queue, ending) in [(Queue::Append, "raftlog"), (Queue::Rewrite, "rewrite")] {
         for (seq, bytes) in left.files(queue) {
             fs::write(room.path().join(format!("{seq:016}.{ending}")), bytes).unwrap();
         }
     }
-    let engine = Engine::open(room.path(), options(history.seed)).unwrap();
-    history.check(&engine, asks);
+    let engine = Engine::open(room.path(), options_of_seed(history.seed)).unwrap();
+    history.assert_prefix(&engine, asks);
 }
 
 /// Crashes the machine also in the opening of files that a crash left, and tests that all batches which that opening found are
 /// there again. Returns how many crashes there were.
-fn stop_in_opening(history: &History, left: &MemoryFiles, asks: usize, counts: &[u64]) -> u64 {
+fn crash_in_opening(history: &History, left: &MemoryFiles, asks: usize, counts: &[u64]) -> u64 {
     let mut count = 0;
     for asked in 0..=left.asked() {
         let most = [Queue::Append, Queue::Rewrite].map(|queue| left.unsynced(asked, queue));
@@ -280,8 +292,8 @@ fn stop_in_opening(history: &History, left: &MemoryFiles, asks: usize, counts: &
         });
         for [append, rewrite] in [[Unsynced::default(); 2], half, most] {
             let again = left.left(asked, append, rewrite);
-            let engine = Engine::with_files(again, options(history.seed)).unwrap();
-            assert_eq!(history.check(&engine, asks), counts);
+            let engine = Engine::with_files(again, options_of_seed(history.seed)).unwrap();
+            assert_eq!(history.assert_prefix(&engine, asks), counts);
             count += 1;
         }
     }
@@ -289,45 +301,46 @@ fn stop_in_opening(history: &History, left: &MemoryFiles, asks: usize, counts: &
 }
 
 /// Writes on in an engine that was opened after a crash, opens its files once more, and tests their records.
-fn go_on(
+fn write_after_crash(
     history: &History,
     engine: &Engine<MemoryFiles>,
     files: &MemoryFiles,
     counts: &[u64],
     draw: &mut Draw,
 ) {
-    let seed = draw.below(1 << 40) as u64;
+    let seed = draw.number_below(1 << 40) as u64;
     let mut writers = Vec::new();
     for (old, count) in history.writers.iter().zip(counts) {
         let mut writer = Writer::new(seed, old.id);
         writer.states = old.states[..=*count as usize].to_vec();
         for _ in 0..3 {
-            writer.step(engine).unwrap();
+            writer.take_step(engine).unwrap();
         }
         writers.push(writer);
     }
     let (append, rewrite) = (files.files(Queue::Append), files.files(Queue::Rewrite));
     let found = MemoryFiles::found(append, rewrite);
-    let engine = Engine::with_files(found, options(history.seed)).unwrap();
+    let engine = Engine::with_files(found, options_of_seed(history.seed)).unwrap();
     for writer in writers {
-        let found = [1, 2].map(|i| region_of(&engine, writer.region(i)).unwrap());
+        let found = [1, 2].map(|i| read_region(&engine, writer.region_id(i)).unwrap());
         assert_eq!(&found, writer.states.last().unwrap());
     }
 }
 
-/// Runs the history of a seed, with crashes, and returns how many these were.
-fn run(seed: u64) -> u64 {
+/// Runs the history of a seed, one in eight over a folder with a copy in memory, crashes it everywhere, and returns how many
+/// crashes there were.
+fn run_history(seed: u64) -> u64 {
     let files = MemoryFiles::new();
     if !seed.is_multiple_of(IN_FOLDER) {
-        let engine = Engine::with_files(files.clone(), options(seed)).unwrap();
-        return stop_everywhere(&History::new(seed, &engine, &files));
+        let engine = Engine::with_files(files.clone(), options_of_seed(seed)).unwrap();
+        return crash_everywhere(&History::new(seed, &engine, &files));
     }
     let room = TempFolder::new();
-    let both = Both {
+    let both = FolderWithCopy {
         folder: FolderFiles::open(room.path()).unwrap(),
         memory: files.clone(),
     };
-    let engine = Engine::with_files(both, options(seed)).unwrap();
+    let engine = Engine::with_files(both, options_of_seed(seed)).unwrap();
     let history = History::new(seed, &engine, &files);
     for queue in [Queue::Append, Queue::Rewrite] {
         for (seq, bytes) in files.files(queue) {
@@ -343,17 +356,20 @@ fn run(seed: u64) -> u64 {
         stats.append.files + stats.rewrite.files
     });
     drop(engine);
-    let engine = Engine::open(room.path(), options(seed)).unwrap();
-    history.check(&engine, files.asked());
-    stop_everywhere(&history)
+    let engine = Engine::open(room.path(), options_of_seed(seed)).unwrap();
+    history.assert_prefix(&engine, files.asked());
+    crash_everywhere(&history)
 }
 
 #[test]
 fn nothing_that_was_synced_is_lost_and_nothing_comes_back() {
-    let (first, histories) = (number("SEED", 1), number("HISTORIES", 200));
+    let (first, histories) = (
+        number_from_env("SEED", 1),
+        number_from_env("HISTORIES", 200),
+    );
     let stops = AtomicU64::new(0);
-    run_each(first, histories, |seed| {
-        stops.fetch_add(run(seed), Relaxed);
+    run_histories(first, histories, |seed| {
+        stops.fetch_add(run_history(seed), Relaxed);
         let run = seed - first + 1;
         if run.is_multiple_of(500) {
             println!("{run} histories, {} stops", stops.load(Relaxed));

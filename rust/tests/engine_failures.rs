@@ -2,8 +2,8 @@
 
 mod common;
 
-use common::hooked::{Call, Hooked};
-use common::model::region_of;
+use common::hooked::{Call, HookedFiles};
+use common::model::read_region;
 use raft_recover::{
     Engine, Error, ErrorKind, FileId, Files, LogBatch, MemoryFiles, Options, Queue, Result,
     Unsynced,
@@ -14,29 +14,31 @@ use std::sync::{Arc, OnceLock};
 use std::time::Duration;
 use std::{io, thread};
 
+/// The first append file.
 const FIRST: FileId = FileId::new(Queue::Append, 1);
 
-/// Makes a batch with an entry and a key that have a number.
-fn batch(number: u64) -> LogBatch {
+/// Makes the batch of a number: an entry of region 7 with the number as its index and text, and a key with it as its value.
+fn numbered_batch(number: u64) -> LogBatch {
     let mut batch = LogBatch::new().unwrap();
     batch.add_entries(7, number, &[number.to_string()]).unwrap();
     batch.put(7, b"a", &number.to_le_bytes()).unwrap();
     batch
 }
 
-/// How far a run has come: how many batches were written, and how many of these were synced for certain.
+/// How far the changes have come: how many batches were written, and how many of these were synced for certain.
 #[derive(Clone, Copy, Default)]
 struct Progress {
     written: u64,
     certain: u64,
 }
 
-/// Makes each kind of change: writes with and without a sync, moves and deletions. Returns how far it came, and the first error.
+/// Makes each kind of change until one fails: writes with and without a sync, moves and deletions. Returns how far it came, and
+/// the error, if there was one.
 fn make_all_changes<F: Files>(engine: &Engine<F>) -> (Progress, Result<()>) {
     let mut come = Progress::default();
     let mut steps = || {
         for number in 1..=6 {
-            engine.write(&mut batch(number), number % 2 == 0)?;
+            engine.write(&mut numbered_batch(number), number % 2 == 0)?;
             come.written = number;
             if number % 2 == 0 {
                 come.certain = number;
@@ -45,7 +47,7 @@ fn make_all_changes<F: Files>(engine: &Engine<F>) -> (Progress, Result<()>) {
         engine.rotate()?;
         engine.rewrite(1)?;
         engine.purge()?;
-        engine.write(&mut batch(7), false)?;
+        engine.write(&mut numbered_batch(7), false)?;
         come.written = 7;
         engine.rewrite_again()?;
         engine.purge()?;
@@ -57,10 +59,10 @@ fn make_all_changes<F: Files>(engine: &Engine<F>) -> (Progress, Result<()>) {
     (come, result)
 }
 
-/// Returns the errors of all kinds of changes of an engine that has failed.
+/// Makes each kind of change of an engine that has failed, and returns the errors. Panics where one succeeds.
 fn errors_of_changes<F: Files>(engine: &Engine<F>) -> Vec<Error> {
     let results = [
-        engine.write(&mut batch(9), false),
+        engine.write(&mut numbered_batch(9), false),
         engine.sync(),
         engine.rotate(),
         engine.rewrite(1),
@@ -70,7 +72,7 @@ fn errors_of_changes<F: Files>(engine: &Engine<F>) -> Vec<Error> {
     results.map(Result::unwrap_err).into()
 }
 
-/// Returns the errors of all kinds of reads of an engine that can't be read.
+/// Makes each kind of read of an engine that can't be read, and returns the errors. Panics where one succeeds.
 fn errors_of_reads<F: Files>(engine: &Engine<F>) -> Vec<Error> {
     let results = [
         engine.entry(7, 1).map(drop),
@@ -84,15 +86,16 @@ fn errors_of_reads<F: Files>(engine: &Engine<F>) -> Vec<Error> {
     results.map(Result::unwrap_err).into()
 }
 
-/// Returns the kind of the system's error behind an error.
-fn source_of(e: &Error) -> io::ErrorKind {
+/// Returns the kind of the system's error that is the source of an error. Panics where it has no such source.
+fn source_kind(e: &Error) -> io::ErrorKind {
     let source = std::error::Error::source(e).unwrap();
     let source: &io::Error = source.downcast_ref().unwrap();
     source.kind()
 }
 
-/// Returns the file and the offset that the error of a call on files has to name.
-fn place_of(call: Call<'_>, files: &MemoryFiles) -> (Option<FileId>, Option<u64>) {
+/// Returns the file and the offset that an error has to name where this call on files fails: for a write or a sync the end of the
+/// queue's last file.
+fn expected_place(call: Call<'_>, files: &MemoryFiles) -> (Option<FileId>, Option<u64>) {
     let end_of = |queue| {
         let (seq, len) = *files.list(queue).unwrap().last().unwrap();
         (FileId::new(queue, seq), len)
@@ -110,16 +113,17 @@ fn place_of(call: Call<'_>, files: &MemoryFiles) -> (Option<FileId>, Option<u64>
 fn assert_every_change_fails<F: Files>(engine: &Engine<F>, first: &Error) {
     for e in errors_of_changes(engine) {
         assert_eq!(e.kind, ErrorKind::Failed);
-        assert_eq!(source_of(&e), io::ErrorKind::StorageFull);
+        assert_eq!(source_kind(&e), io::ErrorKind::StorageFull);
         assert_eq!((e.file, e.offset), (first.file, first.offset));
         assert_eq!(e.text, format!("Failed: {first}"));
     }
     assert!(format!("{engine:?}").contains("failure: Some"));
 }
 
-/// Tests that an engine has a prefix of the batches that `make_all_changes` writes, and returns how many.
-fn count_batches<F: Files>(engine: &Engine<F>) -> u64 {
-    let region = region_of(engine, 7).unwrap();
+/// Tests that an engine has a prefix of the batches that `make_all_changes` writes, and no other records of region 7. Returns how
+/// many batches these are.
+fn count_prefix_batches<F: Files>(engine: &Engine<F>) -> u64 {
+    let region = read_region(engine, 7).unwrap();
     let written = region.entries.len() as u64;
     let expected = (1..=written).map(|number| (number, number.to_string().into_bytes()));
     assert!(region.entries.into_iter().eq(expected));
@@ -130,8 +134,8 @@ fn count_batches<F: Files>(engine: &Engine<F>) -> u64 {
 
 /// Tests that a failed engine can be read: it has the `written` batches, and perhaps one more, with which it failed. `failing`
 /// says which call failed.
-fn assert_reads_go_on<F: Files>(engine: &Engine<F>, written: u64, failing: usize) {
-    let found = count_batches(engine);
+fn assert_still_readable<F: Files>(engine: &Engine<F>, written: u64, failing: usize) {
+    let found = count_prefix_batches(engine);
     let allowed = written..=written + 1;
     assert!(allowed.contains(&found), "{failing}: {found} of {written}");
     for number in 1..=found {
@@ -154,14 +158,14 @@ fn assert_reads_go_on<F: Files>(engine: &Engine<F>, written: u64, failing: usize
 /// which call failed.
 fn assert_nothing_is_lost(files: MemoryFiles, certain: u64, failing: usize) {
     let opened = Engine::with_files(files, Options::new()).unwrap();
-    let written = count_batches(&opened);
+    let written = count_prefix_batches(&opened);
     assert!(written >= certain, "{failing}: {written} of {certain}");
 }
 
 #[test]
-fn where_any_change_fails_every_later_one_says_so_reads_go_on_and_nothing_is_lost() {
+fn after_a_failed_change_all_later_ones_fail_reads_go_on_and_nothing_is_lost() {
     let count = AtomicUsize::new(0);
-    let counting = Hooked::new(&MemoryFiles::new(), |call: Call<'_>| {
+    let counting = HookedFiles::new(&MemoryFiles::new(), |call: Call<'_>| {
         count.fetch_add(usize::from(call.is_change()), SeqCst);
         Ok(())
     });
@@ -173,9 +177,9 @@ fn where_any_change_fails_every_later_one_says_so_reads_go_on_and_nothing_is_los
     for failing in opening..changes {
         let (made, place) = (AtomicUsize::new(0), OnceLock::new());
         let files = MemoryFiles::new();
-        let hooked = Hooked::new(&files, |call: Call<'_>| {
+        let hooked = HookedFiles::new(&files, |call: Call<'_>| {
             if call.is_change() && made.fetch_add(1, SeqCst) == failing {
-                place.set(place_of(call, &files)).unwrap();
+                place.set(expected_place(call, &files)).unwrap();
                 if let Call::Write(file, bytes) = call {
                     files.write(file, &bytes[..bytes.len() / 2])?;
                 }
@@ -188,9 +192,9 @@ fn where_any_change_fails_every_later_one_says_so_reads_go_on_and_nothing_is_los
         let first = result.unwrap_err();
         assert_eq!(first.kind, ErrorKind::Io);
         assert_eq!(Some(&(first.file, first.offset)), place.get(), "{first}");
-        assert_eq!(source_of(&first), io::ErrorKind::StorageFull);
+        assert_eq!(source_kind(&first), io::ErrorKind::StorageFull);
         assert_every_change_fails(&engine, &first);
-        assert_reads_go_on(&engine, come.written, failing);
+        assert_still_readable(&engine, come.written, failing);
         assert_eq!(
             made.load(SeqCst),
             failing + 1,
@@ -201,10 +205,10 @@ fn where_any_change_fails_every_later_one_says_so_reads_go_on_and_nothing_is_los
 }
 
 #[test]
-fn a_batch_lasts_where_the_file_behind_it_cant_be_begun() {
+fn a_synced_batch_lasts_where_the_next_file_cant_be_begun() {
     let (has_failed, since) = (AtomicBool::new(false), AtomicUsize::new(0));
     let files = MemoryFiles::new();
-    let hooked = Hooked::new(&files, |call: Call<'_>| {
+    let hooked = HookedFiles::new(&files, |call: Call<'_>| {
         since.fetch_add(usize::from(has_failed.load(SeqCst)), SeqCst);
         match call {
             Call::Rotate(file) if file.seq == 2 => {
@@ -215,8 +219,8 @@ fn a_batch_lasts_where_the_file_behind_it_cant_be_begun() {
         }
     });
     let engine = Engine::with_files(hooked, Options::new().target_file_size(1)).unwrap();
-    engine.write(&mut batch(1), true).unwrap();
-    let e = engine.write(&mut batch(2), true).unwrap_err();
+    engine.write(&mut numbered_batch(1), true).unwrap();
+    let e = engine.write(&mut numbered_batch(2), true).unwrap_err();
     let place = (Some(FileId::new(Queue::Append, 2)), Some(0));
     assert_eq!((e.kind, (e.file, e.offset)), (ErrorKind::Failed, place));
     assert_eq!(since.load(SeqCst), 0, "something was asked of failed files");
@@ -226,11 +230,11 @@ fn a_batch_lasts_where_the_file_behind_it_cant_be_begun() {
 }
 
 #[test]
-fn an_opening_that_fails_can_be_made_again() {
+fn after_an_opening_that_failed_another_one_finds_all() {
     let files = MemoryFiles::new();
     let engine = Engine::with_files(files.clone(), Options::new()).unwrap();
     make_all_changes(&engine).1.unwrap();
-    engine.write(&mut batch(8), false).unwrap();
+    engine.write(&mut numbered_batch(8), false).unwrap();
     let append = files.files(Queue::Append);
     let mut torn = append.clone();
     torn.last_mut()
@@ -240,7 +244,7 @@ fn an_opening_that_fails_can_be_made_again() {
     for (failing, expected) in [(Some(0), 0), (Some(1), 1), (None, 7)] {
         let found = MemoryFiles::found(torn.clone(), files.files(Queue::Rewrite));
         let made = AtomicUsize::new(0);
-        let hooked = Hooked::new(&found, |call: Call<'_>| {
+        let hooked = HookedFiles::new(&found, |call: Call<'_>| {
             if call.is_change() && Some(made.fetch_add(1, SeqCst)) == failing {
                 return Err(io::ErrorKind::StorageFull.into());
             }
@@ -252,22 +256,22 @@ fn an_opening_that_fails_can_be_made_again() {
             assert_eq!(found.asked(), expected);
         }
         let opened = Engine::with_files(found, Options::new()).unwrap();
-        assert_eq!(region_of(&opened, 7).unwrap().entries.len(), 7);
+        assert_eq!(read_region(&opened, 7).unwrap().entries.len(), 7);
     }
 }
 
 #[test]
-fn a_file_that_cant_be_read_is_named_and_the_engine_goes_on() {
+fn a_failed_read_names_the_file_and_the_engine_goes_on() {
     let is_broken = AtomicBool::new(false);
     let files = MemoryFiles::new();
-    let hooked = Hooked::new(&files, |call: Call<'_>| match call {
+    let hooked = HookedFiles::new(&files, |call: Call<'_>| match call {
         Call::Read(FIRST, ..) if is_broken.load(SeqCst) => {
             Err(io::ErrorKind::PermissionDenied.into())
         }
         _ => Ok(()),
     });
     let engine = Engine::with_files(Arc::new(hooked), Options::new()).unwrap();
-    engine.write(&mut batch(1), false).unwrap();
+    engine.write(&mut numbered_batch(1), false).unwrap();
     is_broken.store(true, SeqCst);
     for e in [engine.entry(7, 1).map(drop), engine.rewrite(1)] {
         let e = e.unwrap_err();
@@ -282,13 +286,13 @@ fn a_file_that_cant_be_read_is_named_and_the_engine_goes_on() {
     assert_eq!((e.kind, (e.file, e.offset)), (ErrorKind::Io, place));
     is_broken.store(false, SeqCst);
     assert_eq!(engine.entry(7, 1).unwrap().unwrap(), b"1");
-    engine.write(&mut batch(2), true).unwrap();
+    engine.write(&mut numbered_batch(2), true).unwrap();
 }
 
 #[test]
 fn who_waits_for_a_turn_is_told_why_the_engine_failed() {
     let (entered, is_over) = (AtomicBool::new(false), AtomicBool::new(false));
-    let hooked = Hooked::new(&MemoryFiles::new(), |call: Call<'_>| {
+    let hooked = HookedFiles::new(&MemoryFiles::new(), |call: Call<'_>| {
         if !matches!(call, Call::Rotate(file) if file.seq == 2) {
             return Ok(());
         }
@@ -304,7 +308,7 @@ fn who_waits_for_a_turn_is_told_why_the_engine_failed() {
         while !entered.load(SeqCst) {
             thread::yield_now();
         }
-        let writing = scope.spawn(|| engine.write(&mut batch(1), true));
+        let writing = scope.spawn(|| engine.write(&mut numbered_batch(1), true));
         thread::sleep(Duration::from_millis(200));
         is_over.store(true, SeqCst);
         let first = rotating.join().unwrap().unwrap_err();
@@ -317,7 +321,7 @@ fn who_waits_for_a_turn_is_told_why_the_engine_failed() {
 #[test]
 fn files_that_panic_leave_a_failed_engine_and_nobody_waits_for_ever() {
     let (entered, is_over) = (AtomicBool::new(false), AtomicBool::new(false));
-    let hooked = Hooked::new(&MemoryFiles::new(), |call: Call<'_>| {
+    let hooked = HookedFiles::new(&MemoryFiles::new(), |call: Call<'_>| {
         if !matches!(call, Call::Sync(Queue::Append)) {
             return Ok(());
         }
@@ -334,7 +338,7 @@ fn files_that_panic_leave_a_failed_engine_and_nobody_waits_for_ever() {
     let engine = Engine::with_files(hooked, Options::new()).unwrap();
     thread::scope(|scope| {
         // while the first thread syncs the others hand in their batches, of which one of them then writes all
-        let first = scope.spawn(|| engine.write(&mut batch(1), true));
+        let first = scope.spawn(|| engine.write(&mut numbered_batch(1), true));
         while !entered.load(SeqCst) {
             thread::yield_now();
         }

@@ -2,9 +2,9 @@
 
 mod common;
 
-use common::engines::write;
-use common::hooked::{Call, Hooked};
-use common::model::region_of;
+use common::engines::write_batch;
+use common::hooked::{Call, HookedFiles};
+use common::model::read_region;
 use raft_recover::{Engine, ErrorKind, FileId, MemoryFiles, Options, Queue};
 use std::collections::BTreeSet;
 use std::sync::{Condvar, Mutex};
@@ -16,7 +16,7 @@ fn five_files() -> MemoryFiles {
     let options = Options::new().target_file_size(1);
     let engine = Engine::with_files(files.clone(), options).unwrap();
     for index in 1..=4 {
-        write(&engine, |batch| {
+        write_batch(&engine, |batch| {
             batch.add_entries(7, index, &[index.to_string()])
         });
         engine.rewrite(index).unwrap();
@@ -25,12 +25,12 @@ fn five_files() -> MemoryFiles {
     files
 }
 
-/// Returns a copy of files without one of them.
+/// Returns a copy of all files but `missing`, as files that are found.
 fn without_file(files: &MemoryFiles, missing: FileId) -> MemoryFiles {
     let [append, rewrite] = [Queue::Append, Queue::Rewrite].map(|queue| {
-        let mut held = files.files(queue);
-        held.retain(|(seq, _)| FileId::new(queue, *seq) != missing);
-        held
+        let mut kept = files.files(queue);
+        kept.retain(|(seq, _)| FileId::new(queue, *seq) != missing);
+        kept
     });
     MemoryFiles::found(append, rewrite)
 }
@@ -67,11 +67,11 @@ fn of_several_missing_files_the_first_one_is_named() {
 }
 
 #[test]
-fn several_threads_read_whole_files_at_once() {
+fn all_threads_of_an_opening_read_files_at_the_same_time() {
     let files = five_files();
     for threads in [2, 3] {
         let (reading, is_met) = (Mutex::new(BTreeSet::new()), Condvar::new());
-        let hooked = Hooked::new(&files, |call: Call<'_>| {
+        let hooked = HookedFiles::new(&files, |call: Call<'_>| {
             if let Call::Read(file, 0, _) = call {
                 let mut reading = reading.lock().unwrap();
                 reading.insert(file.seq);
@@ -90,9 +90,9 @@ fn several_threads_read_whole_files_at_once() {
     }
 }
 
-/// Returns how many bytes both queues have at most while an engine does steady work: ten regions keep their last 200 entries of a
-/// hundred bytes. The engine is opened `lives` times, and does so many `rounds` each time.
-fn most_bytes(lives: u64, rounds: u64) -> u64 {
+/// Has an engine do steady work, and returns how many bytes both queues had together at most: ten regions keep their last 200
+/// entries of a hundred bytes. The engine is opened `lives` times, and does so many `rounds` each time.
+fn measure_most_bytes(lives: u64, rounds: u64) -> u64 {
     let options = Options::new()
         .target_file_size(64 << 10)
         .purge_above(256 << 10);
@@ -102,7 +102,7 @@ fn most_bytes(lives: u64, rounds: u64) -> u64 {
         let engine = Engine::with_files(found, options.clone()).unwrap();
         for _ in 0..rounds {
             for region in 0..10 {
-                write(&engine, |batch| {
+                write_batch(&engine, |batch| {
                     batch.add_entries(region, 20 * round + 1, &[[7; 100]; 20])?;
                     batch.compact(region, (20 * round).saturating_sub(180) + 1)
                 });
@@ -113,7 +113,7 @@ fn most_bytes(lives: u64, rounds: u64) -> u64 {
             most = most.max(stats.append.bytes + stats.rewrite.bytes);
         }
         for region in 0..10 {
-            let kept = region_of(&engine, region).unwrap().entries;
+            let kept = read_region(&engine, region).unwrap().entries;
             let expected = (20 * round).saturating_sub(200) + 1..=20 * round;
             assert!(kept.keys().copied().eq(expected));
         }
@@ -125,17 +125,18 @@ fn most_bytes(lives: u64, rounds: u64) -> u64 {
 }
 
 #[test]
-fn files_grow_no_more_where_an_engine_is_often_opened_again() {
-    let (once, often) = (most_bytes(1, 300), most_bytes(60, 5));
+fn files_grow_no_larger_where_an_engine_is_opened_often() {
+    let (once, often) = (measure_most_bytes(1, 300), measure_most_bytes(60, 5));
     assert!(often < 2 * once, "{often} in 60 lives, {once} in one");
 }
 
-/// Returns files with ten regions, whose entry of a thousand bytes, or else value, is in the rewrite queue.
+/// Returns files with ten regions in the rewrite queue alone: each has an entry of a thousand bytes if `is_entry`, else a value of
+/// as many.
 fn ten_moved_regions(is_entry: bool) -> MemoryFiles {
     let files = MemoryFiles::new();
     let engine = Engine::with_files(files.clone(), Options::new()).unwrap();
     for region in 0..10 {
-        write(&engine, |batch| match is_entry {
+        write_batch(&engine, |batch| match is_entry {
             true => batch.add_entries(region, 1, &[[7; 1000]]),
             false => batch.put(region, b"key", &[7; 1000]),
         });
@@ -147,14 +148,14 @@ fn ten_moved_regions(is_entry: bool) -> MemoryFiles {
 }
 
 #[test]
-fn what_was_found_moves_again_where_half_of_it_isnt_needed() {
+fn rewritten_records_of_an_earlier_run_move_again_where_half_of_them_arent_needed() {
     for is_entry in [true, false] {
         for (cleaned, moves) in [(0, 0), (3, 0), (6, 1)] {
             let files = ten_moved_regions(is_entry);
             let options = Options::new().purge_above(1000);
             let engine = Engine::with_files(files, options).unwrap();
             for region in 0..cleaned {
-                write(&engine, |batch| batch.clean(region));
+                write_batch(&engine, |batch| batch.clean(region));
             }
             for times in [moves, 0] {
                 let purged = engine.purge().unwrap();
@@ -165,27 +166,28 @@ fn what_was_found_moves_again_where_half_of_it_isnt_needed() {
     }
 }
 
-/// Returns files whose append queue takes away rewritten records of four regions, while the rewrite queue doesn't have that yet.
-fn files_with_untold_changes() -> MemoryFiles {
+/// Returns files with five regions in the rewrite queue. Batches in the append queue alone take away records of four of them.
+fn files_with_changes_of_moved_records() -> MemoryFiles {
     let files = MemoryFiles::new();
     let engine = Engine::with_files(files.clone(), Options::new()).unwrap();
     for region in 1..=5 {
-        write(&engine, |batch| {
+        write_batch(&engine, |batch| {
             batch.add_entries(region, 1, &[[7; 100]; 9])?;
             batch.put(region, b"key", b"value")
         });
     }
     engine.rotate().unwrap();
     engine.rewrite(1).unwrap();
-    write(&engine, |batch| batch.clean(1));
-    write(&engine, |batch| batch.compact(2, 5));
-    write(&engine, |batch| batch.add_entries(3, 4, &[[8; 100]]));
-    write(&engine, |batch| batch.delete(4, b"key"));
+    write_batch(&engine, |batch| batch.clean(1));
+    write_batch(&engine, |batch| batch.compact(2, 5));
+    write_batch(&engine, |batch| batch.add_entries(3, 4, &[[8; 100]]));
+    write_batch(&engine, |batch| batch.delete(4, b"key"));
     files
 }
 
-/// Opens an engine over these files, tests that it has what is left of the five regions, and returns it.
-fn assert_taken_away(files: &MemoryFiles) -> Engine<MemoryFiles> {
+/// Opens an engine over the files of `files_with_changes_of_moved_records`, tests that it has what these changes leave of the five
+/// regions, and returns it.
+fn open_and_check_left(files: &MemoryFiles) -> Engine<MemoryFiles> {
     let engine = Engine::with_files(files.clone(), Options::new()).unwrap();
     let bounds = |region| {
         let first = engine.first_index(region).unwrap();
@@ -208,21 +210,21 @@ fn assert_taken_away(files: &MemoryFiles) -> Engine<MemoryFiles> {
 
 #[test]
 fn files_stay_as_they_are_however_often_they_are_opened() {
-    let files = files_with_untold_changes();
+    let files = files_with_changes_of_moved_records();
     let asked = files.asked();
     let bytes = [Queue::Append, Queue::Rewrite].map(|queue| files.files(queue));
     for _ in 0..1000 {
-        assert_taken_away(&files);
+        open_and_check_left(&files);
     }
     assert_eq!(files.asked(), asked);
     assert_eq!(
         [Queue::Append, Queue::Rewrite].map(|queue| files.files(queue)),
         bytes
     );
-    let engine = assert_taken_away(&files);
+    let engine = open_and_check_left(&files);
     engine.rotate().unwrap();
     engine.rewrite(2).unwrap();
     assert_eq!(engine.purge().unwrap().append_files, 2); // so the rewrite queue was told
     drop(engine);
-    assert_taken_away(&files);
+    open_and_check_left(&files);
 }

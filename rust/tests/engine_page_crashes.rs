@@ -9,7 +9,7 @@
 mod common;
 
 use common::model::{COUNT, Change, Draw, KEYS, Region};
-use common::seeds::{number, run_each};
+use common::seeds::{number_from_env, run_histories};
 use raft_recover::{
     Ask, Batches, Content, Engine, Error, ErrorKind, FileId, FilePart, LogBatch, LogFile,
     MemoryFiles, Options, Queue, Result, Unsynced, Version, batch_len,
@@ -23,6 +23,7 @@ const STEPS: usize = 30;
 /// How many regions have entries: 1 to 3. Region 0 has the number of the last batch.
 const REGIONS: usize = 3;
 
+/// Both queues, the append queue first.
 const QUEUES: [Queue; 2] = [Queue::Append, Queue::Rewrite];
 
 /// What an engine has to have after a batch.
@@ -34,8 +35,8 @@ struct State {
 }
 
 impl State {
-    /// Applies a change of the region at position `i`, made by the batch with the number `batch`.
-    fn apply(&mut self, i: usize, change: &Change, batch: usize) {
+    /// Makes a change of the region at position `i`, as the batch with the number `batch` does.
+    fn apply_change(&mut self, i: usize, change: &Change, batch: usize) {
         change.apply(&mut self.regions[i]);
         let (region, batches) = (&self.regions[i], &mut self.batches[i]);
         if let Change::Entries(first, strings) = change {
@@ -55,7 +56,7 @@ struct Sizes {
 
 impl Sizes {
     /// Returns the sizes in the history of a seed.
-    fn of(seed: u64) -> Sizes {
+    fn of_seed(seed: u64) -> Sizes {
         match seed % 4 {
             0 => Sizes {
                 page: 4096,
@@ -77,13 +78,13 @@ impl Sizes {
 }
 
 /// Returns the options of the engine in the history of a seed.
-fn options(seed: u64) -> Options {
+fn options_of_seed(seed: u64) -> Options {
     let version = if seed.is_multiple_of(5) {
         Version::V1
     } else {
         Version::V2
     };
-    let file = Sizes::of(seed).file;
+    let file = Sizes::of_seed(seed).file;
     Options::new()
         .version(version)
         .target_file_size(file)
@@ -101,10 +102,10 @@ struct History {
 }
 
 impl History {
-    /// Runs the history of a seed.
+    /// Runs the history of a seed over new files.
     fn new(seed: u64) -> History {
         let files = MemoryFiles::new();
-        let engine = Engine::with_files(files.clone(), options(seed)).unwrap();
+        let engine = Engine::with_files(files.clone(), options_of_seed(seed)).unwrap();
         let mut history = History {
             seed,
             draw: Draw::new(seed),
@@ -112,45 +113,45 @@ impl History {
             states: vec![State::default()],
         };
         for _ in 0..STEPS {
-            history.step(&engine).unwrap();
+            history.take_step(&engine).unwrap();
         }
         history
     }
 
-    /// Takes a random step.
-    fn step(&mut self, engine: &Engine<MemoryFiles>) -> Result<()> {
-        match self.draw.below(20) {
+    /// Takes a random step: a call that changes something. Errs where the call does.
+    fn take_step(&mut self, engine: &Engine<MemoryFiles>) -> Result<()> {
+        match self.draw.number_below(20) {
             0 => engine.rotate(),
             1 | 2 => {
                 let last = engine.stats().append.last_file;
-                engine.rewrite(last - self.draw.below(2) as u64)
+                engine.rewrite(last - self.draw.number_below(2) as u64)
             }
             3 => engine.rewrite_again(),
             4 | 5 => engine.purge().map(drop),
             6 => engine.sync(),
-            _ => self.write(engine),
+            _ => self.write_random_batch(engine),
         }
     }
 
-    /// Writes a batch of random changes, and notes what the engine has to have after it.
-    fn write(&mut self, engine: &Engine<MemoryFiles>) -> Result<()> {
+    /// Writes a batch of random changes, and notes what the engine has to have after it. Errs where a call of the engine does.
+    fn write_random_batch(&mut self, engine: &Engine<MemoryFiles>) -> Result<()> {
         let number = self.states.len();
         let mut state = self.states[number - 1].clone();
         let mut batch = LogBatch::new()?;
         batch.put(0, COUNT, &(number as u64).to_le_bytes())?;
-        for _ in 0..1 + self.draw.below(3) {
-            let i = self.draw.below(REGIONS);
+        for _ in 0..1 + self.draw.number_below(3) {
+            let i = self.draw.number_below(REGIONS);
             let mut change = Change::draw(&mut self.draw, &state.regions[i]);
             if let Change::Entries(_, strings) = &mut change {
                 for string in strings {
-                    let len = self.draw.below(Sizes::of(self.seed).entry);
+                    let len = self.draw.number_below(Sizes::of_seed(self.seed).entry);
                     string.resize(string.len().max(len), 1 + number as u8 % 255);
                 }
             }
-            state.apply(i, &change, number);
-            change.add(1 + i as u64, &mut batch)?;
+            state.apply_change(i, &change, number);
+            change.add_to_batch(1 + i as u64, &mut batch)?;
         }
-        engine.write(&mut batch, self.draw.once_in(4))?;
+        engine.write(&mut batch, self.draw.happens_once_in(4))?;
         self.states.push(state);
         Ok(())
     }
@@ -186,7 +187,7 @@ fn asks_of_batches(asks: &[Ask], version: Version) -> Vec<usize> {
 
 /// The last file of a queue before a crash: its id, its bytes, and how many of these are synced.
 #[derive(Clone)]
-struct Last {
+struct LastFile {
     id: FileId,
     bytes: Vec<u8>,
     synced: usize,
@@ -194,26 +195,26 @@ struct Last {
 
 /// What a crash leaves: the last file of each queue as it was before, and all files as they are then, the append queue first.
 struct Left {
-    lasts: Vec<Last>,
+    lasts: Vec<LastFile>,
     files: [Vec<(u64, Vec<u8>)>; 2],
 }
 
 impl Left {
-    /// Draws a crash behind the first `asks` asks.
-    fn draw(history: &History, asks: usize, draw: &mut Draw) -> Left {
+    /// Draws a crash behind the first `asks` asks, and returns what it leaves.
+    fn draw_crash(history: &History, asks: usize, draw: &mut Draw) -> Left {
         let most = QUEUES.map(|queue| history.files.unsynced(asks, queue));
         let drawn = most.map(|most| Unsynced {
-            steps: if draw.once_in(2) {
+            steps: if draw.happens_once_in(2) {
                 most.steps
             } else {
-                draw.below(most.steps + 1)
+                draw.number_below(most.steps + 1)
             },
-            deletions: draw.below(most.deletions + 1),
+            deletions: draw.number_below(most.deletions + 1),
         });
         let none = Unsynced::default();
         let safe = history.files.left(asks, none, none);
         let all = history.files.left(asks, drawn[0], drawn[1]);
-        let page = Sizes::of(history.seed).page;
+        let page = Sizes::of_seed(history.seed).page;
         let mut left = Left {
             lasts: Vec::new(),
             files: QUEUES.map(|queue| all.files(queue)),
@@ -224,7 +225,7 @@ impl Left {
             };
             let safe = safe.files(queue);
             let synced = safe.iter().find(|(number, _)| number == seq);
-            let last = Last {
+            let last = LastFile {
                 id: FileId::new(queue, *seq),
                 bytes: bytes.clone(),
                 synced: synced.map_or(0, |(_, bytes)| bytes.len()),
@@ -235,17 +236,17 @@ impl Left {
         left
     }
 
-    /// Opens an engine over what is left. Returns the files, and the result of the opening.
-    fn open(&self, seed: u64) -> (MemoryFiles, Result<Engine<MemoryFiles>>) {
+    /// Opens an engine over what is left, and returns the files and the result of the opening, which may be a refusal.
+    fn open_engine(&self, seed: u64) -> (MemoryFiles, Result<Engine<MemoryFiles>>) {
         let [append, rewrite] = self.files.clone();
         let files = MemoryFiles::found(append, rewrite);
-        let engine = Engine::with_files(files.clone(), options(seed));
+        let engine = Engine::with_files(files.clone(), options_of_seed(seed));
         (files, engine)
     }
 
     /// Returns the number of the last batch in the append files whose entries are as they were written, and up to which no header
     /// and no items of a batch are lost; `None` where there is none.
-    fn last_whole(&self, version: Version) -> Option<u64> {
+    fn last_whole_batch(&self, version: Version) -> Option<u64> {
         let mut files = self.files[0].clone();
         let last = self.lasts.iter().find(|it| it.id.queue == Queue::Append);
         if let (Some(last), Some((_, left))) = (last, files.last_mut()) {
@@ -259,7 +260,7 @@ impl Left {
 
     /// Tests that an opening has named just those batches of the last append file whose entries aren't as they were written and
     /// which have a sound batch behind them; and that what stands behind the last sound batch was cut off.
-    fn assert_damaged(&self, engine: &Engine<MemoryFiles>) {
+    fn assert_damage_is_named(&self, engine: &Engine<MemoryFiles>) {
         let last = self.lasts.iter().find(|it| it.id.queue == Queue::Append);
         let Some(last) = last else {
             return assert_eq!(named_places(engine), []);
@@ -277,7 +278,7 @@ impl Left {
     }
 
     /// Tests that the error of an opening names the first place of a last file that isn't as it was written.
-    fn assert_named(&self, e: &Error) {
+    fn assert_error_names_damage(&self, e: &Error) {
         assert_eq!(e.kind, ErrorKind::Corruption, "{e}");
         let (file, offset) = (e.file.unwrap(), e.offset.unwrap() as usize);
         let last = self.lasts.iter().find(|last| last.id == file).unwrap();
@@ -293,17 +294,17 @@ impl Left {
 fn lose_pages(bytes: &mut Vec<u8>, synced: usize, page: usize, draw: &mut Draw) {
     let (first, last) = (synced / page, bytes.len() / page);
     let only = draw
-        .once_in(2)
-        .then(|| first + draw.below(last - first + 1));
+        .happens_once_in(2)
+        .then(|| first + draw.number_below(last - first + 1));
     for number in first..=last {
-        let is_lost = only.map_or_else(|| draw.once_in(3), |only| only == number);
+        let is_lost = only.map_or_else(|| draw.happens_once_in(3), |only| only == number);
         if is_lost {
             let end = bytes.len().min((number + 1) * page);
             bytes[synced.max(number * page).min(end)..end].fill(0);
         }
     }
-    if draw.once_in(3) {
-        bytes.truncate(synced + draw.below(bytes.len() - synced + 1));
+    if draw.happens_once_in(3) {
+        bytes.truncate(synced + draw.number_below(bytes.len() - synced + 1));
     }
 }
 
@@ -377,8 +378,8 @@ fn named_places(engine: &Engine<MemoryFiles>) -> Vec<(FileId, usize)> {
     places.collect()
 }
 
-/// Tests that an engine has the records of a state. Entries that can't be read were in batches with numbers above `synced`, which
-/// the opening has named. Returns these entries, as region and index.
+/// Tests that an engine has the records of a state. Entries that can't be read have to be in batches with numbers above `synced`,
+/// which the opening has named. Returns these entries, as region and index.
 fn check_records(engine: &Engine<MemoryFiles>, state: &State, synced: usize) -> Vec<(u64, u64)> {
     let (mut unread, named) = (Vec::new(), named_places(engine));
     for (i, region) in state.regions.iter().enumerate() {
@@ -415,9 +416,9 @@ struct Counts {
 }
 
 /// Crashes the machine four times behind each ask of a history, and opens and tests what is left.
-fn stop_everywhere(history: &History, counts: &Counts) {
+fn crash_everywhere(history: &History, counts: &Counts) {
     let asks = history.files.asks();
-    let places = asks_of_batches(&asks, options(history.seed).version);
+    let places = asks_of_batches(&asks, options_of_seed(history.seed).version);
     assert_eq!(places.len() + 1, history.states.len());
     let mut draw = Draw::new(!history.seed);
     for asked in 0..=asks.len() {
@@ -426,12 +427,12 @@ fn stop_everywhere(history: &History, counts: &Counts) {
             .rposition(|ask| *ask == Ask::Sync(Queue::Append));
         let synced = places.iter().filter(|place| Some(**place) < sync).count();
         for _ in 0..4 {
-            let left = Left::draw(history, asked, &mut draw);
-            let (files, opened) = left.open(history.seed);
+            let left = Left::draw_crash(history, asked, &mut draw);
+            let (files, opened) = left.open_engine(history.seed);
             let engine = match opened {
                 Ok(engine) => engine,
                 Err(e) => {
-                    left.assert_named(&e);
+                    left.assert_error_names_damage(&e);
                     counts.refused.fetch_add(1, Relaxed);
                     continue;
                 }
@@ -444,16 +445,16 @@ fn stop_everywhere(history: &History, counts: &Counts) {
             );
             assert!(count as usize <= places.partition_point(|place| *place < asked));
             // no sound batch is left out that stands in front of all headers and items that are lost
-            if let Some(last) = left.last_whole(options(history.seed).version) {
+            if let Some(last) = left.last_whole_batch(options_of_seed(history.seed).version) {
                 assert_eq!(count, last);
             }
-            left.assert_damaged(&engine);
+            left.assert_damage_is_named(&engine);
             let state = &history.states[count as usize];
             let unread = check_records(&engine, state, synced);
             counts.opened.fetch_add(1, Relaxed);
             counts.unread.fetch_add(!unread.is_empty() as u64, Relaxed);
-            if draw.once_in(4) {
-                go_on(history, engine, files, state, unread);
+            if draw.happens_once_in(4) {
+                move_and_reopen(history, engine, files, state, unread);
             }
         }
     }
@@ -461,7 +462,7 @@ fn stop_everywhere(history: &History, counts: &Counts) {
 
 /// Moves records and deletes files in an engine that was opened after a crash, opens its files again, and tests that they have
 /// the same records, and that what could be read still can.
-fn go_on(
+fn move_and_reopen(
     history: &History,
     engine: Engine<MemoryFiles>,
     files: MemoryFiles,
@@ -491,16 +492,16 @@ fn go_on(
     drop(engine);
     let [append, rewrite] = QUEUES.map(|queue| files.files(queue));
     let found = MemoryFiles::found(append, rewrite);
-    let engine = Engine::with_files(found, options(history.seed)).unwrap();
+    let engine = Engine::with_files(found, options_of_seed(history.seed)).unwrap();
     assert_readable(&engine);
 }
 
 #[test]
 fn nothing_that_was_synced_is_lost_on_a_disk_that_writes_pages_in_any_order() {
-    let (first, histories) = (number("SEED", 1), number("HISTORIES", 40));
+    let (first, histories) = (number_from_env("SEED", 1), number_from_env("HISTORIES", 40));
     let counts = Counts::default();
-    run_each(first, histories, |seed| {
-        stop_everywhere(&History::new(seed), &counts)
+    run_histories(first, histories, |seed| {
+        crash_everywhere(&History::new(seed), &counts)
     });
     let [opened, refused, unread] =
         [counts.opened, counts.refused, counts.unread].map(AtomicU64::into_inner);

@@ -2,7 +2,7 @@
 
 mod common;
 
-use common::hooked::{Call, Hooked};
+use common::hooked::{Call, HookedFiles};
 use raft_recover::{Engine, FileId, LogBatch, MemoryFiles, Options, Queue, Result};
 use std::sync::atomic::{AtomicBool, AtomicUsize, Ordering::SeqCst};
 use std::sync::{Arc, Condvar, Mutex};
@@ -17,9 +17,10 @@ struct Gate {
 }
 
 /// A gate that is closed until this is dropped, also where a test fails.
-struct Closed<'a>(&'a Gate);
+struct ClosedGate<'a>(&'a Gate);
 
-impl Drop for Closed<'_> {
+impl Drop for ClosedGate<'_> {
+    /// Opens the gate, and wakes the calls that wait there.
     fn drop(&mut self) {
         self.0.state.lock().unwrap().0 = false;
         self.0.changed.notify_all();
@@ -28,18 +29,18 @@ impl Drop for Closed<'_> {
 
 impl Gate {
     /// Closes the gate, until the returned value is dropped.
-    fn close(&self) -> Closed<'_> {
+    fn close(&self) -> ClosedGate<'_> {
         self.state.lock().unwrap().0 = true;
-        Closed(self)
+        ClosedGate(self)
     }
 
-    /// Comes to the gate, and waits until it is open.
+    /// Comes to the gate, and returns once it is open.
     fn pass(&self) {
-        self.has_waited();
+        self.wait_if_closed();
     }
 
-    /// Comes to the gate, waits until it is open, and returns whether it was closed.
-    fn has_waited(&self) -> bool {
+    /// Comes to the gate, and returns once it is open: true if the call had to wait, as the gate was closed.
+    fn wait_if_closed(&self) -> bool {
         let mut state = self.state.lock().unwrap();
         let was_closed = state.0;
         if was_closed {
@@ -52,16 +53,16 @@ impl Gate {
         was_closed
     }
 
-    /// Comes to the open gate, and returns whether it is the first call to come.
-    fn is_new(&self) -> bool {
+    /// Counts a call that comes to the open gate, and returns whether it is the first one.
+    fn is_first_arrival(&self) -> bool {
         let mut state = self.state.lock().unwrap();
         state.1 += 1;
         self.changed.notify_all();
         state.1 == 1
     }
 
-    /// Waits until `count` calls have come to the gate, which they are to do soon.
-    fn wait_for(&self, count: usize) {
+    /// Waits until `count` calls have come to the gate. Panics where they haven't within a minute.
+    fn wait_for_calls(&self, count: usize) {
         let state = self.state.lock().unwrap();
         let long = Duration::from_secs(60);
         let waited = self
@@ -73,8 +74,8 @@ impl Gate {
     }
 }
 
-/// Makes a batch with one entry.
-fn batch(region: u64, index: u64) -> LogBatch {
+/// Makes a batch with one entry of a region, whose text is its index.
+fn one_entry_batch(region: u64, index: u64) -> LogBatch {
     let mut batch = LogBatch::new().unwrap();
     batch
         .add_entries(region, index, &[index.to_string()])
@@ -85,7 +86,7 @@ fn batch(region: u64, index: u64) -> LogBatch {
 #[test]
 fn threads_that_write_at_the_same_time_share_syncs() {
     let files = MemoryFiles::new();
-    let hooked = Hooked::new(&files, |call: Call<'_>| {
+    let hooked = HookedFiles::new(&files, |call: Call<'_>| {
         if matches!(call, Call::Sync(_)) {
             thread::sleep(Duration::from_millis(2));
         }
@@ -99,7 +100,9 @@ fn threads_that_write_at_the_same_time_share_syncs() {
             let engine = &engine;
             scope.spawn(move || {
                 for index in 1..=writes {
-                    engine.write(&mut batch(region, index), true).unwrap();
+                    engine
+                        .write(&mut one_entry_batch(region, index), true)
+                        .unwrap();
                     assert_eq!(engine.last_index(region).unwrap(), Some(index));
                 }
             });
@@ -122,7 +125,7 @@ fn threads_that_write_at_the_same_time_share_syncs() {
 #[test]
 fn nobody_goes_on_before_the_sync_and_all_who_wait_go_on_after_one() {
     let gate = Arc::new(Gate::default());
-    let hooked = Hooked::new(&MemoryFiles::new(), |call: Call<'_>| {
+    let hooked = HookedFiles::new(&MemoryFiles::new(), |call: Call<'_>| {
         if matches!(call, Call::Sync(_)) {
             gate.pass();
         }
@@ -136,11 +139,11 @@ fn nobody_goes_on_before_the_sync_and_all_who_wait_go_on_after_one() {
         for region in 0..4 {
             let (engine, gone_on) = (&engine, &gone_on);
             scope.spawn(move || {
-                engine.write(&mut batch(region, 1), true).unwrap();
+                engine.write(&mut one_entry_batch(region, 1), true).unwrap();
                 gone_on.fetch_add(1, SeqCst);
             });
         }
-        gate.wait_for(1);
+        gate.wait_for_calls(1);
         thread::sleep(Duration::from_millis(200));
         assert_eq!(gone_on.load(SeqCst), 0);
         drop(closed);
@@ -149,11 +152,11 @@ fn nobody_goes_on_before_the_sync_and_all_who_wait_go_on_after_one() {
     assert!((1..4).contains(&syncs), "{syncs}");
 }
 
-/// Returns how many syncs it takes to write four batches with a sync each, which are handed in while a new file is begun, one of
-/// them before the others.
+/// Writes four batches with a sync each, which are handed in one after another while a new file is begun, and returns how many
+/// syncs that took.
 fn count_syncs_of_four() -> u64 {
     let gate = Gate::default();
-    let hooked = Hooked::new(&MemoryFiles::new(), |call: Call<'_>| {
+    let hooked = HookedFiles::new(&MemoryFiles::new(), |call: Call<'_>| {
         if matches!(call, Call::Rotate(_)) {
             gate.pass();
         }
@@ -164,10 +167,10 @@ fn count_syncs_of_four() -> u64 {
     thread::scope(|scope| {
         let closed = gate.close();
         scope.spawn(|| engine.rotate().unwrap());
-        gate.wait_for(1);
+        gate.wait_for_calls(1);
         for region in 0..4 {
             let engine = &engine;
-            scope.spawn(move || engine.write(&mut batch(region, 1), true).unwrap());
+            scope.spawn(move || engine.write(&mut one_entry_batch(region, 1), true).unwrap());
             thread::sleep(Duration::from_millis(50));
         }
         drop(closed);
@@ -182,11 +185,11 @@ fn who_comes_while_the_leader_waits_for_a_turn_is_in_its_group() {
     assert!((0..10).any(|_| count_syncs_of_four() == 1));
 }
 
-/// Returns how many of seven threads that want no sync go on before that of an eighth one is over. All of them hand in their
-/// batches while another sync is made.
+/// Has eight threads hand in a batch each while another sync is made, one of them with a sync, and returns how many of the other
+/// seven go on before that sync is over.
 fn count_going_on_before_sync() -> usize {
     let (gates, is_first_over) = ([Gate::default(), Gate::default()], AtomicBool::new(false));
-    let hooked = Hooked::new(&MemoryFiles::new(), |call: Call<'_>| {
+    let hooked = HookedFiles::new(&MemoryFiles::new(), |call: Call<'_>| {
         match call {
             Call::Sync(_) => gates[usize::from(is_first_over.load(SeqCst))].pass(),
             // those that were woken in vain wait again by then
@@ -200,18 +203,20 @@ fn count_going_on_before_sync() -> usize {
     thread::scope(|scope| {
         let [first, second] = gates.each_ref().map(Gate::close);
         scope.spawn(|| engine.sync().unwrap());
-        gates[0].wait_for(1);
+        gates[0].wait_for_calls(1);
         for region in 0..8 {
             let (engine, gone_on) = (&engine, &gone_on);
             scope.spawn(move || {
-                engine.write(&mut batch(region, 1), region == 0).unwrap();
+                engine
+                    .write(&mut one_entry_batch(region, 1), region == 0)
+                    .unwrap();
                 gone_on.fetch_add(1, SeqCst);
             });
         }
         thread::sleep(Duration::from_millis(200));
         is_first_over.store(true, SeqCst);
         drop(first);
-        gates[1].wait_for(1);
+        gates[1].wait_for_calls(1);
         let begun = Instant::now();
         while gone_on.load(SeqCst) < 7 && begun.elapsed() < Duration::from_secs(2) {
             thread::yield_now();
@@ -235,14 +240,14 @@ type Write<'a> = &'a dyn Fn(&mut LogBatch, bool) -> Result<()>;
 /// begins a file, so that the first thread writes both batches. Tests that the second thread makes the sync, and alone gets its
 /// result; `fails` says whether the sync fails. Returns false where the first thread wasn't done before that sync, else what
 /// `write` returned.
-fn is_sync_handed_on(fails: bool, write: impl FnOnce(Write<'_>) -> bool + Send) -> bool {
+fn hands_sync_on(fails: bool, write: impl FnOnce(Write<'_>) -> bool + Send) -> bool {
     let [rotating, syncing] = [Gate::default(), Gate::default()];
-    let hooked = Hooked::new(&MemoryFiles::new(), |call: Call<'_>| match call {
+    let hooked = HookedFiles::new(&MemoryFiles::new(), |call: Call<'_>| match call {
         Call::Rotate(_) => {
             rotating.pass();
             Ok(())
         }
-        Call::Sync(_) if syncing.has_waited() && fails => Err(io::ErrorKind::TimedOut.into()),
+        Call::Sync(_) if syncing.wait_if_closed() && fails => Err(io::ErrorKind::TimedOut.into()),
         _ => Ok(()),
     });
     let engine = Engine::with_files(hooked, Options::new()).unwrap();
@@ -250,14 +255,14 @@ fn is_sync_handed_on(fails: bool, write: impl FnOnce(Write<'_>) -> bool + Send) 
         let engine = &engine;
         let first_closed = rotating.close();
         scope.spawn(|| engine.rotate().unwrap());
-        rotating.wait_for(1);
+        rotating.wait_for_calls(1);
         let writing = scope.spawn(move || write(&|batch, sync| engine.write(batch, sync)));
         thread::sleep(Duration::from_millis(50));
         let second_closed = syncing.close();
-        let other = scope.spawn(|| engine.write(&mut batch(8, 1), true));
+        let other = scope.spawn(|| engine.write(&mut one_entry_batch(8, 1), true));
         thread::sleep(Duration::from_millis(50));
         drop(first_closed);
-        syncing.wait_for(1);
+        syncing.wait_for_calls(1);
         let begun = Instant::now();
         while !writing.is_finished() && begun.elapsed() < Duration::from_secs(2) {
             thread::yield_now();
@@ -281,7 +286,11 @@ fn is_sync_handed_on(fails: bool, write: impl FnOnce(Write<'_>) -> bool + Send) 
 #[test]
 fn who_writes_for_others_makes_no_sync_that_it_doesnt_want() {
     for fails in [false, true] {
-        let goes_on = || is_sync_handed_on(fails, |write| write(&mut batch(7, 1), false).is_ok());
+        let goes_on = || {
+            hands_sync_on(fails, |write| {
+                write(&mut one_entry_batch(7, 1), false).is_ok()
+            })
+        };
         // a thread that comes late waits for the other one's sync
         assert!((0..10).any(|_| goes_on()));
     }
@@ -291,8 +300,8 @@ fn who_writes_for_others_makes_no_sync_that_it_doesnt_want() {
 fn whose_batch_is_refused_makes_no_sync_for_others() {
     for fails in [false, true] {
         let goes_on = || {
-            is_sync_handed_on(fails, |write| {
-                let mut hole = batch(7, 1);
+            hands_sync_on(fails, |write| {
+                let mut hole = one_entry_batch(7, 1);
                 hole.add_entries(7, 5, &["behind a hole"]).unwrap();
                 write(&mut hole, true).unwrap_err().item == Some(1)
             })
@@ -304,18 +313,18 @@ fn whose_batch_is_refused_makes_no_sync_for_others() {
 #[test]
 fn reading_waits_for_no_sync() {
     let gate = Arc::new(Gate::default());
-    let hooked = Hooked::new(&MemoryFiles::new(), |call: Call<'_>| {
+    let hooked = HookedFiles::new(&MemoryFiles::new(), |call: Call<'_>| {
         if matches!(call, Call::Sync(_)) {
             gate.pass();
         }
         Ok(())
     });
     let engine = Engine::with_files(hooked, Options::new()).unwrap();
-    engine.write(&mut batch(7, 1), false).unwrap();
+    engine.write(&mut one_entry_batch(7, 1), false).unwrap();
     thread::scope(|scope| {
         let closed = gate.close();
-        scope.spawn(|| engine.write(&mut batch(7, 2), true).unwrap());
-        gate.wait_for(1);
+        scope.spawn(|| engine.write(&mut one_entry_batch(7, 2), true).unwrap());
+        gate.wait_for_calls(1);
         assert_eq!(engine.entry(7, 1).unwrap().unwrap(), b"1");
         assert_eq!(engine.entry(7, 2).unwrap().unwrap(), b"2");
         assert_eq!(engine.entries(7, ..).unwrap().len(), 2);
@@ -329,8 +338,8 @@ fn reading_waits_for_no_sync() {
 fn gated_engine(
     writes: &Gate,
     syncs: &Gate,
-) -> Engine<Hooked<impl Fn(Call<'_>) -> io::Result<()> + Send + Sync>> {
-    let hooked = Hooked::new(&MemoryFiles::new(), |call: Call<'_>| {
+) -> Engine<HookedFiles<impl Fn(Call<'_>) -> io::Result<()> + Send + Sync>> {
+    let hooked = HookedFiles::new(&MemoryFiles::new(), |call: Call<'_>| {
         match call {
             Call::Write(..) => writes.pass(),
             Call::Sync(_) => syncs.pass(),
@@ -355,11 +364,11 @@ fn the_newest_entry_is_read_while_its_bytes_are_on_their_way() {
         for index in 1..=3 {
             let (written, synced) = (writes.close(), syncs.close());
             let engine = &engine;
-            scope.spawn(move || engine.write(&mut batch(7, index), true).unwrap());
-            writes.wait_for(index as usize);
+            scope.spawn(move || engine.write(&mut one_entry_batch(7, index), true).unwrap());
+            writes.wait_for_calls(index as usize);
             read(index); // its bytes aren't in the file
             drop(written);
-            syncs.wait_for(index as usize);
+            syncs.wait_for_calls(index as usize);
             read(index); // they are, and are synced just now
             drop(synced);
             engine.sync().unwrap();
@@ -370,13 +379,15 @@ fn the_newest_entry_is_read_while_its_bytes_are_on_their_way() {
 #[test]
 fn what_is_written_is_read_from_its_file() {
     let reads = AtomicUsize::new(0);
-    let hooked = Hooked::new(&MemoryFiles::new(), |call: Call<'_>| {
+    let hooked = HookedFiles::new(&MemoryFiles::new(), |call: Call<'_>| {
         reads.fetch_add(usize::from(matches!(call, Call::Read(..))), SeqCst);
         Ok(())
     });
     let engine = Engine::with_files(hooked, Options::new().target_file_size(100)).unwrap();
     for index in 1..=9 {
-        engine.write(&mut batch(7, index), index % 2 == 0).unwrap();
+        engine
+            .write(&mut one_entry_batch(7, index), index % 2 == 0)
+            .unwrap();
         assert_eq!(
             engine.entry(7, index).unwrap(),
             Some(index.to_string().into())
@@ -390,13 +401,13 @@ fn an_entry_is_read_while_its_bytes_move() {
     let [writes, syncs] = [Gate::default(), Gate::default()];
     let engine = gated_engine(&writes, &syncs);
     for index in 1..=3 {
-        engine.write(&mut batch(7, index), false).unwrap();
+        engine.write(&mut one_entry_batch(7, index), false).unwrap();
     }
     engine.rotate().unwrap();
     thread::scope(|scope| {
         let closed = writes.close();
         scope.spawn(|| engine.rewrite(1).unwrap());
-        writes.wait_for(1);
+        writes.wait_for_calls(1);
         let texts: Vec<_> = engine.entries(7, ..).unwrap().collect();
         assert_eq!(texts, [b"1", b"2", b"3"]);
         drop(closed);
@@ -411,20 +422,20 @@ fn an_entry_that_moves_while_it_is_read_is_found() {
     let is_reader =
         |call: Call<'_>| matches!(call, Call::Read(file, ..) if file.queue == Queue::Append);
     let is_held = AtomicBool::new(false);
-    let hooked = Hooked::new(&MemoryFiles::new(), |call: Call<'_>| {
+    let hooked = HookedFiles::new(&MemoryFiles::new(), |call: Call<'_>| {
         if is_reader(call) && is_held.swap(false, SeqCst) {
             gate.pass();
         }
         Ok(())
     });
     let engine = Engine::with_files(hooked, Options::new()).unwrap();
-    engine.write(&mut batch(7, 1), false).unwrap();
+    engine.write(&mut one_entry_batch(7, 1), false).unwrap();
     engine.rotate().unwrap();
     is_held.store(true, SeqCst);
     thread::scope(|scope| {
         let closed = gate.close();
         let reading = scope.spawn(|| engine.entries(7, 1..2));
-        gate.wait_for(1);
+        gate.wait_for_calls(1);
         engine.rewrite(1).unwrap();
         assert_eq!(engine.purge().unwrap().append_files, 1);
         drop(closed);
@@ -437,13 +448,13 @@ fn an_entry_that_moves_while_it_is_read_is_found() {
 fn an_entry_that_moves_twice_while_it_is_read_is_found() {
     let (gate, looked_again) = (Gate::default(), Gate::default());
     let [is_held, is_moved] = [false, false].map(AtomicBool::new);
-    let hooked = Hooked::new(&MemoryFiles::new(), |call: Call<'_>| {
+    let hooked = HookedFiles::new(&MemoryFiles::new(), |call: Call<'_>| {
         let Call::Read(file, ..) = call else {
             return Ok(());
         };
         if file.queue == Queue::Append && is_held.swap(false, SeqCst) {
             gate.pass();
-        } else if file == FileId::new(Queue::Rewrite, 1) && looked_again.is_new() {
+        } else if file == FileId::new(Queue::Rewrite, 1) && looked_again.is_first_arrival() {
             // it is read once more, and the other thread tries to move it
             let begun = Instant::now();
             while !is_moved.load(SeqCst) && begun.elapsed() < Duration::from_millis(300) {
@@ -453,17 +464,17 @@ fn an_entry_that_moves_twice_while_it_is_read_is_found() {
         Ok(())
     });
     let engine = Engine::with_files(hooked, Options::new()).unwrap();
-    engine.write(&mut batch(7, 1), false).unwrap();
+    engine.write(&mut one_entry_batch(7, 1), false).unwrap();
     engine.rotate().unwrap();
     is_held.store(true, SeqCst);
     thread::scope(|scope| {
         let closed = gate.close();
         let reading = scope.spawn(|| engine.entries(7, 1..2));
-        gate.wait_for(1);
+        gate.wait_for_calls(1);
         engine.rewrite(1).unwrap();
         assert_eq!(engine.purge().unwrap().append_files, 1);
         drop(closed);
-        looked_again.wait_for(1);
+        looked_again.wait_for_calls(1);
         engine.rewrite_again().unwrap();
         assert_eq!(engine.purge().unwrap().rewrite_files, 1);
         is_moved.store(true, SeqCst);
@@ -473,9 +484,9 @@ fn an_entry_that_moves_twice_while_it_is_read_is_found() {
 }
 
 #[test]
-fn changes_come_one_after_another() {
+fn no_two_changes_of_files_run_at_once() {
     let within = AtomicBool::new(false);
-    let hooked = Hooked::new(&MemoryFiles::new(), |call: Call<'_>| {
+    let hooked = HookedFiles::new(&MemoryFiles::new(), |call: Call<'_>| {
         if !call.is_change() {
             return Ok(());
         }
@@ -494,7 +505,7 @@ fn changes_come_one_after_another() {
             scope.spawn(move || {
                 for index in 1..=200 {
                     engine
-                        .write(&mut batch(region, index), index % 10 == 0)
+                        .write(&mut one_entry_batch(region, index), index % 10 == 0)
                         .unwrap();
                     let mut entries = engine.entries(region, ..).unwrap();
                     assert_eq!(entries.len() as u64, index);
@@ -512,24 +523,24 @@ fn changes_come_one_after_another() {
 }
 
 #[test]
-fn a_batch_that_is_refused_costs_the_others_nothing() {
+fn a_refused_batch_keeps_none_of_its_group_from_being_written() {
     let gate = Arc::new(Gate::default());
-    let hooked = Hooked::new(&MemoryFiles::new(), |call: Call<'_>| {
+    let hooked = HookedFiles::new(&MemoryFiles::new(), |call: Call<'_>| {
         if matches!(call, Call::Sync(_)) {
             gate.pass();
         }
         Ok(())
     });
     let engine = Engine::with_files(hooked, Options::new()).unwrap();
-    engine.write(&mut batch(7, 1), false).unwrap();
+    engine.write(&mut one_entry_batch(7, 1), false).unwrap();
     thread::scope(|scope| {
         let closed = gate.close();
         scope.spawn(|| engine.sync().unwrap());
-        gate.wait_for(1);
+        gate.wait_for_calls(1);
         let rows = [(7, 3, true), (8, 1, true), (7, 9, false), (9, 1, false)];
         let writing = rows.map(|(region, index, sync)| {
             let engine = &engine;
-            scope.spawn(move || engine.write(&mut batch(region, index), sync))
+            scope.spawn(move || engine.write(&mut one_entry_batch(region, index), sync))
         });
         drop(closed);
         let are_written = writing.map(|writing| writing.join().unwrap().is_ok());

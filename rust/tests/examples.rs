@@ -2,7 +2,7 @@
 
 mod common;
 
-use common::{TempFolder, lines, top};
+use common::{TempFolder, readme_lines, repository_folder};
 use std::collections::BTreeSet;
 use std::path::{Path, PathBuf};
 use std::process::Command;
@@ -19,7 +19,7 @@ const PROGRAMS: [&str; 7] = [
     "write",
 ];
 
-/// Returns the path of a program, which `cargo test` builds beside the tests.
+/// Returns the path of a program, which `cargo test` builds beside the tests. Panics where it isn't there.
 fn program_path(name: &str) -> PathBuf {
     let tests = env::current_exe().unwrap();
     let path = tests
@@ -36,8 +36,8 @@ fn program_path(name: &str) -> PathBuf {
     path
 }
 
-/// Runs a program with these arguments, and returns the lines that it prints.
-fn output_lines(name: &str, words: &[&Path]) -> Vec<String> {
+/// Runs a program with these arguments, and returns the lines that it prints. Panics where it fails.
+fn run_program(name: &str, words: &[&Path]) -> Vec<String> {
     let output = Command::new(program_path(name))
         .args(words)
         .output()
@@ -49,8 +49,8 @@ fn output_lines(name: &str, words: &[&Path]) -> Vec<String> {
 }
 
 #[test]
-fn each_program_is_run() {
-    let files = fs::read_dir(top().join("rust/examples")).unwrap();
+fn the_list_of_programs_has_all_examples() {
+    let files = fs::read_dir(repository_folder().join("rust/examples")).unwrap();
     let files = files.map(|file| file.unwrap().path());
     let programs = files.filter(|path| path.is_file());
     let names = programs.map(|path| path.file_stem().unwrap().to_owned());
@@ -63,11 +63,11 @@ fn the_log_store_appends_an_entry_each_time() {
     let room = TempFolder::new();
     for index in 1..=3 {
         assert_eq!(
-            output_lines("raft_storage", &[room.path()]),
+            run_program("raft_storage", &[room.path()]),
             [format!("entry {index}")]
         );
     }
-    let look = output_lines("look", &[room.path()]);
+    let look = run_program("look", &[room.path()]);
     assert!(
         look.contains(&"region 1: entries 1 to 3, 0 keys".to_owned()),
         "{look:?}"
@@ -79,26 +79,29 @@ fn the_log_store_appends_an_entry_each_time() {
     let mut bytes = fs::read(&torn).unwrap();
     bytes.extend(b"torn");
     fs::write(&torn, &bytes).unwrap();
-    let look = output_lines("look", &[room.path()]);
+    let look = run_program("look", &[room.path()]);
     assert!(
         look[0].starts_with("left out: append file 1, offset "),
         "{look:?}"
     );
     assert_eq!(fs::read(&torn).unwrap(), bytes);
-    assert_eq!(output_lines("raft_storage", &[room.path()]), ["entry 4"]);
+    assert_eq!(run_program("raft_storage", &[room.path()]), ["entry 4"]);
 }
 
 #[test]
-fn files_are_recovered() {
-    let expected: Vec<_> = lines().lines().map(str::to_owned).collect();
-    assert_eq!(output_lines("recover", &[&top().join("demo")]), expected);
+fn the_recover_program_prints_the_lines_of_the_readme() {
+    let expected: Vec<_> = readme_lines().lines().map(str::to_owned).collect();
+    assert_eq!(
+        run_program("recover", &[&repository_folder().join("demo")]),
+        expected
+    );
 }
 
 #[test]
-fn four_threads_write_a_file_and_it_is_recovered() {
+fn the_write_program_recovers_all_but_the_batch_that_it_cuts_short() {
     let room = TempFolder::new();
     let path = room.path().join("file");
-    let said = output_lines("write", &[&path]);
+    let said = run_program("write", &[&path]);
     let (torn, recovered) = said.split_first().unwrap();
     let len = fs::metadata(path).unwrap().len();
     assert!(torn.contains(&format!(" of {} bytes: ", len - 1)), "{torn}");
@@ -110,10 +113,10 @@ fn four_threads_write_a_file_and_it_is_recovered() {
 }
 
 #[test]
-fn the_times_of_an_engine_are_told() {
+fn the_speed_program_prints_its_ten_lines() {
     let room = TempFolder::new();
     let folder = room.path().join("new");
-    let said = output_lines("speed", &[&folder, Path::new("1"), Path::new("1")]);
+    let said = run_program("speed", &[&folder, Path::new("1"), Path::new("1")]);
     let written = said
         .iter()
         .filter(|line| line.contains(" batches a second"));
@@ -130,8 +133,8 @@ fn the_times_of_an_engine_are_told() {
 }
 
 #[test]
-fn each_phase_of_an_engine_is_told() {
-    let said = output_lines("phases", &[Path::new("1")]);
+fn the_phases_program_prints_a_line_for_each_phase() {
+    let said = run_program("phases", &[Path::new("1")]);
     let phases: Vec<Vec<_>> = said.iter().map(|line| line.split('\t').collect()).collect();
     let numbers = phases.iter().map(|phase| [phase[1], phase[3]]);
     assert!(
@@ -145,7 +148,7 @@ fn each_phase_of_an_engine_is_told() {
 }
 
 #[test]
-fn a_program_without_its_words_says_what_it_takes() {
+fn a_program_without_its_arguments_says_which_it_takes() {
     for name in ["look", "raft_storage", "recover", "speed", "ten_lines"] {
         let output = Command::new(program_path(name)).output().unwrap();
         let error = String::from_utf8_lossy(&output.stderr);

@@ -15,12 +15,15 @@ use std::sync::mpsc;
 use std::thread;
 use std::time::Duration;
 
+/// The first append file.
 const FIRST: FileId = FileId::new(Queue::Append, 1);
+/// The second append file.
 const SECOND: FileId = FileId::new(Queue::Append, 2);
+/// The first rewrite file.
 const REWRITTEN: FileId = FileId::new(Queue::Rewrite, 1);
 
-/// Returns the names in a folder, in order.
-fn names(folder: &TempFolder) -> Vec<String> {
+/// Returns the names of the files in a folder, in order.
+fn sorted_names(folder: &TempFolder) -> Vec<String> {
     let entries = fs::read_dir(folder.path()).unwrap();
     let mut names: Vec<_> = entries
         .map(|entry| entry.unwrap().file_name().into_string().unwrap())
@@ -29,8 +32,8 @@ fn names(folder: &TempFolder) -> Vec<String> {
     names
 }
 
-/// Reads `len` bytes of a file from `offset` on.
-fn read(files: &FolderFiles, file: FileId, offset: u64, len: usize) -> io::Result<Vec<u8>> {
+/// Reads `len` bytes of a file from `offset` on, and returns them. Errs as [`Files::read`] does.
+fn read_bytes(files: &FolderFiles, file: FileId, offset: u64, len: usize) -> io::Result<Vec<u8>> {
     let mut bytes = vec![0; len];
     files.read(file, offset, &mut bytes)?;
     Ok(bytes)
@@ -65,14 +68,14 @@ fn files_have_the_names_of_raft_engine() {
         "0000000000000002.raftlog",
         "LOCK",
     ];
-    assert_eq!(names(&room), expected);
+    assert_eq!(sorted_names(&room), expected);
     assert_eq!(files.path_of(SECOND), room.path().join(expected[2]));
     assert_eq!(files.list(Queue::Append).unwrap(), [(1, 0), (2, 0)]);
     assert_eq!(files.list(Queue::Rewrite).unwrap(), [(1, 0)]);
 }
 
 #[test]
-fn one_engine_at_a_time_has_a_folder() {
+fn a_folder_is_open_once_at_a_time() {
     let room = TempFolder::new();
     let files = FolderFiles::open(room.path()).unwrap();
     let e = FolderFiles::open(room.path()).unwrap_err();
@@ -152,20 +155,20 @@ fn bytes_are_written_at_the_end_and_read_anywhere() {
     files.write(FIRST, b"one").unwrap();
     files.write(FIRST, b" and two").unwrap();
     files.sync(Queue::Append).unwrap();
-    assert_eq!(read(&files, FIRST, 4, 7).unwrap(), b"and two");
-    let e = read(&files, FIRST, 4, 8).unwrap_err();
+    assert_eq!(read_bytes(&files, FIRST, 4, 7).unwrap(), b"and two");
+    let e = read_bytes(&files, FIRST, 4, 8).unwrap_err();
     assert_eq!(e.kind(), io::ErrorKind::UnexpectedEof);
-    let e = read(&files, REWRITTEN, 0, 1).unwrap_err();
+    let e = read_bytes(&files, REWRITTEN, 0, 1).unwrap_err();
     assert_eq!(e.kind(), io::ErrorKind::NotFound);
     files.truncate(FIRST, 20).unwrap();
     assert_eq!(files.list(Queue::Append).unwrap(), [(1, 11)]);
     files.truncate(FIRST, 7).unwrap();
     files.write(FIRST, b"..").unwrap();
-    assert_eq!(read(&files, FIRST, 0, 9).unwrap(), b"one and..");
+    assert_eq!(read_bytes(&files, FIRST, 0, 9).unwrap(), b"one and..");
 }
 
 #[test]
-fn what_is_there_is_found() {
+fn files_that_are_there_are_found_by_the_next_opening() {
     let room = TempFolder::new();
     let files = FolderFiles::open(room.path()).unwrap();
     for (file, bytes) in [(FIRST, "old"), (REWRITTEN, "moved"), (SECOND, "new")] {
@@ -173,14 +176,14 @@ fn what_is_there_is_found() {
         files.write(file, bytes.as_bytes()).unwrap();
     }
     files.delete(FIRST).unwrap();
-    assert!(read(&files, FIRST, 0, 1).is_err());
+    assert!(read_bytes(&files, FIRST, 0, 1).is_err());
     drop(files);
     let files = FolderFiles::open(room.path()).unwrap();
     assert_eq!(files.list(Queue::Append).unwrap(), [(2, 3)]);
     assert_eq!(files.list(Queue::Rewrite).unwrap(), [(1, 5)]);
-    assert_eq!(read(&files, SECOND, 0, 3).unwrap(), b"new");
+    assert_eq!(read_bytes(&files, SECOND, 0, 3).unwrap(), b"new");
     files.write(SECOND, b"er").unwrap();
-    assert_eq!(read(&files, SECOND, 0, 5).unwrap(), b"newer");
+    assert_eq!(read_bytes(&files, SECOND, 0, 5).unwrap(), b"newer");
 }
 
 #[test]
@@ -193,13 +196,13 @@ fn files_of_any_number_and_length_are_found() {
     let files = FolderFiles::open(room.path()).unwrap();
     for (queue, seq) in [(Queue::Append, 0), (Queue::Rewrite, u64::MAX)] {
         assert_eq!(files.list(queue).unwrap(), [(seq, bytes.len() as u64)]);
-        let found = read(&files, FileId::new(queue, seq), 0, bytes.len());
+        let found = read_bytes(&files, FileId::new(queue, seq), 0, bytes.len());
         assert!(found.unwrap() == bytes);
     }
 }
 
 #[test]
-fn names_that_are_none_of_log_files_are_left_alone_and_those_that_seem_so_are_refused() {
+fn names_unlike_those_of_log_files_are_left_alone_and_misspelt_ones_are_refused() {
     for name in ["LOG", "0000000000000001.raftlog.old", "a.log", "raftlog"] {
         let room = TempFolder::new();
         fs::write(room.path().join(name), "").unwrap();
@@ -222,7 +225,7 @@ fn names_that_are_none_of_log_files_are_left_alone_and_those_that_seem_so_are_re
 }
 
 #[test]
-fn what_has_the_name_of_a_log_file_and_cant_be_opened_is_named_and_left() {
+fn a_folder_pipe_or_dead_link_in_place_of_a_log_file_is_named_and_left() {
     type Make = fn(&Path) -> io::Result<()>;
     let rows: [(Make, ErrorKind); 3] = [
         (|path| fs::create_dir(path), ErrorKind::InvalidArgument),
@@ -254,7 +257,7 @@ fn what_has_the_name_of_a_log_file_and_cant_be_opened_is_named_and_left() {
 }
 
 #[test]
-fn after_a_change_that_failed_none_is_made_and_files_can_be_read() {
+fn after_a_failed_change_no_other_is_made_and_files_can_be_read() {
     type Ask = fn(&FolderFiles) -> io::Result<()>;
     let failing: [(&str, Ask); 3] = [
         ("a file that is there is begun", |files| files.rotate(FIRST)),
@@ -284,7 +287,7 @@ fn after_a_change_that_failed_none_is_made_and_files_can_be_read() {
             let e = change(&files).unwrap_err();
             assert_eq!(e.to_string(), "an earlier change failed", "{what}");
         }
-        assert_eq!(read(&files, FIRST, 0, 3).unwrap(), b"one");
+        assert_eq!(read_bytes(&files, FIRST, 0, 3).unwrap(), b"one");
         drop(files);
         let files = FolderFiles::open(room.path()).unwrap();
         assert_eq!(files.list(Queue::Append).unwrap(), [(1, 3)], "{what}");
@@ -293,7 +296,7 @@ fn after_a_change_that_failed_none_is_made_and_files_can_be_read() {
 
 /// Returns how many files of a folder are open in this process after their names were deleted.
 #[cfg(target_os = "linux")]
-fn count_open_without_name(folder: &TempFolder) -> usize {
+fn count_open_deleted_files(folder: &TempFolder) -> usize {
     let folder = fs::canonicalize(folder.path()).unwrap();
     let open = fs::read_dir("/proc/self/fd").unwrap();
     let paths = open.filter_map(|file| fs::read_link(file.unwrap().path()).ok());
@@ -313,20 +316,20 @@ fn a_deleted_file_is_closed_once_its_room_is_asked_back_or_the_next_file_begins(
     }
     files.delete(FIRST).unwrap();
     assert_eq!(
-        names(&room),
+        sorted_names(&room),
         [
             "0000000000000002.raftlog",
             "0000000000000003.raftlog",
             "LOCK"
         ]
     );
-    assert_eq!(count_open_without_name(&room), 1);
+    assert_eq!(count_open_deleted_files(&room), 1);
     files.free_deleted();
-    assert_eq!(count_open_without_name(&room), 0);
+    assert_eq!(count_open_deleted_files(&room), 0);
     files.delete(SECOND).unwrap();
-    assert_eq!(count_open_without_name(&room), 1);
+    assert_eq!(count_open_deleted_files(&room), 1);
     files.rotate(FileId::new(Queue::Append, 4)).unwrap();
-    assert_eq!(count_open_without_name(&room), 0);
+    assert_eq!(count_open_deleted_files(&room), 0);
 }
 
 #[test]
@@ -342,5 +345,5 @@ fn a_purge_gives_the_room_of_the_files_that_it_deletes_back() {
         engine.rotate().unwrap();
     }
     assert_eq!(engine.purge().unwrap().append_files, 2);
-    assert_eq!(count_open_without_name(&room), 0);
+    assert_eq!(count_open_deleted_files(&room), 0);
 }

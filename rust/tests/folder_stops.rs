@@ -4,7 +4,7 @@
 mod common;
 
 use common::TempFolder;
-use common::model::{Region, region_of};
+use common::model::{Region, read_region};
 use raft_recover::{Engine, LogBatch, Options};
 use std::cell::Cell;
 use std::collections::{BTreeMap, BTreeSet};
@@ -21,7 +21,7 @@ const CALLS: &str = "openat,flock,mkdir,write,fsync,fdatasync,ftruncate,unlink";
 
 /// Fills the batch of a run that has this number: what it puts into region 7. Each eighth batch compacts entries, some of which
 /// have moved before.
-fn fill(number: u64, batch: &mut LogBatch) {
+fn fill_numbered_batch(number: u64, batch: &mut LogBatch) {
     if number.is_multiple_of(8) {
         batch.compact(7, number - 3).unwrap();
     }
@@ -29,8 +29,8 @@ fn fill(number: u64, batch: &mut LogBatch) {
     batch.put(7, b"a", &number.to_le_bytes()).unwrap();
 }
 
-/// Returns what region 7 has after the first `count` batches.
-fn expected(count: u64) -> Region {
+/// Returns what region 7 has to have after the first `count` batches of a run.
+fn expected_region(count: u64) -> Region {
     let first = if count < 8 { 1 } else { count / 8 * 8 - 3 };
     let entries = (first..=count).map(|number| (number, number.to_string().into_bytes()));
     let key = (count > 0).then(|| (b"a".to_vec(), count.to_le_bytes().to_vec()));
@@ -44,7 +44,7 @@ fn expected(count: u64) -> Region {
 /// starts it.
 #[test]
 #[ignore = "the other test starts it"]
-fn run() {
+fn writes_to_the_folder_of_a_run() {
     let Some(folder) = env::var_os(FOLDER) else {
         return;
     };
@@ -54,7 +54,7 @@ fn run() {
         let write = |sync| {
             number.set(number.get() + 1);
             let mut batch = LogBatch::new().unwrap();
-            fill(number.get(), &mut batch);
+            fill_numbered_batch(number.get(), &mut batch);
             engine.write(&mut batch, sync).unwrap();
             if sync {
                 println!("lasts {}", number.get());
@@ -100,8 +100,8 @@ enum Change {
 }
 
 impl File {
-    /// Returns all contents that a crash may leave of the file, oldest first.
-    fn versions(&self) -> Vec<Vec<u8>> {
+    /// Returns all contents that a crash may leave of the file, from what is synced to what was written last.
+    fn possible_contents(&self) -> Vec<Vec<u8>> {
         let mut bytes = self.synced.clone();
         let mut versions = vec![bytes.clone()];
         for change in &self.since {
@@ -123,7 +123,7 @@ impl File {
 
     /// Puts all changes on the disk.
     fn sync(&mut self) {
-        self.synced = self.versions().pop().unwrap();
+        self.synced = self.possible_contents().pop().unwrap();
         self.since.clear();
     }
 }
@@ -165,7 +165,7 @@ impl Disk {
             }
             let versions: BTreeMap<_, _> = names
                 .iter()
-                .map(|(name, file)| (name, self.files[*file].versions()))
+                .map(|(name, file)| (name, self.files[*file].possible_contents()))
                 .collect();
             for is_last in [false, true] {
                 let end = |versions: &Vec<Vec<u8>>| {
@@ -232,7 +232,7 @@ impl Disk {
             ("ftruncate", Some(file)) => {
                 let len = call.rest.rsplit(' ').next().unwrap().parse().unwrap();
                 let kept = self.names[&format!("{name}.{len}.cut")];
-                let whole = self.files[file].versions().pop().unwrap();
+                let whole = self.files[file].possible_contents().pop().unwrap();
                 assert_eq!(self.files[kept].synced, whole[len..]);
                 self.files[file].since.push(Change::Cut(len));
                 self.cuts += 1;
@@ -268,8 +268,8 @@ struct Call {
     rest: String,
 }
 
-/// Returns the strings in a line of `strace`, which shows them as `\x61\x62`.
-fn strings(line: &str) -> Vec<Vec<u8>> {
+/// Returns the strings in a line of `strace`, decoded from the form `\x61\x62` in which it shows them.
+fn decode_strings(line: &str) -> Vec<Vec<u8>> {
     let quoted = line
         .split(['"', '<', '>'])
         .filter(|text| text.starts_with("\\x"));
@@ -285,14 +285,14 @@ fn strings(line: &str) -> Vec<Vec<u8>> {
 
 /// Reads a line of `strace`: a call on the folder; as an `Err` the number up to which the run has printed that batches are
 /// synced; or `None` for any other call, or one that failed.
-fn read_line(line: &str, folder: &Path) -> Option<Result<Call, u64>> {
+fn parse_line(line: &str, folder: &Path) -> Option<Result<Call, u64>> {
     let (_, line) = line.split_once(' ')?;
     let (what, words) = line.trim_start().split_once('(')?;
     let (rest, result) = words.rsplit_once(") ")?;
     if result.trim_start().starts_with("= -1") {
         return None;
     }
-    let strings = strings(rest);
+    let strings = decode_strings(rest);
     if what == "write" && words.starts_with('1') {
         let said = String::from_utf8_lossy(strings.last()?).into_owned();
         let lasts = said
@@ -313,8 +313,8 @@ fn read_line(line: &str, folder: &Path) -> Option<Result<Call, u64>> {
     }))
 }
 
-/// Runs the run in a folder under `strace`, and returns the lines that this writes; `None` where there is no `strace`, or it
-/// isn't allowed.
+/// Has `writes_to_the_folder_of_a_run` run under `strace`, and returns the lines that `strace` writes; `None` where there is no
+/// `strace`, or it isn't allowed.
 fn trace_run(room: &TempFolder, folder: &Path) -> Option<String> {
     let log = room.path().join("calls");
     let status = Command::new("strace")
@@ -322,7 +322,12 @@ fn trace_run(room: &TempFolder, folder: &Path) -> Option<String> {
         .arg(&log)
         .arg(format!("--trace={CALLS}"))
         .arg(env::current_exe().unwrap())
-        .args(["--exact", "run", "--ignored", "--nocapture"])
+        .args([
+            "--exact",
+            "writes_to_the_folder_of_a_run",
+            "--ignored",
+            "--nocapture",
+        ])
         .env(FOLDER, folder)
         .stdout(Stdio::null())
         .stderr(Stdio::null())
@@ -331,15 +336,16 @@ fn trace_run(room: &TempFolder, folder: &Path) -> Option<String> {
     status.success().then(|| fs::read_to_string(log).unwrap())
 }
 
-/// Returns the position of the first line with a call `what` on a path.
-fn line_of(log: &str, what: &str, path: &Path) -> Option<usize> {
+/// Returns the position of the first line with a call `what` on a path; `None` where there is none.
+fn line_of_call(log: &str, what: &str, path: &Path) -> Option<usize> {
     let path = path.to_str().unwrap().as_bytes();
-    let is_it = |line: &str| line.contains(what) && strings(line).iter().any(|text| text == path);
+    let is_it =
+        |line: &str| line.contains(what) && decode_strings(line).iter().any(|text| text == path);
     log.lines().position(is_it)
 }
 
 #[test]
-fn each_folder_that_a_stop_may_leave_has_what_was_synced() {
+fn each_folder_that_a_crash_may_leave_has_what_was_synced() {
     let room = TempFolder::new();
     let folder = room.path().join("run");
     let Some(log) = trace_run(&room, &folder) else {
@@ -347,17 +353,17 @@ fn each_folder_that_a_stop_may_leave_has_what_was_synced() {
     };
     // the name of the folder itself is on the disk before anything lasts
     let (made, synced) = (
-        line_of(&log, "mkdir(", &folder),
-        line_of(&log, "fsync(", room.path()),
+        line_of_call(&log, "mkdir(", &folder),
+        line_of_call(&log, "fsync(", room.path()),
     );
     let lasts = log
         .lines()
-        .position(|line| matches!(read_line(line, &folder), Some(Err(_))));
+        .position(|line| matches!(parse_line(line, &folder), Some(Err(_))));
     assert!(made.is_some() && made < synced && synced < lasts);
     let (mut disk, mut certain, mut stops, mut opened) = (Disk::default(), 0, 0, 0);
     let mut tried = BTreeSet::new();
     for line in log.lines() {
-        match read_line(line, &folder) {
+        match parse_line(line, &folder) {
             Some(Ok(call)) if disk.apply_call(&call) => stops += 1,
             Some(Err(lasts)) => certain = lasts,
             _ => continue,
@@ -376,7 +382,7 @@ fn each_folder_that_a_stop_may_leave_has_what_was_synced() {
                 count >= certain,
                 "{count} of {certain} behind change {stops}: {left:?}"
             );
-            assert_eq!(region_of(&engine, 7).unwrap(), expected(count));
+            assert_eq!(read_region(&engine, 7).unwrap(), expected_region(count));
             opened += 1;
         }
     }

@@ -10,8 +10,11 @@ use std::ffi::c_int;
 use std::path::Path;
 use std::{fs, io, mem};
 
+/// The first append file.
 const FIRST: FileId = FileId::new(Queue::Append, 1);
+/// The second append file.
 const SECOND: FileId = FileId::new(Queue::Append, 2);
+/// The first rewrite file.
 const REWRITTEN: FileId = FileId::new(Queue::Rewrite, 1);
 
 thread_local! {
@@ -33,8 +36,8 @@ extern "C" fn fdatasync(file: c_int) -> c_int {
     note_sync(file)
 }
 
-/// Notes the name of what is synced. It fails once, when it is that sync's turn; the next one succeeds again, as systems do that
-/// report dropped bytes only once.
+/// Notes the name of the file or folder that is synced, and returns 0; or -1, for an error, where it is this sync's turn to fail.
+/// The next one succeeds again, as on systems that report dropped bytes only once.
 fn note_sync(file: c_int) -> c_int {
     let path = fs::read_link(format!("/proc/self/fd/{file}")).unwrap();
     let name = path.file_name().unwrap().to_string_lossy();
@@ -44,12 +47,12 @@ fn note_sync(file: c_int) -> c_int {
     if good == 0 { -1 } else { 0 }
 }
 
-/// Returns the names of what was synced since the last call of this.
-fn take_synced() -> Vec<String> {
+/// Returns the names of the files and folders that this thread synced since the last call of this, in order.
+fn take_synced_names() -> Vec<String> {
     SYNCED.with_borrow_mut(mem::take)
 }
 
-/// Returns the last name in a path.
+/// Returns the last name in a path, that of the file or folder itself.
 fn last_name(path: &Path) -> String {
     path.file_name().unwrap().to_str().unwrap().to_owned()
 }
@@ -59,7 +62,10 @@ fn a_file_without_new_bytes_isnt_synced_again() {
     let room = TempFolder::new();
     let path = room.path().join("folder");
     let files = FolderFiles::open(&path).unwrap();
-    assert_eq!(take_synced(), ["folder".to_owned(), last_name(room.path())]);
+    assert_eq!(
+        take_synced_names(),
+        ["folder".to_owned(), last_name(room.path())]
+    );
     let [first, second] = [FIRST, SECOND].map(|file| last_name(&files.path_of(file)));
     let kept = format!("{second}.7.cut");
     type Step<'a> = (&'a str, &'a dyn Fn() -> io::Result<()>, &'a [&'a str]);
@@ -89,12 +95,12 @@ fn a_file_without_new_bytes_isnt_synced_again() {
     ];
     for (at, (what, step, expected)) in steps.iter().enumerate() {
         step().unwrap();
-        assert_eq!(take_synced(), *expected, "{at}: {what}");
+        assert_eq!(take_synced_names(), *expected, "{at}: {what}");
     }
     files.write(SECOND, b"not synced").unwrap();
     drop(files);
     FolderFiles::open(&path).unwrap();
-    let mut again = take_synced();
+    let mut again = take_synced_names();
     assert_eq!(
         again.split_off(2),
         ["folder".to_owned(), last_name(room.path())]
@@ -104,34 +110,37 @@ fn a_file_without_new_bytes_isnt_synced_again() {
 }
 
 #[test]
-fn bytes_of_a_deleted_file_are_synced_no_more() {
+fn a_deleted_file_isnt_synced() {
     let room = TempFolder::new();
     let files = FolderFiles::open(room.path()).unwrap();
     files.rotate(FIRST).unwrap();
     files.write(FIRST, b"bytes").unwrap();
-    take_synced();
+    take_synced_names();
     files.delete(FIRST).unwrap();
     files.sync(Queue::Append).unwrap();
     files.rotate(SECOND).unwrap();
     let folder = last_name(room.path());
-    assert_eq!(take_synced(), [folder.clone(), folder]);
+    assert_eq!(take_synced_names(), [folder.clone(), folder]);
 }
 
 #[test]
-fn an_engine_syncs_its_files_where_bytes_are_to_last() {
+fn an_engine_syncs_a_file_only_where_a_sync_is_asked_for() {
     let room = TempFolder::new();
     let engine = Engine::open(room.path(), Options::new()).unwrap();
-    take_synced();
+    take_synced_names();
     let mut batch = LogBatch::new().unwrap();
     for (sync, expected) in [(false, 0), (true, 1), (true, 1), (false, 0)] {
         batch.put(7, b"key", b"value").unwrap();
         engine.write(&mut batch, sync).unwrap();
-        assert_eq!(take_synced().len(), expected);
+        assert_eq!(take_synced_names().len(), expected);
     }
     engine.sync().unwrap();
-    assert_eq!(take_synced(), [last_name(&engine.files().path_of(FIRST))]);
+    assert_eq!(
+        take_synced_names(),
+        [last_name(&engine.files().path_of(FIRST))]
+    );
     engine.sync().unwrap();
-    assert_eq!(take_synced(), [""; 0]);
+    assert_eq!(take_synced_names(), [""; 0]);
 }
 
 #[test]
@@ -152,13 +161,13 @@ fn after_a_sync_that_failed_nothing_more_is_changed() {
             files.write(FIRST, b"bytes").unwrap();
             GOOD.set(good);
             change(&files).unwrap_err();
-            take_synced();
+            take_synced_names();
             for (change, _) in changes {
                 let e = change(&files).unwrap_err();
                 assert_eq!(e.to_string(), "an earlier change failed", "{at} {good}");
             }
             assert!(files.write(FIRST, b"more").is_err());
-            assert_eq!(take_synced(), [""; 0], "{at} {good}");
+            assert_eq!(take_synced_names(), [""; 0], "{at} {good}");
         }
     }
 }

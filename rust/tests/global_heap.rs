@@ -1,10 +1,10 @@
 //! Tests that with the feature `global-allocator` the library's memory comes from the program's allocator, and goes back there
-//! with the same layout. Each request is also refused once.
+//! with the same layout. Each request is also the first one that is refused.
 #![cfg(feature = "global-allocator")]
 
 mod common;
 
-use common::{batch_bytes, file, files, parts};
+use common::{append_file, append_parts, batch_bytes, demo_files};
 use raft_recover::{
     Batches, Engine, ErrorKind, FilePart, LogBatch, MemoryFiles, Options, Queue, Result, recover,
 };
@@ -21,12 +21,12 @@ static WRONG: AtomicUsize = AtomicUsize::new(0);
 thread_local! {
     /// How many blocks of the library this thread holds.
     static LIVE: Cell<i64> = const { Cell::new(0) };
-    /// How many requests of the library are granted before one is refused.
+    /// How many more requests of the library are granted to this thread; all later ones are refused.
     static GRANTED: Cell<u64> = const { Cell::new(u64::MAX) };
 }
 
 /// The allocator, which notes the layout of each block before it.
-struct Noting;
+struct NotingAllocator;
 
 /// Returns the layout of a block with room for a note of `layout` before it, and how many bytes that room has.
 fn layout_with_note(layout: Layout) -> (Layout, usize) {
@@ -36,7 +36,8 @@ fn layout_with_note(layout: Layout) -> (Layout, usize) {
 }
 
 // SAFETY: the system's allocator does the work. A block that grows is a new one, as it is by default.
-unsafe impl GlobalAlloc for Noting {
+unsafe impl GlobalAlloc for NotingAllocator {
+    /// Allocates a block with a note of its layout before it. Returns null to the library once its granted requests are used up.
     unsafe fn alloc(&self, layout: Layout) -> *mut u8 {
         if layout.align() == OF_LIBRARY {
             if GRANTED.get() == 0 {
@@ -56,6 +57,7 @@ unsafe impl GlobalAlloc for Noting {
         }
     }
 
+    /// Frees a block, and counts it as wrong where its note has another layout.
     unsafe fn dealloc(&self, at: *mut u8, layout: Layout) {
         // SAFETY: the block came from `alloc`.
         unsafe {
@@ -73,10 +75,11 @@ unsafe impl GlobalAlloc for Noting {
 }
 
 #[global_allocator]
-static NOTING: Noting = Noting;
+static NOTING: NotingAllocator = NotingAllocator;
 
-/// Writes, moves and deletes in an engine, opens its files again, and returns how many entries it has.
-fn engine_steps() -> Result<usize> {
+/// Writes, moves and deletes in an engine, opens its files again, and returns how many entries are there. Errs where a call finds
+/// no memory, or the engine has failed before.
+fn run_engine_steps() -> Result<usize> {
     let files = MemoryFiles::new();
     let options = Options::new().recovery_threads(1);
     let engine = Engine::with_files(files.clone(), options.clone())?;
@@ -93,20 +96,25 @@ fn engine_steps() -> Result<usize> {
     Ok(Engine::with_files(files, options)?.entries(7, ..)?.len())
 }
 
-/// Recovers the files of demo/, reads a batch item by item, and returns how many regions and items there were.
-fn recovery_steps() -> Result<usize> {
-    let files = files();
-    let mut regions = recover(&parts(&files), Queue::Append, 1)?.regions()?.len();
-    let bytes = batch_bytes(file(1), |batch| batch.put(7, b"key", b"value").unwrap());
-    for batch in Batches::new(FilePart::new(file(1), &bytes))? {
+/// Recovers the files of demo/, reads a batch item by item, and returns how many regions and items there were. Errs where a call
+/// finds no memory.
+fn run_recovery_steps() -> Result<usize> {
+    let files = demo_files();
+    let mut regions = recover(&append_parts(&files), Queue::Append, 1)?
+        .regions()?
+        .len();
+    let bytes = batch_bytes(append_file(1), |batch| {
+        batch.put(7, b"key", b"value").unwrap()
+    });
+    for batch in Batches::new(FilePart::new(append_file(1), &bytes))? {
         regions += batch?.len();
     }
     Ok(regions)
 }
 
 #[test]
-fn what_the_library_takes_goes_back_as_it_came() {
-    for steps in [engine_steps, recovery_steps] {
+fn blocks_go_back_to_the_allocator_with_the_layout_that_they_came_with() {
+    for steps in [run_engine_steps, run_recovery_steps] {
         assert!(steps().unwrap() > 1);
         assert_eq!(LIVE.get(), 0);
         assert_eq!(WRONG.load(SeqCst), 0);
@@ -114,10 +122,10 @@ fn what_the_library_takes_goes_back_as_it_came() {
 }
 
 #[test]
-fn each_request_is_refused_in_turn_and_nothing_is_left() {
+fn no_block_is_left_whichever_request_is_the_first_to_be_refused() {
     for granted in 0.. {
         GRANTED.set(granted);
-        let result = engine_steps();
+        let result = run_engine_steps();
         let is_over = GRANTED.replace(u64::MAX) > 0;
         assert_eq!((LIVE.get(), WRONG.load(SeqCst)), (0, 0), "{granted}");
         match result {

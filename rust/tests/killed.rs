@@ -2,14 +2,14 @@
 
 mod common;
 
-use common::{TempFolder, top};
+use common::{TempFolder, repository_folder};
 use raft_recover::{Engine, ErrorKind, Options};
 use std::env;
 use std::io::{BufRead, BufReader};
 use std::path::PathBuf;
 use std::process::{Command, Stdio};
 
-/// Returns the path of the program, which `cargo test` builds beside the tests.
+/// Returns the path of the program `ten_lines`, which `cargo test` builds beside the tests. Panics where it isn't there.
 fn program_path() -> PathBuf {
     let tests = env::current_exe().unwrap();
     let path = tests.ancestors().nth(2).unwrap().join("examples/ten_lines");
@@ -60,7 +60,7 @@ fn a_program_that_is_killed_while_it_writes_finds_what_it_wrote() {
 
 #[test]
 fn the_readme_shows_the_program() {
-    let read = |path| std::fs::read_to_string(top().join("rust").join(path)).unwrap();
+    let read = |path| std::fs::read_to_string(repository_folder().join("rust").join(path)).unwrap();
     let program = read("examples/ten_lines.rs");
     let (_, program) = program.split_once("\n\n").unwrap();
     assert!(read("README.md").contains(program));

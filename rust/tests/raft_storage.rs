@@ -8,9 +8,9 @@ mod common;
 mod raft_storage;
 
 use common::TempFolder;
-use common::hooked::{Call, Hooked};
+use common::hooked::{Call, HookedFiles};
 use common::model::Draw;
-use common::seeds::number;
+use common::seeds::number_from_env;
 use raft_recover::{Engine, Files, MemoryFiles, Options, Queue, Unsynced};
 use raft_storage::{
     ConfState, Entry, HardState, RaftStorage, Result, SnapshotMetadata, Storage, StorageError,
@@ -23,6 +23,7 @@ use std::sync::atomic::{AtomicUsize, Ordering::SeqCst};
 use std::time::Duration;
 use std::{env, thread};
 
+/// The region that has the log.
 const REGION: u64 = 7;
 
 /// What a log has to have.
@@ -42,27 +43,31 @@ enum Step {
 }
 
 impl Model {
-    /// Returns the index of the last entry; without entries that of the snapshot.
-    fn last(&self) -> u64 {
+    /// Returns the index of the last entry; without entries that of the last one in the snapshot.
+    fn last_index(&self) -> u64 {
         let last = self.entries.keys().next_back().copied();
         last.unwrap_or(self.snapshot.index)
     }
 
-    /// Returns the term of an entry; that of the snapshot where there is no such entry.
-    fn term(&self, index: u64) -> u64 {
+    /// Returns the term of the entry at an index; that of the snapshot where there is no such entry.
+    fn term_at(&self, index: u64) -> u64 {
         let entry = self.entries.get(&index);
         entry.map_or(self.snapshot.term, |entry| entry.term)
     }
 
     /// Returns the index up to which entries are committed.
-    fn commit(&self) -> u64 {
+    fn committed_index(&self) -> u64 {
         self.hard_state.commit.max(self.snapshot.index)
     }
 
-    /// Draws the next step of a node.
-    fn draw(&self, draw: &mut Draw) -> Step {
-        let (first, last, commit) = (self.snapshot.index + 1, self.last(), self.commit());
-        let mut below = |end: u64| draw.below(end as usize) as u64;
+    /// Draws a step that a node may take next: one that its log doesn't refuse.
+    fn draw_step(&self, draw: &mut Draw) -> Step {
+        let (first, last, commit) = (
+            self.snapshot.index + 1,
+            self.last_index(),
+            self.committed_index(),
+        );
+        let mut below = |end: u64| draw.number_below(end as usize) as u64;
         match below(10) {
             0 | 1 => Step::SetHardState(HardState {
                 term: self.hard_state.term + below(2),
@@ -71,11 +76,15 @@ impl Model {
             }),
             2 | 3 if commit >= first => {
                 let index = first + below(commit - first + 1);
-                Step::Compact(self.snapshot_at(index, self.term(index), below(4)))
+                Step::Compact(self.snapshot_at(index, self.term_at(index), below(4)))
             }
             4 if below(3) == 0 => {
                 let index = commit + 1 + below(last - commit + 5);
-                Step::ApplySnapshot(self.snapshot_at(index, self.term(last) + below(2), below(4)))
+                Step::ApplySnapshot(self.snapshot_at(
+                    index,
+                    self.term_at(last) + below(2),
+                    below(4),
+                ))
             }
             _ => {
                 let at_end = last + 1;
@@ -85,7 +94,7 @@ impl Model {
                 } else {
                     at_end
                 };
-                let mut term = self.term(first - 1) + below(2);
+                let mut term = self.term_at(first - 1) + below(2);
                 let entries = (first..first + 1 + below(4)).map(|index| {
                     term += u64::from(below(4) == 0);
                     let data = vec![below(256) as u8; below(40) as usize];
@@ -106,8 +115,8 @@ impl Model {
         }
     }
 
-    /// Applies a step.
-    fn apply(&mut self, step: &Step) {
+    /// Makes the change of a step.
+    fn apply_step(&mut self, step: &Step) {
         match step {
             Step::Append(entries) => {
                 self.entries.split_off(&entries[0].index);
@@ -127,8 +136,8 @@ impl Model {
     }
 }
 
-/// Takes a step by the calls of a log.
-fn take<F: Files>(log: &mut RaftStorage<F>, step: Step) -> Result<()> {
+/// Takes a step by the call of a log for it, and returns what the call does.
+fn take_step<F: Files>(log: &mut RaftStorage<F>, step: Step) -> Result<()> {
     match step {
         Step::Append(entries) => log.append(&entries),
         Step::SetHardState(hard_state) => log.set_hard_state(hard_state),
@@ -137,26 +146,27 @@ fn take<F: Files>(log: &mut RaftStorage<F>, step: Step) -> Result<()> {
     }
 }
 
-/// Tests, by the six calls of a log, whether it has what it has to have.
-fn has_all<F: Files>(log: &RaftStorage<F>, model: &Model) -> bool {
-    let (first, last) = (model.snapshot.index + 1, model.last());
+/// Tests, by the six calls of a log, whether it has just what the model has. Panics where one of them fails.
+fn matches_model<F: Files>(log: &RaftStorage<F>, model: &Model) -> bool {
+    let (first, last) = (model.snapshot.index + 1, model.last_index());
     if (log.first_index().unwrap(), log.last_index().unwrap()) != (first, last) {
         return false;
     }
     let hard_state = HardState {
-        commit: model.commit(),
+        commit: model.committed_index(),
         ..model.hard_state
     };
     let entries = log.entries(first, last + 1, None).unwrap();
     let terms = (first - 1..=last).map(|index| log.term(index).unwrap());
     entries.iter().eq(model.entries.values())
-        && terms.eq((first - 1..=last).map(|index| model.term(index)))
+        && terms.eq((first - 1..=last).map(|index| model.term_at(index)))
         && log.initial_state().unwrap() == (hard_state, model.snapshot.conf_state.clone())
         && log.snapshot(first - 1, 1).unwrap() == model.snapshot
 }
 
-/// Tests what a log refuses, and that it keeps to a limit on the bytes of entries.
-fn assert_refuses<F: Files>(log: &mut RaftStorage<F>) {
+/// Tests that a log refuses indexes that it doesn't have, holes and old snapshots, and that it keeps to a limit on the bytes of
+/// entries.
+fn assert_refusals<F: Files>(log: &mut RaftStorage<F>) {
     let (first, end) = (log.first_index().unwrap(), log.last_index().unwrap() + 1);
     let entry = |index| Entry {
         index,
@@ -204,17 +214,17 @@ fn assert_refuses<F: Files>(log: &mut RaftStorage<F>) {
 }
 
 /// Returns options with files so small that records move, and files are deleted.
-fn options() -> Options {
+fn small_file_options() -> Options {
     Options::new().target_file_size(1000).purge_above(2000)
 }
 
-/// Returns the files that a random crash leaves behind the first `asks` asks.
-fn draw_left(files: &MemoryFiles, asks: usize, draw: &mut Draw) -> MemoryFiles {
+/// Draws a crash behind the first `asks` asks, and returns the files that it leaves.
+fn files_after_random_crash(files: &MemoryFiles, asks: usize, draw: &mut Draw) -> MemoryFiles {
     let [append, rewrite] = [Queue::Append, Queue::Rewrite].map(|queue| {
         let Unsynced { steps, deletions } = files.unsynced(asks, queue);
         Unsynced {
-            steps: draw.below(steps + 1),
-            deletions: draw.below(deletions + 1),
+            steps: draw.number_below(steps + 1),
+            deletions: draw.number_below(deletions + 1),
         }
     });
     files.left(asks, append, rewrite)
@@ -226,30 +236,33 @@ fn a_log_has_what_was_acknowledged_wherever_the_machine_stops() {
         let mut draw = Draw::new(seed);
         let (mut files, mut model) = (MemoryFiles::new(), Model::default());
         for _life in 0..8 {
-            let engine = Arc::new(Engine::with_files(files.clone(), options()).unwrap());
+            let engine = Arc::new(Engine::with_files(files.clone(), small_file_options()).unwrap());
             let mut log = RaftStorage::open(engine.clone(), REGION).unwrap();
-            assert!(has_all(&log, &model));
+            assert!(matches_model(&log, &model));
             let (mut before, mut asked) = (model.clone(), files.asked());
             let mut acknowledged = asked;
-            for _ in 0..1 + draw.below(30) {
+            for _ in 0..1 + draw.number_below(30) {
                 (before, asked) = (model.clone(), files.asked());
-                let step = model.draw(&mut draw);
-                model.apply(&step);
-                take(&mut log, step).unwrap();
+                let step = model.draw_step(&mut draw);
+                model.apply_step(&step);
+                take_step(&mut log, step).unwrap();
                 acknowledged = files.asked();
-                assert!(has_all(&log, &model));
-                assert_refuses(&mut log);
-                if draw.once_in(10) {
+                assert!(matches_model(&log, &model));
+                assert_refusals(&mut log);
+                if draw.happens_once_in(10) {
                     engine.purge().unwrap();
                 }
             }
             // the machine stops in the midst of the last step, or behind it
-            let asks = asked + draw.below(files.asked() - asked + 1);
-            files = draw_left(&files, asks, &mut draw);
-            let engine = Arc::new(Engine::with_files(files.clone(), options()).unwrap());
+            let asks = asked + draw.number_below(files.asked() - asked + 1);
+            files = files_after_random_crash(&files, asks, &mut draw);
+            let engine = Arc::new(Engine::with_files(files.clone(), small_file_options()).unwrap());
             let log = RaftStorage::open(engine, REGION).unwrap();
-            if !has_all(&log, &model) {
-                assert!(asks < acknowledged && has_all(&log, &before), "seed {seed}");
+            if !matches_model(&log, &model) {
+                assert!(
+                    asks < acknowledged && matches_model(&log, &before),
+                    "seed {seed}"
+                );
                 model = before;
             }
         }
@@ -257,10 +270,10 @@ fn a_log_has_what_was_acknowledged_wherever_the_machine_stops() {
 }
 
 #[test]
-fn terms_cost_no_read() {
+fn the_term_of_an_entry_is_told_without_a_read_of_files() {
     let reads = Arc::new(AtomicUsize::new(0));
     let counted = reads.clone();
-    let files = Hooked::new(&MemoryFiles::new(), move |call: Call<'_>| {
+    let files = HookedFiles::new(&MemoryFiles::new(), move |call: Call<'_>| {
         counted.fetch_add(usize::from(!call.is_change()), SeqCst);
         Ok(())
     });
@@ -301,9 +314,9 @@ impl History {
     }
 
     /// Draws the next step, and applies it to the model.
-    fn next(&mut self) -> Step {
-        let step = self.model.draw(&mut self.draw);
-        self.model.apply(&step);
+    fn next_step(&mut self) -> Step {
+        let step = self.model.draw_step(&mut self.draw);
+        self.model.apply_step(&step);
         step
     }
 }
@@ -316,12 +329,12 @@ fn writes_until_it_is_killed() {
     };
     let (seed, taken) = history.split_once(' ').unwrap();
     let (mut history, taken) = (History::new(seed.parse().unwrap()), taken.parse().unwrap());
-    let engine = Arc::new(Engine::open(folder, options()).unwrap());
+    let engine = Arc::new(Engine::open(folder, small_file_options()).unwrap());
     let mut log = RaftStorage::open(engine.clone(), REGION).unwrap();
     for number in 1_u64.. {
-        let step = history.next();
+        let step = history.next_step();
         if number > taken {
-            take(&mut log, step).unwrap();
+            take_step(&mut log, step).unwrap();
             println!("took {number}.");
             if number.is_multiple_of(10) {
                 engine.purge().unwrap();
@@ -330,8 +343,8 @@ fn writes_until_it_is_killed() {
     }
 }
 
-/// Starts the test that writes, kills it, and returns the number of the last step that it has printed as taken. `taken` steps of
-/// the history were taken before.
+/// Runs `writes_until_it_is_killed` in a process, and kills that after a random time. Returns the number of the last step that it
+/// has printed as taken. `taken` steps of the history were taken before.
 fn write_until_killed(folder: &TempFolder, seed: u64, taken: u64, draw: &mut Draw) -> u64 {
     let mut child = Command::new(env::current_exe().unwrap())
         .args(["--exact", "writes_until_it_is_killed"])
@@ -346,8 +359,8 @@ fn write_until_killed(folder: &TempFolder, seed: u64, taken: u64, draw: &mut Dra
         let (_, number) = line.split_once("took ")?;
         number.strip_suffix('.')?.parse::<u64>().ok()
     });
-    let heard = numbers.by_ref().take(1 + draw.below(100)).last();
-    thread::sleep(Duration::from_micros(draw.below(2000) as u64));
+    let heard = numbers.by_ref().take(1 + draw.number_below(100)).last();
+    thread::sleep(Duration::from_micros(draw.number_below(2000) as u64));
     child.kill().unwrap();
     child.wait().unwrap();
     numbers.last().or(heard).unwrap()
@@ -360,7 +373,7 @@ const KILLS: u64 = 10;
 /// times.
 #[test]
 fn a_log_has_what_was_acknowledged_whenever_its_process_is_killed() {
-    let (first, count) = (number("SEED", 0), number("HISTORIES", 3));
+    let (first, count) = (number_from_env("SEED", 0), number_from_env("HISTORIES", 3));
     let (mut draw, mut steps) = (Draw::new(first), 0);
     for seed in first..first + count {
         let room = TempFolder::new();
@@ -370,16 +383,19 @@ fn a_log_has_what_was_acknowledged_whenever_its_process_is_killed() {
             let said = write_until_killed(&room, seed, taken, &mut draw);
             assert!(said > taken);
             while taken < said {
-                history.next();
+                history.next_step();
                 taken += 1;
             }
-            let engine = Arc::new(Engine::open(room.path(), options()).unwrap());
+            let engine = Arc::new(Engine::open(room.path(), small_file_options()).unwrap());
             let log = RaftStorage::open(engine, REGION).unwrap();
-            if !has_all(&log, &history.model) {
+            if !matches_model(&log, &history.model) {
                 // the step that it was taking when it was killed may be there
-                history.next();
+                history.next_step();
                 taken += 1;
-                assert!(has_all(&log, &history.model), "seed {seed}, step {said}");
+                assert!(
+                    matches_model(&log, &history.model),
+                    "seed {seed}, step {said}"
+                );
             }
         }
         steps += taken;

@@ -3,9 +3,9 @@
 mod common;
 
 use common::TempFolder;
-use common::engines::write;
-use common::hooked::{Call, Hooked};
-use common::model::{Region, region_of};
+use common::engines::write_batch;
+use common::hooked::{Call, HookedFiles};
+use common::model::{Region, read_region};
 use raft_recover::{
     Engine, ErrorKind, FileId, Files, FolderFiles, LogBatch, MemoryFiles, Options, Queue,
 };
@@ -22,7 +22,8 @@ use std::{env, fs, io};
 /// The environment variable that names the folder which another user reads.
 const FOLDER: &str = "RAFT_RECOVER_READ_ONLY";
 
-/// Returns the errors of all kinds of changes of an engine, each with the name of its call.
+/// Makes each kind of change of an engine that refuses all, and returns the errors, each with the name of its call. Panics where
+/// one succeeds, or takes something out of its batch.
 fn errors_of_changes<F: Files>(engine: &Engine<F>) -> [(&'static str, raft_recover::Error); 6] {
     let mut batch = LogBatch::new().unwrap();
     batch.put(7, b"key", b"value").unwrap();
@@ -43,7 +44,7 @@ fn errors_of_changes<F: Files>(engine: &Engine<F>) -> [(&'static str, raft_recov
 fn torn_files() -> MemoryFiles {
     let engine = Engine::with_files(MemoryFiles::new(), Options::new()).unwrap();
     for index in 1..=6 {
-        write(&engine, |batch| {
+        write_batch(&engine, |batch| {
             batch.add_entries(7, index, &[index.to_string()])?;
             batch.put(7, b"a", &index.to_le_bytes())
         });
@@ -60,8 +61,8 @@ fn torn_files() -> MemoryFiles {
     MemoryFiles::found(append, rewrite)
 }
 
-/// Returns what region 7 of these files has.
-fn expected() -> Region {
+/// Returns what region 7 has to have in the files of `torn_files`.
+fn expected_region() -> Region {
     let entries = (1..=6).map(|index: u64| (index, index.to_string().into_bytes()));
     let keys = [(b"a".to_vec(), 6u64.to_le_bytes().to_vec())];
     Region {
@@ -71,27 +72,27 @@ fn expected() -> Region {
 }
 
 #[test]
-fn nothing_is_asked_but_to_read_and_every_change_is_refused_by_name() {
+fn a_read_only_engine_only_reads_and_refuses_every_change_by_name() {
     let files = torn_files();
     let lens = |files: &MemoryFiles| {
         let lens = [Queue::Append, Queue::Rewrite].map(|queue| files.list(queue).unwrap());
         lens.concat().iter().map(|(_, len)| len).sum::<u64>()
     };
     let found = lens(&files);
-    let hooked = Hooked::new(&files, |call: Call<'_>| {
+    let hooked = HookedFiles::new(&files, |call: Call<'_>| {
         assert!(!call.is_change(), "{call:?}");
         Ok(())
     });
     let engine = Engine::with_files_read_only(hooked, Options::new()).unwrap();
     assert!(engine.is_read_only());
-    assert_eq!(region_of(&engine, 7).unwrap(), expected());
+    assert_eq!(read_region(&engine, 7).unwrap(), expected_region());
     assert_eq!(engine.regions().unwrap(), [7]);
     for (name, e) in errors_of_changes(&engine) {
         assert_eq!(e.kind, ErrorKind::InvalidArgument);
         let text = format!("Invalid Argument: {name}: the engine is open for reading alone");
         assert_eq!(e.text, text);
     }
-    assert_eq!(region_of(&engine, 7).unwrap(), expected());
+    assert_eq!(read_region(&engine, 7).unwrap(), expected_region());
     assert_eq!(files.asked(), 0);
     // the tails are cut in memory, and told of
     let stats = engine.stats();
@@ -107,7 +108,7 @@ fn nothing_is_asked_but_to_read_and_every_change_is_refused_by_name() {
 }
 
 #[test]
-fn files_of_which_there_are_none_are_read_too() {
+fn a_read_only_opening_of_no_files_finds_no_records() {
     let engine = Engine::with_files_read_only(MemoryFiles::new(), Options::new()).unwrap();
     assert_eq!(engine.regions().unwrap(), []);
     assert_eq!(engine.entries(7, ..).unwrap().len(), 0);
@@ -118,15 +119,16 @@ fn files_of_which_there_are_none_are_read_too() {
 }
 
 #[test]
-fn what_an_opening_refuses_is_refused() {
+fn a_missing_file_is_refused_by_a_read_only_opening_too() {
     let found = MemoryFiles::found(vec![(1, vec![]), (3, vec![])], vec![]);
     let e = Engine::with_files_read_only(found, Options::new()).unwrap_err();
     assert_eq!(e.kind, ErrorKind::Corruption);
     assert_eq!(e.file, Some(FileId::new(Queue::Append, 2)));
 }
 
-/// Returns the files in a folder by their names: the bytes of each, and when it was changed last.
-fn files_in(folder: &Path) -> BTreeMap<String, (Vec<u8>, i64, i64)> {
+/// Reads all files in a folder, and returns by its name the bytes of each, and when it was changed last, in seconds and
+/// nanoseconds.
+fn read_files_with_times(folder: &Path) -> BTreeMap<String, (Vec<u8>, i64, i64)> {
     let entries = fs::read_dir(folder).unwrap().map(Result::unwrap);
     let seen = entries.map(|entry| {
         let name = entry.file_name().into_string().unwrap();
@@ -137,7 +139,7 @@ fn files_in(folder: &Path) -> BTreeMap<String, (Vec<u8>, i64, i64)> {
     seen.collect()
 }
 
-/// Writes the torn files into a folder.
+/// Writes the files of `torn_files` into a folder, by the names that they have in one.
 fn write_torn_files(folder: &Path) {
     let files = torn_files();
     for (queue, ending) in [(Queue::Append, "raftlog"), (Queue::Rewrite, "rewrite")] {
@@ -148,19 +150,19 @@ fn write_torn_files(folder: &Path) {
 }
 
 #[test]
-fn a_folder_stays_as_it_is() {
+fn a_read_only_opening_leaves_a_folder_unchanged() {
     let room = TempFolder::new();
     write_torn_files(room.path());
-    let before = files_in(room.path());
+    let before = read_files_with_times(room.path());
     assert_eq!(before.len(), 2);
     let engine = Engine::open_read_only(room.path(), Options::new()).unwrap();
-    assert_eq!(region_of(&engine, 7).unwrap(), expected());
+    assert_eq!(read_region(&engine, 7).unwrap(), expected_region());
     assert_eq!(
         errors_of_changes(&engine)[0].1.kind,
         ErrorKind::InvalidArgument
     );
     drop(engine);
-    assert_eq!(files_in(room.path()), before);
+    assert_eq!(read_files_with_times(room.path()), before);
 
     let none = room.path().join("none");
     let e = Engine::open_read_only(&none, Options::new()).unwrap_err();
@@ -170,13 +172,13 @@ fn a_folder_stays_as_it_is() {
 }
 
 #[test]
-fn several_read_a_folder_while_nobody_writes_to_it() {
+fn several_engines_read_a_folder_while_none_writes_to_it() {
     let room = TempFolder::new();
     let path = room.path();
     let open = || Engine::open(path, Options::new()).map_err(|e| e.kind);
     let read = || Engine::open_read_only(path, Options::new()).map_err(|e| e.kind);
     let writing = open().unwrap();
-    write(&writing, |batch| batch.put(7, b"a", b"value"));
+    write_batch(&writing, |batch| batch.put(7, b"a", b"value"));
     for is_lock_there in [true, false] {
         if !is_lock_there {
             fs::remove_file(path.join("LOCK")).unwrap();
@@ -201,7 +203,7 @@ fn several_read_a_folder_while_nobody_writes_to_it() {
 }
 
 #[test]
-fn files_that_are_read_alone_refuse_every_change() {
+fn read_only_files_of_a_folder_refuse_every_change() {
     type Change = fn(&FolderFiles) -> io::Result<()>;
     let changes: [Change; 5] = [
         |files| files.write(FileId::new(Queue::Append, 2), b".."),
@@ -212,7 +214,7 @@ fn files_that_are_read_alone_refuse_every_change() {
     ];
     let room = TempFolder::new();
     write_torn_files(room.path());
-    let before = files_in(room.path());
+    let before = read_files_with_times(room.path());
     let files = FolderFiles::open_read_only(room.path()).unwrap();
     for change in changes {
         let e = change(&files).unwrap_err();
@@ -225,7 +227,7 @@ fn files_that_are_read_alone_refuse_every_change() {
         .unwrap();
     assert!(bytes.ends_with(b"a torn tail"));
     drop(files);
-    assert_eq!(files_in(room.path()), before);
+    assert_eq!(read_files_with_times(room.path()), before);
 }
 
 /// Reads a folder that another test names, and in which this process may not write.
@@ -240,7 +242,7 @@ fn reads_a_folder_as_another_user() {
     assert_eq!(e.kind, ErrorKind::Io, "{e}");
     assert!(fs::write(folder.join("new"), "").is_err());
     let engine = Engine::open_read_only(folder, Options::new()).unwrap();
-    assert_eq!(region_of(&engine, 7).unwrap(), expected());
+    assert_eq!(read_region(&engine, 7).unwrap(), expected_region());
     println!("read");
 }
 

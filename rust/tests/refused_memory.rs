@@ -6,7 +6,7 @@
 
 mod common;
 
-use common::{batch_bytes, file, files, parts, run};
+use common::{append_file, append_parts, batch_bytes, demo_files, entries_in_file};
 use raft_recover::{
     Batches, Context, Engine, ErrorKind, LogBatch, MemoryFiles, Options, Queue, Result, Slot,
     Tables, recover, slot_of,
@@ -25,7 +25,7 @@ static TURN: Mutex<()> = Mutex::new(());
 
 /// The answer to a request for memory, as the library reads it: whether it is granted, and the block.
 #[repr(C)]
-struct Tried {
+struct HeapAnswer {
     ok: bool,
     p: *mut u8,
 }
@@ -33,21 +33,21 @@ struct Tried {
 /// How many bytes are allocated before each block; its size stands there.
 const HEAD: usize = 16;
 
-/// Returns the layout of a block of `n` bytes with the bytes before it.
-fn layout(n: usize) -> Layout {
+/// Returns the layout of a block of `n` bytes together with the bytes before it.
+fn layout_with_head(n: usize) -> Layout {
     Layout::from_size_align(n + HEAD, HEAD).unwrap()
 }
 
 /// Returns the answer to a request for `n` bytes, which were allocated at `p`, with the bytes before the block. It is a
 /// refusal if `p` is null.
-fn answer_request(p: *mut u8, n: usize) -> Tried {
+fn answer_request(p: *mut u8, n: usize) -> HeapAnswer {
     if p.is_null() {
-        return refusal();
+        return refuse_request();
     }
     // SAFETY: the block has room for its size in front.
     unsafe {
         p.cast::<usize>().write(n);
-        Tried {
+        HeapAnswer {
             ok: true,
             p: p.add(HEAD),
         }
@@ -58,40 +58,40 @@ fn answer_request(p: *mut u8, n: usize) -> Tried {
 static NOTHING: AtomicU64 = AtomicU64::new(0);
 
 /// Returns the answer that refuses a request.
-fn refusal() -> Tried {
-    Tried {
+fn refuse_request() -> HeapAnswer {
+    HeapAnswer {
         ok: false,
         p: NOTHING.as_ptr().cast(),
     }
 }
 
-/// Counts a request, and returns whether it is the one to refuse.
+/// Counts a request for memory, and returns whether it is the one to refuse.
 fn is_refused() -> bool {
     GRANTED.fetch_sub(1, SeqCst) == 0
 }
 
 /// Allocates a block for the library, unless the request is to be refused.
 #[unsafe(no_mangle)]
-extern "C" fn rattle_alloc(n: usize, _a: usize) -> Tried {
+extern "C" fn rattle_alloc(n: usize, _a: usize) -> HeapAnswer {
     if is_refused() {
-        return refusal();
+        return refuse_request();
     }
     LIVE.fetch_add(1, SeqCst);
     // SAFETY: the layout isn't empty.
-    answer_request(unsafe { alloc(layout(n)) }, n)
+    answer_request(unsafe { alloc(layout_with_head(n)) }, n)
 }
 
 /// Gives a block of the library another size, unless the request is to be refused.
 #[unsafe(no_mangle)]
-unsafe extern "C" fn rattle_realloc(p: *mut u8, _kept: usize, n: usize, _a: usize) -> Tried {
+unsafe extern "C" fn rattle_realloc(p: *mut u8, _kept: usize, n: usize, _a: usize) -> HeapAnswer {
     if is_refused() {
-        return refusal();
+        return refuse_request();
     }
     // SAFETY: the block came from `answer_request`.
     unsafe {
         let block = p.sub(HEAD);
         let old = block.cast::<usize>().read();
-        answer_request(realloc(block, layout(old), n + HEAD), n)
+        answer_request(realloc(block, layout_with_head(old), n + HEAD), n)
     }
 }
 
@@ -102,7 +102,7 @@ unsafe extern "C" fn rattle_dealloc(p: *mut u8) {
     // SAFETY: the block came from `answer_request`.
     unsafe {
         let block = p.sub(HEAD);
-        dealloc(block, layout(block.cast::<usize>().read()));
+        dealloc(block, layout_with_head(block.cast::<usize>().read()));
     }
 }
 
@@ -138,54 +138,63 @@ fn refuse_in_turn<T>(
     refused
 }
 
-/// Makes a batch with entries and a key.
-fn batch() -> LogBatch {
+/// Makes a batch of region 7: two entries and a key.
+fn small_batch() -> LogBatch {
     let mut batch = LogBatch::new().unwrap();
     batch.add_entries(7, 10, &["one", "three"]).unwrap();
     batch.put(7, b"key", b"value").unwrap();
     batch
 }
 
-/// Makes tables with entries of a region in a queue.
-fn tables(queue: Queue) -> Tables {
+/// Makes tables with eight entries of region 7 in a queue.
+fn tables_in_queue(queue: Queue) -> Tables {
     let mut tables = Tables::new().unwrap();
-    tables.append(7, &run(Queue::Append, 1, 1..9)).unwrap();
+    tables
+        .append(7, &entries_in_file(Queue::Append, 1, 1..9))
+        .unwrap();
     if queue == Queue::Rewrite {
-        let moved = run(queue, 2, 1..9);
+        let moved = entries_in_file(queue, 2, 1..9);
         tables.rewrite(7, &moved, Some(1)).unwrap();
     }
     tables
 }
 
-/// Makes batches and items, and drops them at each stage.
-fn batches_and_items() {
-    drop(batch());
-    let mut encoded = batch();
+/// Makes batches and their items, and drops them at each stage.
+fn make_and_drop_batches() {
+    drop(small_batch());
+    let mut encoded = small_batch();
     encoded.finish().unwrap();
     drop(encoded);
-    let mut merged = batch();
-    merged.merge(&mut batch()).unwrap();
-    let bytes = batch_bytes(file(1), |more| merged.merge(more).unwrap());
+    let mut merged = small_batch();
+    merged.merge(&mut small_batch()).unwrap();
+    let bytes = batch_bytes(append_file(1), |more| merged.merge(more).unwrap());
     assert_eq!(bytes, b"");
     drop(merged.into_items().unwrap());
-    let bytes = batch_bytes(file(1), |more| more.merge(&mut batch()).unwrap());
-    let part = parts(std::slice::from_ref(&bytes))[0];
+    let bytes = batch_bytes(append_file(1), |more| {
+        more.merge(&mut small_batch()).unwrap()
+    });
+    let part = append_parts(std::slice::from_ref(&bytes))[0];
     assert_eq!(Batches::new(part).unwrap().count(), 1);
     let items = Batches::new(part).unwrap().next().unwrap().unwrap();
     Tables::new().unwrap().apply_append(items).unwrap();
 }
 
-/// Makes tables, slots and contexts, and merges them.
-fn tables_and_contexts() {
-    let mut older = tables(Queue::Append);
-    older.merge_newer(tables(Queue::Append)).unwrap();
-    let mut rewritten = tables(Queue::Rewrite);
-    rewritten.merge_append(tables(Queue::Append)).unwrap();
-    rewritten.merge_append(tables(Queue::Append)).unwrap_err();
+/// Makes tables, slots and contexts, merges them, also where that is refused, and drops them.
+fn make_and_drop_tables() {
+    let mut older = tables_in_queue(Queue::Append);
+    older.merge_newer(tables_in_queue(Queue::Append)).unwrap();
+    let mut rewritten = tables_in_queue(Queue::Rewrite);
+    rewritten
+        .merge_append(tables_in_queue(Queue::Append))
+        .unwrap();
+    rewritten
+        .merge_append(tables_in_queue(Queue::Append))
+        .unwrap_err();
     older.remove(7, true).unwrap();
     drop(older.take_cleaned_logs().unwrap());
     let mut slot = Slot::new(slot_of(7)).unwrap();
-    slot.append(7, &run(Queue::Append, 1, 1..9)).unwrap();
+    slot.append(7, &entries_in_file(Queue::Append, 1, 1..9))
+        .unwrap();
     let mut both = Context::new().unwrap();
     both.merge(Context::new().unwrap(), Queue::Rewrite).unwrap();
     both.overlay(Context::new().unwrap()).unwrap();
@@ -193,19 +202,22 @@ fn tables_and_contexts() {
 }
 
 #[test]
-fn nothing_is_left_of_what_is_let_go() {
+fn values_that_are_dropped_leave_no_block() {
     let _turn = TURN.lock();
-    for (i, make) in [batches_and_items, tables_and_contexts].iter().enumerate() {
+    for (i, make) in [make_and_drop_batches, make_and_drop_tables]
+        .iter()
+        .enumerate()
+    {
         make();
         assert_eq!(LIVE.load(SeqCst), 0, "{i}");
     }
 }
 
 #[test]
-fn every_request_refused_in_turn() {
+fn recovery_without_memory_fails_and_leaves_no_block() {
     let _turn = TURN.lock();
-    let files = files();
-    let parts = parts(&files);
+    let files = demo_files();
+    let parts = append_parts(&files);
     let recovered = || recover(&parts, Queue::Append, 2);
     let whole = recovered().unwrap().to_string();
     let live = recovered().unwrap().live(Queue::Append).to_string();
@@ -224,8 +236,8 @@ fn every_request_refused_in_turn() {
     );
 }
 
-/// Makes a slot to which its items of a batch were applied.
-fn slot_with_share() -> Result<Slot> {
+/// Makes a slot to which its share of a batch was applied: two entries and a key of region 7. Errs where memory is refused.
+fn slot_with_applied_batch() -> Result<Slot> {
     let mut batch = LogBatch::new()?;
     batch.add_entries(7, 10, &["one", "three"])?;
     batch.put(7, b"key", b"value")?;
@@ -233,8 +245,8 @@ fn slot_with_share() -> Result<Slot> {
     let mut slot = Slot::new(slot_of(7))?;
     slot.check_append(&batch)?;
     batch.finish()?;
-    batch.sign(file(1))?;
-    batch.written(file(1).into(), 0)?;
+    batch.sign(append_file(1))?;
+    batch.written(append_file(1).into(), 0)?;
     slot.apply_append(&batch.into_items()?)?;
     assert_eq!(slot.regions()?, [7]);
     assert_eq!(slot.pairs(7)?.len(), 1);
@@ -242,15 +254,15 @@ fn slot_with_share() -> Result<Slot> {
 }
 
 #[test]
-fn a_share_is_tested_and_written_without_leaks_where_memory_is_refused() {
+fn a_batch_is_applied_to_a_slot_without_leaks_where_memory_is_refused() {
     let _turn = TURN.lock();
     let live = |slot: Slot| slot.live(Queue::Append).to_string();
-    let refused = refuse_in_turn("3", slot_with_share, live);
+    let refused = refuse_in_turn("3", slot_with_applied_batch, live);
     assert!(refused > 20, "{refused}");
 }
 
 #[test]
-fn what_is_lent_for_moves_is_let_go() {
+fn moves_of_records_leave_no_more_blocks_each_time() {
     let _turn = TURN.lock();
     let engine = Engine::with_files(MemoryFiles::new(), Options::new()).unwrap();
     let mut batch = LogBatch::new().unwrap();
@@ -271,8 +283,9 @@ fn what_is_lent_for_moves_is_let_go() {
     assert_eq!(first, later);
 }
 
-/// Takes all kinds of steps of an engine, and adds to `written` how many batches were written.
-fn engine_steps(engine: &Engine<MemoryFiles>, written: &mut u64) -> Result<()> {
+/// Writes, moves, reads and deletes in an engine until a call fails. Adds to `written` how many batches were written. Errs where a
+/// call does.
+fn take_engine_steps(engine: &Engine<MemoryFiles>, written: &mut u64) -> Result<()> {
     for index in 1..=4 {
         let mut batch = LogBatch::new()?;
         batch.add_entries(7, index, &["an entry"])?;
@@ -291,14 +304,15 @@ fn engine_steps(engine: &Engine<MemoryFiles>, written: &mut u64) -> Result<()> {
     engine.sync()
 }
 
-/// Opens an engine over files, and takes the steps, with `granted` requests for memory granted. Tests that either all calls of
-/// the engine fail then, or none. Returns whether no request was refused.
-fn engine_run(files: &MemoryFiles, granted: i64, written: &mut u64) -> Result<bool> {
+/// Opens an engine over files, and takes the steps, while `granted` requests for memory are granted and the next one is refused.
+/// Tests that then all calls of the engine fail, or none. Returns whether no request was refused; errs where the opening or a step
+/// did.
+fn run_with_granted_requests(files: &MemoryFiles, granted: i64, written: &mut u64) -> Result<bool> {
     GRANTED.store(granted, SeqCst);
     let opened = Engine::with_files(files.clone(), Options::new());
     let result = opened
         .as_ref()
-        .map_or(Ok(()), |engine| engine_steps(engine, written));
+        .map_or(Ok(()), |engine| take_engine_steps(engine, written));
     let is_over = GRANTED.swap(i64::MAX, SeqCst) > 0;
     let engine = opened?;
     let has_failed = engine.sync().is_err();
@@ -308,9 +322,11 @@ fn engine_run(files: &MemoryFiles, granted: i64, written: &mut u64) -> Result<bo
 }
 
 #[test]
-fn a_torn_tail_that_is_found_without_memory_is_cut_where_it_begins() {
+fn a_torn_tail_is_cut_where_it_begins_or_nothing_is_opened_where_memory_lacks() {
     let _turn = TURN.lock();
-    let sound = batch_bytes(file(1), |more| more.merge(&mut batch()).unwrap());
+    let sound = batch_bytes(append_file(1), |more| {
+        more.merge(&mut small_batch()).unwrap()
+    });
     let torn = [&sound[..], &sound[..], &sound[..20]].concat();
     for granted in 0.. {
         let files = MemoryFiles::found(vec![(1, torn.clone())], vec![(1, vec![])]);
@@ -332,9 +348,11 @@ fn a_torn_tail_that_is_found_without_memory_is_cut_where_it_begins() {
 }
 
 #[test]
-fn damaged_batches_that_are_found_without_memory_are_all_named_or_nothing_is_opened() {
+fn damaged_batches_are_all_named_or_nothing_is_opened_where_memory_lacks() {
     let _turn = TURN.lock();
-    let mut one = batch_bytes(file(1), |more| more.merge(&mut batch()).unwrap());
+    let mut one = batch_bytes(append_file(1), |more| {
+        more.merge(&mut small_batch()).unwrap()
+    });
     let sound = one.clone();
     one[16] ^= 1; // the first byte of its entries
     let damaged = [one.repeat(3), sound].concat();
@@ -356,7 +374,9 @@ fn damaged_batches_that_are_found_without_memory_are_all_named_or_nothing_is_ope
 #[test]
 fn damaged_batches_at_the_end_are_cut_off_or_nothing_is_opened_where_memory_lacks() {
     let _turn = TURN.lock();
-    let mut one = batch_bytes(file(1), |more| more.merge(&mut batch()).unwrap());
+    let mut one = batch_bytes(append_file(1), |more| {
+        more.merge(&mut small_batch()).unwrap()
+    });
     let sound = one.clone();
     one[16] ^= 1; // the first byte of its entries
     let bytes = [sound, one.repeat(3)].concat();
@@ -381,7 +401,7 @@ fn an_engine_without_memory_loses_nothing() {
     let _turn = TURN.lock();
     for granted in 0.. {
         let (files, mut written) = (MemoryFiles::new(), 0);
-        let result = engine_run(&files, granted, &mut written);
+        let result = run_with_granted_requests(&files, granted, &mut written);
         if let Err(e) = &result {
             assert_eq!(e.kind, ErrorKind::Memory, "{e}");
         }

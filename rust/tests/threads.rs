@@ -11,16 +11,18 @@ thread_local! {
 }
 
 /// The allocator, which counts the requests of each thread.
-struct Counting;
+struct CountingAllocator;
 
 // SAFETY: the system's allocator does the work.
-unsafe impl GlobalAlloc for Counting {
+unsafe impl GlobalAlloc for CountingAllocator {
+    /// Counts a request, and allocates a block.
     unsafe fn alloc(&self, layout: Layout) -> *mut u8 {
         REQUESTS.set(REQUESTS.get() + 1);
         // SAFETY: the caller keeps what the allocator asks.
         unsafe { System.alloc(layout) }
     }
 
+    /// Frees a block.
     unsafe fn dealloc(&self, block: *mut u8, layout: Layout) {
         // SAFETY: the caller keeps what the allocator asks.
         unsafe { System.dealloc(block, layout) }
@@ -28,10 +30,10 @@ unsafe impl GlobalAlloc for Counting {
 }
 
 #[global_allocator]
-static COUNTING: Counting = Counting;
+static COUNTING: CountingAllocator = CountingAllocator;
 
-/// Recovers parts, and returns how many requests this thread made meanwhile.
-fn requests(parts: &[FilePart<'_>], workers: usize) -> usize {
+/// Recovers parts without batches on so many threads, and returns how many requests for memory the calling thread made meanwhile.
+fn count_requests(parts: &[FilePart<'_>], workers: usize) -> usize {
     let before = REQUESTS.get();
     let tables = recover(parts, Queue::Append, workers).unwrap();
     let requests = REQUESTS.get() - before;
@@ -40,11 +42,11 @@ fn requests(parts: &[FilePart<'_>], workers: usize) -> usize {
 }
 
 #[test]
-fn threads_are_started_for_workers_and_not_for_parts() {
+fn recovery_starts_threads_by_the_number_of_workers_and_not_of_parts() {
     let file = LogFile::new(Queue::Append, 1, Version::V2);
     let parts = vec![FilePart::new(file, &[]); 2_000];
-    let of_few = [0, 1, 2, 8].map(|workers| requests(&parts[..8], workers));
-    let of_many = [0, 1, 2, 8].map(|workers| requests(&parts, workers));
+    let of_few = [0, 1, 2, 8].map(|workers| count_requests(&parts[..8], workers));
+    let of_many = [0, 1, 2, 8].map(|workers| count_requests(&parts, workers));
     assert_eq!(of_few, of_many);
     assert_eq!(of_few[0], of_few[1]);
     assert!(of_few[1] < of_few[2] && of_few[2] < of_few[3], "{of_few:?}");

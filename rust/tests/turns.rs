@@ -2,24 +2,24 @@
 
 mod common;
 
-use common::hooked::{Call, Hooked};
+use common::hooked::{Call, HookedFiles};
 use raft_recover::{Engine, LogBatch, MemoryFiles, Options, Queue};
 use std::sync::Mutex;
 use std::sync::atomic::{AtomicBool, Ordering::SeqCst};
 use std::thread;
 use std::time::Duration;
 
-/// Returns a batch with an entry of `len` bytes.
-fn batch(region: u64, index: u64, len: usize) -> LogBatch {
+/// Makes a batch with one entry of a region, of `len` bytes.
+fn batch_of_one_entry(region: u64, index: u64, len: usize) -> LogBatch {
     let mut batch = LogBatch::new().unwrap();
     batch.add_entries(region, index, &[vec![7; len]]).unwrap();
     batch
 }
 
 #[test]
-fn writers_get_in_between_while_records_move() {
+fn writers_take_turns_with_the_moves_of_many_regions() {
     let (calls, is_moving) = (Mutex::new(Vec::new()), AtomicBool::new(false));
-    let hooked = Hooked::new(&MemoryFiles::new(), |call: Call<'_>| {
+    let hooked = HookedFiles::new(&MemoryFiles::new(), |call: Call<'_>| {
         if let Call::Write(file, _) = call {
             calls.lock().unwrap().push(file.queue);
             if file.queue == Queue::Rewrite {
@@ -32,7 +32,7 @@ fn writers_get_in_between_while_records_move() {
     let engine = Engine::with_files(hooked, Options::new()).unwrap();
     for region in 0..16 {
         engine
-            .write(&mut batch(region, 1, 300 << 10), false)
+            .write(&mut batch_of_one_entry(region, 1, 300 << 10), false)
             .unwrap();
     }
     engine.rotate().unwrap();
@@ -45,7 +45,9 @@ fn writers_get_in_between_while_records_move() {
         let mut written = 0;
         while !rewriting.is_finished() {
             written += 1;
-            engine.write(&mut batch(100, written, 10), false).unwrap();
+            engine
+                .write(&mut batch_of_one_entry(100, written, 10), false)
+                .unwrap();
         }
         written
     });
@@ -61,9 +63,9 @@ fn writers_get_in_between_while_records_move() {
 }
 
 #[test]
-fn writers_get_in_between_while_one_region_moves() {
+fn a_region_moves_in_turns_of_few_bytes() {
     let calls = Mutex::new(Vec::new());
-    let hooked = Hooked::new(&MemoryFiles::new(), |call: Call<'_>| {
+    let hooked = HookedFiles::new(&MemoryFiles::new(), |call: Call<'_>| {
         match call {
             Call::Write(file, bytes) if file.queue == Queue::Rewrite => {
                 calls.lock().unwrap().push(Some(bytes.len()));
@@ -75,7 +77,9 @@ fn writers_get_in_between_while_one_region_moves() {
     });
     let engine = Engine::with_files(hooked, Options::new()).unwrap();
     for index in 1..=2048 {
-        engine.write(&mut batch(7, index, 1 << 10), false).unwrap();
+        engine
+            .write(&mut batch_of_one_entry(7, index, 1 << 10), false)
+            .unwrap();
     }
     engine.rotate().unwrap();
     calls.lock().unwrap().clear();
@@ -91,10 +95,10 @@ fn writers_get_in_between_while_one_region_moves() {
 }
 
 #[test]
-fn a_batch_moves_that_needs_more_blocks_than_move_in_a_turn() {
+fn a_region_moves_whose_blocks_dont_fit_into_one_turn() {
     let engine = Engine::with_files(MemoryFiles::new(), Options::new()).unwrap();
     for index in 1..=40 {
-        let mut both = batch(7, index, 10);
+        let mut both = batch_of_one_entry(7, index, 10);
         both.add_entries(8, index, &[vec![8; 60 << 10]]).unwrap();
         engine.write(&mut both, false).unwrap();
     }
@@ -110,11 +114,11 @@ fn a_batch_moves_that_needs_more_blocks_than_move_in_a_turn() {
 }
 
 #[test]
-fn a_reader_of_a_region_that_moves_reads_on() {
+fn a_region_can_be_read_while_it_moves() {
     let engine = Engine::with_files(MemoryFiles::new(), Options::new()).unwrap();
     for region in 0..8 {
         engine
-            .write(&mut batch(region, 1, 200 << 10), false)
+            .write(&mut batch_of_one_entry(region, 1, 200 << 10), false)
             .unwrap();
     }
     engine.rotate().unwrap();

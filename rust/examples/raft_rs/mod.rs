@@ -50,14 +50,16 @@ pub trait Storage {
     /// Returns the hard state and the members of the group, as they were stored last.
     fn initial_state(&self) -> Result<(HardState, ConfState)>;
     /// Returns the entries from `low` on and below `high`, as many as fit into `max_size` bytes, and the first one in any
-    /// case.
+    /// case. Errs with `Compacted` or `Unavailable` where the log doesn't have all of them.
     fn entries(&self, low: u64, high: u64, max_size: impl Into<Option<u64>>) -> Result<Vec<Entry>>;
-    /// Returns the term of an entry, or of the last one in the snapshot.
+    /// Returns the term of an entry, or of the last one in the snapshot. Errs with `Compacted` before that one, and with
+    /// `Unavailable` behind the last entry.
     fn term(&self, index: u64) -> Result<u64>;
     /// Returns the index after the last entry in the snapshot.
     fn first_index(&self) -> Result<u64>;
     /// Returns the index of the last entry; without entries that of the last one in the snapshot.
     fn last_index(&self) -> Result<u64>;
-    /// Returns the snapshot for node `to`, which has to reach `request_index`.
+    /// Returns the snapshot for node `to`. Errs with `SnapshotTemporarilyUnavailable` where it doesn't reach
+    /// `request_index`.
     fn snapshot(&self, request_index: u64, to: u64) -> Result<SnapshotMetadata>;
 }

@@ -18,7 +18,7 @@ pub enum Call<'a> {
 }
 
 impl Call<'_> {
-    /// Tests whether the call changes something.
+    /// Tests whether the call changes files, as each of them does but a read.
     pub fn is_change(&self) -> bool {
         !matches!(self, Call::Read(..))
     }
@@ -26,49 +26,56 @@ impl Call<'_> {
 
 /// Files in memory that make a call of a test, the hook, before each call on them. Where the hook returns an error, so does the
 /// call, and nothing is done.
-pub struct Hooked<H> {
+pub struct HookedFiles<H> {
     pub files: MemoryFiles,
     hook: H,
 }
 
-impl<H: Fn(Call<'_>) -> io::Result<()> + Send + Sync> Hooked<H> {
-    /// Returns a handle to the same files, whose calls `hook` is asked about.
-    pub fn new(files: &MemoryFiles, hook: H) -> Hooked<H> {
+impl<H: Fn(Call<'_>) -> io::Result<()> + Send + Sync> HookedFiles<H> {
+    /// Returns a handle to the same files that calls `hook` before each of their calls but `list`.
+    pub fn new(files: &MemoryFiles, hook: H) -> HookedFiles<H> {
         let files = files.clone();
-        Hooked { files, hook }
+        HookedFiles { files, hook }
     }
 }
 
-impl<H: Fn(Call<'_>) -> io::Result<()> + Send + Sync> Files for Hooked<H> {
+impl<H: Fn(Call<'_>) -> io::Result<()> + Send + Sync> Files for HookedFiles<H> {
+    /// Lists the files, without a call of the hook.
     fn list(&self, queue: Queue) -> io::Result<Vec<(u64, u64)>> {
         self.files.list(queue)
     }
 
+    /// Appends the bytes to the file, unless the hook returns an error.
     fn write(&self, file: FileId, bytes: &[u8]) -> io::Result<()> {
         (self.hook)(Call::Write(file, bytes))?;
         self.files.write(file, bytes)
     }
 
+    /// Syncs the queue, unless the hook returns an error.
     fn sync(&self, queue: Queue) -> io::Result<()> {
         (self.hook)(Call::Sync(queue))?;
         self.files.sync(queue)
     }
 
+    /// Begins the file, unless the hook returns an error.
     fn rotate(&self, file: FileId) -> io::Result<()> {
         (self.hook)(Call::Rotate(file))?;
         self.files.rotate(file)
     }
 
+    /// Deletes the file, unless the hook returns an error.
     fn delete(&self, file: FileId) -> io::Result<()> {
         (self.hook)(Call::Delete(file))?;
         self.files.delete(file)
     }
 
+    /// Cuts the file to `len` bytes, unless the hook returns an error.
     fn truncate(&self, file: FileId, len: u64) -> io::Result<()> {
         (self.hook)(Call::Truncate(file, len))?;
         self.files.truncate(file, len)
     }
 
+    /// Reads from the file, unless the hook returns an error.
     fn read(&self, file: FileId, offset: u64, bytes: &mut [u8]) -> io::Result<()> {
         (self.hook)(Call::Read(file, offset, bytes.len()))?;
         self.files.read(file, offset, bytes)

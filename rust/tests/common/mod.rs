@@ -14,8 +14,8 @@ pub mod model;
 pub mod seeds;
 pub mod slots;
 
-/// Returns file `seq` of the append queue, in version 2.
-pub fn file(seq: u64) -> LogFile {
+/// Returns what names append file `seq`, as a file of version 2.
+pub fn append_file(seq: u64) -> LogFile {
     LogFile {
         queue: Queue::Append,
         seq,
@@ -23,24 +23,24 @@ pub fn file(seq: u64) -> LogFile {
     }
 }
 
-/// Returns the bytes of the four files of demo/.
-pub fn files() -> Vec<Vec<u8>> {
+/// Reads the four log files of demo/, the first one first, and returns the bytes of each.
+pub fn demo_files() -> Vec<Vec<u8>> {
     (1..=4)
-        .map(|n| fs::read(top().join(format!("demo/{n}.log"))).unwrap())
+        .map(|n| fs::read(repository_folder().join(format!("demo/{n}.log"))).unwrap())
         .collect()
 }
 
-/// Returns the top folder of the repository.
-pub fn top() -> &'static Path {
+/// Returns the path of the top folder of the repository.
+pub fn repository_folder() -> &'static Path {
     Path::new(concat!(env!("CARGO_MANIFEST_DIR"), "/.."))
 }
 
-/// Makes a part of each file: that of the first one is of file 1 of the append queue, and so on.
-pub fn parts(files: &[Vec<u8>]) -> Vec<FilePart<'_>> {
+/// Returns a part with all bytes of each file: the first one as file 1 of the append queue, the next one as file 2, and so on.
+pub fn append_parts(files: &[Vec<u8>]) -> Vec<FilePart<'_>> {
     (1..)
         .zip(files)
         .map(|(seq, bytes)| FilePart {
-            file: file(seq),
+            file: append_file(seq),
             offset: 0,
             bytes,
         })
@@ -48,8 +48,8 @@ pub fn parts(files: &[Vec<u8>]) -> Vec<FilePart<'_>> {
 }
 
 /// Returns the lines that `raftlog recover` prints for demo/, as README.md has them.
-pub fn lines() -> String {
-    let readme = fs::read_to_string(top().join("README.md")).unwrap();
+pub fn readme_lines() -> String {
+    let readme = fs::read_to_string(repository_folder().join("README.md")).unwrap();
     let lines: String = readme
         .lines()
         .skip_while(|line| !line.starts_with("    $ crates/raftlog/out/raftlog recover"))
@@ -61,8 +61,8 @@ pub fn lines() -> String {
     lines
 }
 
-/// Makes an entry of ten bytes in file `seq` of a queue.
-pub fn entry(queue: Queue, seq: u64, index: u64) -> Entry {
+/// Returns the entry of an index, with ten bytes in file `seq` of a queue. Its block is the same for all indexes.
+pub fn entry_in_file(queue: Queue, seq: u64, index: u64) -> Entry {
     Entry {
         index,
         block: Block {
@@ -75,12 +75,14 @@ pub fn entry(queue: Queue, seq: u64, index: u64) -> Entry {
     }
 }
 
-/// Makes entries with these indexes, all in one block of file `seq` of a queue.
-pub fn run(queue: Queue, seq: u64, indexes: std::ops::Range<u64>) -> Vec<Entry> {
-    indexes.map(|index| entry(queue, seq, index)).collect()
+/// Returns the entries of these indexes, all of them in the same block of file `seq` of a queue.
+pub fn entries_in_file(queue: Queue, seq: u64, indexes: std::ops::Range<u64>) -> Vec<Entry> {
+    indexes
+        .map(|index| entry_in_file(queue, seq, index))
+        .collect()
 }
 
-/// Returns the bytes of a batch with the items that `add` adds, signed for a file.
+/// Returns the bytes of a batch with the items that `add` adds, signed for a file; no bytes where it adds none.
 pub fn batch_bytes(file: LogFile, add: impl FnOnce(&mut LogBatch)) -> Vec<u8> {
     let mut batch = LogBatch::new().unwrap();
     add(&mut batch);
@@ -89,8 +91,9 @@ pub fn batch_bytes(file: LogFile, add: impl FnOnce(&mut LogBatch)) -> Vec<u8> {
     batch.bytes().unwrap()
 }
 
-/// Makes a group marker of the key `__\x02` in a batch: returns its bytes with the key `__\x01` instead. Its last four bytes are
-/// the CRC-32 of its items, combined with the signature by exclusive or; so they change by as much as the CRC-32 does.
+/// Returns the bytes of a batch with its key `__\x02` replaced by `__\x01`, which makes a group marker of it. The last four bytes
+/// are the CRC-32 of the items, combined with the signature by exclusive or; so they change by as much as the CRC-32 does. Panics
+/// where the batch has no such key.
 pub fn with_group_marker(mut bytes: Vec<u8>) -> Vec<u8> {
     let items = u64::from_be_bytes(bytes[8..16].try_into().unwrap()) as usize;
     let end = bytes.len() - 4;
@@ -108,7 +111,7 @@ pub fn with_group_marker(mut bytes: Vec<u8>) -> Vec<u8> {
 pub struct TempFolder(PathBuf);
 
 impl TempFolder {
-    /// Makes a folder of a name that no other has in this process.
+    /// Makes the folder, under a name that has the number of this process and is used once in it.
     pub fn new() -> TempFolder {
         static COUNT: AtomicU64 = AtomicU64::new(0);
         let name = format!(
@@ -134,6 +137,7 @@ impl TempFolder {
 }
 
 impl Drop for TempFolder {
+    /// Deletes the folder with all that is in it, as far as that can be done.
     fn drop(&mut self) {
         let _ = fs::remove_dir_all(&self.0);
     }

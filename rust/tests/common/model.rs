@@ -15,13 +15,13 @@ pub const COUNT: &[u8] = b"count";
 pub struct Draw(u64);
 
 impl Draw {
-    /// Returns the source of a seed.
+    /// Returns the source of a seed, of which no number is drawn yet.
     pub fn new(seed: u64) -> Draw {
         Draw(seed)
     }
 
-    /// Draws any number of 64 bits.
-    fn next(&mut self) -> u64 {
+    /// Draws a number of 64 bits, any of which is as likely.
+    fn next_number(&mut self) -> u64 {
         self.0 = self.0.wrapping_add(0x9e37_79b9_7f4a_7c15);
         let mut z = self.0;
         z = (z ^ (z >> 30)).wrapping_mul(0xbf58_476d_1ce4_e5b9);
@@ -29,20 +29,20 @@ impl Draw {
         z ^ (z >> 31)
     }
 
-    /// Draws a number below `end`.
-    pub fn below(&mut self, end: usize) -> usize {
-        (self.next() % end as u64) as usize
+    /// Draws a number from 0 to `end - 1`. `end` mustn't be 0.
+    pub fn number_below(&mut self, end: usize) -> usize {
+        (self.next_number() % end as u64) as usize
     }
 
-    /// Draws whether to do something: true once in `n` times on average.
-    pub fn once_in(&mut self, n: usize) -> bool {
-        self.below(n) == 0
+    /// Draws whether something happens: true once in `n` times on average.
+    pub fn happens_once_in(&mut self, n: usize) -> bool {
+        self.number_below(n) == 0
     }
 
-    /// Draws up to 23 bytes.
-    pub fn bytes(&mut self) -> Vec<u8> {
-        let len = self.below(24);
-        let word = self.next().to_le_bytes();
+    /// Draws a byte string of 0 to 23 bytes.
+    pub fn short_bytes(&mut self) -> Vec<u8> {
+        let len = self.number_below(24);
+        let word = self.next_number().to_le_bytes();
         word.into_iter().cycle().take(len).collect()
     }
 }
@@ -66,35 +66,37 @@ pub enum Change {
 }
 
 impl Change {
-    /// Draws a change that an engine accepts for a region with these records.
+    /// Draws a change of a region that has these records: an engine that has them accepts it.
     pub fn draw(draw: &mut Draw, region: &Region) -> Change {
         let first = region.entries.keys().next().copied();
         let last = region.entries.keys().next_back().copied();
-        let key = |draw: &mut Draw| KEYS[draw.below(KEYS.len())].to_vec();
+        let key = |draw: &mut Draw| KEYS[draw.number_below(KEYS.len())].to_vec();
         let within = |draw: &mut Draw, more: u64| match (first, last) {
-            (Some(first), Some(last)) => first + draw.below((last - first + more) as usize) as u64,
-            _ => 1 + draw.below(20) as u64,
+            (Some(first), Some(last)) => {
+                first + draw.number_below((last - first + more) as usize) as u64
+            }
+            _ => 1 + draw.number_below(20) as u64,
         };
-        match draw.below(12) {
+        match draw.number_below(12) {
             0..=4 => {
                 let at_end = last.map_or(5, |last| last + 1);
-                let first = if draw.once_in(3) {
+                let first = if draw.happens_once_in(3) {
                     within(draw, 2)
                 } else {
                     at_end
                 };
-                let count = 1 + draw.below(3);
-                Change::Entries(first, (0..count).map(|_| draw.bytes()).collect())
+                let count = 1 + draw.number_below(3);
+                Change::Entries(first, (0..count).map(|_| draw.short_bytes()).collect())
             }
             5 | 6 => Change::Compact(within(draw, 3)),
             7 => Change::Truncate(within(draw, 2)),
-            8 if draw.once_in(2) => Change::Clean,
+            8 if draw.happens_once_in(2) => Change::Clean,
             9 => Change::Delete(key(draw)),
-            _ => Change::Put(key(draw), draw.bytes()),
+            _ => Change::Put(key(draw), draw.short_bytes()),
         }
     }
 
-    /// Makes the change in the model of a region.
+    /// Makes the change in the model of a region, as an engine makes it in its records.
     pub fn apply(&self, region: &mut Region) {
         match self {
             Change::Entries(first, strings) => {
@@ -111,8 +113,8 @@ impl Change {
         }
     }
 
-    /// Adds the change to a batch.
-    pub fn add(&self, region: u64, batch: &mut LogBatch) -> Result<()> {
+    /// Adds the change to a batch, as an item of the region with this number. Errs where the batch refuses the item.
+    pub fn add_to_batch(&self, region: u64, batch: &mut LogBatch) -> Result<()> {
         match self {
             Change::Entries(first, strings) => batch.add_entries(region, *first, strings),
             Change::Compact(index) => batch.compact(region, *index),
@@ -124,8 +126,8 @@ impl Change {
     }
 }
 
-/// Reads all that an engine has of a region.
-pub fn region_of<F: Files>(engine: &Engine<F>, id: u64) -> Result<Region> {
+/// Reads all entries that an engine has of the region `id`, and the values of [`KEYS`]. Errs where one of them can't be read.
+pub fn read_region<F: Files>(engine: &Engine<F>, id: u64) -> Result<Region> {
     let read = engine.entries(id, ..)?;
     let entries = (read.index().unwrap_or(0)..).zip(read).collect();
     let mut keys = BTreeMap::new();

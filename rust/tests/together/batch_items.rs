@@ -1,12 +1,13 @@
 //! Tests the items of a batch that is written: how many there are, and which one an error names.
 
-use crate::common::engines::{engine, write};
+use crate::common::engines::{new_engine, write_batch};
+use crate::common::entries_in_file;
 use crate::common::model::{Change, Draw, Region};
-use crate::common::run;
 use raft_recover::{
     Error, ErrorKind, LogBatch, LogFile, Queue, Result, Stage, Tables, Version, slot_of,
 };
 
+/// The regions that changes are drawn for.
 const REGIONS: [u64; 3] = [7, 8, 9];
 
 #[test]
@@ -40,7 +41,7 @@ fn each_call_that_adds_something_adds_an_item() {
 fn a_batch_of_cleaned_regions_has_an_item_for_each() {
     let mut tables = Tables::new().unwrap();
     for region in [3, 1, 2, 1] {
-        let entries = run(Queue::Append, 1, 1..3);
+        let entries = entries_in_file(Queue::Append, 1, 1..3);
         tables.append(region, &entries).unwrap();
         tables.remove(region, true).unwrap();
     }
@@ -75,8 +76,8 @@ fn a_cleared_batch_is_open_and_has_no_items() {
 }
 
 #[test]
-fn a_batch_has_the_room_that_is_asked_for() {
-    let engine = engine();
+fn a_batch_takes_entries_whatever_room_it_was_made_with() {
+    let engine = new_engine();
     for bytes in [0, 1, 4, 5 << 20] {
         let mut batch = LogBatch::with_capacity(bytes).unwrap();
         let first = engine.last_index(7).unwrap().map_or(1, |last| last + 1);
@@ -134,10 +135,10 @@ const REFUSED: [&[Add]; 9] = [
 ];
 
 #[test]
-fn the_item_is_named_that_is_refused() {
+fn a_refused_batch_names_the_first_item_that_doesnt_fit() {
     for (row, adds) in REFUSED.iter().enumerate() {
-        let engine = engine();
-        write(&engine, |batch| batch.add_entries(7, 3, &["3", "4", "5"]));
+        let engine = new_engine();
+        write_batch(&engine, |batch| batch.add_entries(7, 3, &["3", "4", "5"]));
         let mut batch = LogBatch::new().unwrap();
         adds.iter().for_each(|add| add(&mut batch).unwrap());
         batch.add_entries(7, 900, &["behind another hole"]).unwrap();
@@ -163,8 +164,8 @@ fn the_item_is_named_that_is_refused() {
 }
 
 #[test]
-fn a_written_batch_has_no_items_and_those_that_come_are_counted_anew() {
-    let engine = engine();
+fn a_written_batch_has_no_items_and_counts_new_ones_from_0() {
+    let engine = new_engine();
     let mut batch = LogBatch::new().unwrap();
     for sync in [true, false] {
         batch.put(7, b"key", b"value").unwrap();
@@ -179,46 +180,46 @@ fn a_written_batch_has_no_items_and_those_that_come_are_counted_anew() {
     }
 }
 
-/// Draws changes of regions, some of which don't fit.
+/// Draws one to eight changes of the three regions, some of which tables refuse.
 fn draw_changes(draw: &mut Draw) -> Vec<(u64, Change)> {
-    let count = 1 + draw.below(8);
+    let count = 1 + draw.number_below(8);
     let change = |draw: &mut Draw| {
         let mut region = Region::default();
-        if draw.once_in(2) {
-            let first = 1 + draw.below(6) as u64;
+        if draw.happens_once_in(2) {
+            let first = 1 + draw.number_below(6) as u64;
             region
                 .entries
                 .extend((first..first + 4).map(|i| (i, vec![])));
         }
-        (REGIONS[draw.below(3)], Change::draw(draw, &region))
+        (REGIONS[draw.number_below(3)], Change::draw(draw, &region))
     };
     (0..count).map(|_| change(draw)).collect()
 }
 
-/// Returns a batch with changes of regions.
-fn batch_of(changes: &[(u64, Change)]) -> LogBatch {
+/// Makes a batch with these changes, each given with its region. Panics where a batch can't have one.
+fn batch_of_changes(changes: &[(u64, Change)]) -> LogBatch {
     let mut batch = LogBatch::new().unwrap();
     for (region, change) in changes {
-        change.add(*region, &mut batch).unwrap();
+        change.add_to_batch(*region, &mut batch).unwrap();
     }
     batch
 }
 
 #[test]
-fn all_items_before_the_named_one_fit_and_it_doesnt() {
+fn all_items_before_the_one_that_an_error_names_fit_and_it_doesnt() {
     let mut draw = Draw::new(5);
     let mut refused = 0;
     for _ in 0..3000 {
         let mut tables = Tables::new().unwrap();
         for region in REGIONS {
-            if draw.once_in(2) {
-                let first = 1 + draw.below(5) as u64;
-                let entries = run(Queue::Append, 1, first..first + 4);
+            if draw.happens_once_in(2) {
+                let first = 1 + draw.number_below(5) as u64;
+                let entries = entries_in_file(Queue::Append, 1, first..first + 4);
                 tables.append(region, &entries).unwrap();
             }
         }
         let changes = draw_changes(&mut draw);
-        let batch = batch_of(&changes);
+        let batch = batch_of_changes(&changes);
         assert_eq!(batch.len(), changes.len());
         let Err(e) = tables.check_append(&batch) else {
             continue;
@@ -230,8 +231,10 @@ fn all_items_before_the_named_one_fit_and_it_doesnt() {
             panic!("item {item} has no entries: {e}")
         };
         assert_eq!((e.region, e.index), (Some(*region), Some(*first)));
-        tables.check_append(&batch_of(&changes[..item])).unwrap();
-        let same = tables.check_append(&batch_of(&changes[..=item]));
+        tables
+            .check_append(&batch_of_changes(&changes[..item]))
+            .unwrap();
+        let same = tables.check_append(&batch_of_changes(&changes[..=item]));
         assert_eq!(same, Err(e));
     }
     assert!(refused > 300, "{refused}");

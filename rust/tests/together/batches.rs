@@ -1,19 +1,20 @@
 //! Tests batches that are written, read again, and applied.
 
-use crate::common::{file, run};
+use crate::common::{append_file, entries_in_file};
 use raft_recover::{
     Batches, Block, Content, Entry, ErrorKind, FileId, FilePart, Item, LogBatch, LogFile, Pair,
     Queue, Stage, Tables, batch_len, crc32,
 };
 use std::thread;
 
+/// Append file 3.
 const APPEND_3: FileId = FileId {
     queue: Queue::Append,
     seq: 3,
 };
 
-/// Makes an open batch with an item of each kind.
-fn batch() -> LogBatch {
+/// Makes an open batch with an item of each kind, six in all, of three regions.
+fn batch_of_all_kinds() -> LogBatch {
     let mut batch = LogBatch::new().unwrap();
     batch.add_entries(7, 10, &["one", "", "three"]).unwrap();
     batch.put(7, b"key", b"value").unwrap();
@@ -24,8 +25,8 @@ fn batch() -> LogBatch {
     batch
 }
 
-/// Returns the items that this batch has once it is in file 3 of the append queue, with its entry block at `offset`.
-fn items(offset: u64) -> Vec<Item> {
+/// Returns the items that `batch_of_all_kinds` has to have once it stands at `offset` in file 3 of the append queue.
+fn expected_items(offset: u64) -> Vec<Item> {
     let entry = |index, entry_offset, len| Entry {
         index,
         block: Block {
@@ -56,40 +57,40 @@ fn items(offset: u64) -> Vec<Item> {
     .to_vec()
 }
 
-/// Makes the bytes of a batch, signs them for that file, and returns them.
-fn seal(batch: &mut LogBatch) -> Vec<u8> {
+/// Finishes a batch, signs it for file 3 of the append queue, and returns its bytes.
+fn finish_and_sign(batch: &mut LogBatch) -> Vec<u8> {
     batch.finish().unwrap();
-    batch.sign(file(3)).unwrap();
+    batch.sign(append_file(3)).unwrap();
     batch.bytes().unwrap()
 }
 
 #[test]
-fn what_is_written_is_read_again() {
-    let mut batch = batch();
+fn the_items_of_a_batch_are_read_from_its_bytes() {
+    let mut batch = batch_of_all_kinds();
     assert!(batch.approximate_size() > 0);
     let len = batch.finish().unwrap();
-    batch.sign(file(3)).unwrap();
+    batch.sign(append_file(3)).unwrap();
     let bytes = batch.bytes().unwrap();
     assert_eq!((bytes.len(), batch.approximate_size()), (len, len));
     assert_eq!(batch_len(&bytes), Some(len));
     let part = FilePart {
-        file: file(3),
+        file: append_file(3),
         offset: 100,
         bytes: &bytes,
     };
     let read: Vec<_> = Batches::new(part).unwrap().map(Result::unwrap).collect();
     assert_eq!(read.len(), 1);
-    assert_eq!(read[0].iter().collect::<Vec<_>>(), items(100));
+    assert_eq!(read[0].iter().collect::<Vec<_>>(), expected_items(100));
     batch.written(APPEND_3, 100).unwrap();
     let written = batch.into_items().unwrap();
-    assert_eq!(written.iter().collect::<Vec<_>>(), items(100));
+    assert_eq!(written.iter().collect::<Vec<_>>(), expected_items(100));
 }
 
 #[test]
-fn the_bytes_of_entries_stand_at_their_places() {
-    let mut batch = batch();
+fn the_bytes_of_entries_stand_where_their_items_say() {
+    let mut batch = batch_of_all_kinds();
     let mut file = vec![0; 100];
-    file.extend(seal(&mut batch));
+    file.extend(finish_and_sign(&mut batch));
     batch.written(APPEND_3, 100).unwrap();
     let Content::Entries(entries) = batch.into_items().unwrap().get(0).unwrap().content else {
         panic!("the first item has entries");
@@ -107,11 +108,16 @@ fn the_bytes_of_entries_stand_at_their_places() {
 }
 
 #[test]
-fn places_are_in_the_queue_that_a_batch_is_written_to() {
+fn entries_are_in_the_queue_that_their_batch_is_written_to() {
     for queue in [Queue::Append, Queue::Rewrite] {
-        let mut batch = batch();
-        seal(&mut batch);
-        batch.sign(LogFile { queue, ..file(3) }).unwrap();
+        let mut batch = batch_of_all_kinds();
+        finish_and_sign(&mut batch);
+        batch
+            .sign(LogFile {
+                queue,
+                ..append_file(3)
+            })
+            .unwrap();
         batch.written(FileId { queue, seq: 3 }, 0).unwrap();
         let items = batch.into_items().unwrap();
         let Content::Entries(entries) = items.get(0).unwrap().content else {
@@ -123,15 +129,15 @@ fn places_are_in_the_queue_that_a_batch_is_written_to() {
 
 #[test]
 fn a_batch_is_signed_for_one_file_after_another() {
-    let mut batch = batch();
-    let bytes = seal(&mut batch);
-    batch.sign(file(4)).unwrap();
+    let mut batch = batch_of_all_kinds();
+    let bytes = finish_and_sign(&mut batch);
+    batch.sign(append_file(4)).unwrap();
     let others = batch.bytes().unwrap();
     assert_eq!(bytes.len(), others.len());
     assert_ne!(bytes, others);
     let read = |seq| {
         let part = FilePart {
-            file: file(seq),
+            file: append_file(seq),
             offset: 0,
             bytes: &others,
         };
@@ -142,15 +148,15 @@ fn a_batch_is_signed_for_one_file_after_another() {
 
 #[test]
 fn a_batch_is_written_to_the_file_that_it_is_signed_for() {
-    let mut batch = batch();
-    seal(&mut batch);
+    let mut batch = batch_of_all_kinds();
+    finish_and_sign(&mut batch);
     let rewrite_3 = FileId::new(Queue::Rewrite, 3);
     let append_4 = FileId::new(Queue::Append, 4);
     for other in [rewrite_3, append_4] {
         let e = batch.written(other, 0).unwrap_err();
         assert_eq!(e.kind, ErrorKind::InvalidArgument, "{other}");
     }
-    batch.sign(file(4)).unwrap();
+    batch.sign(append_file(4)).unwrap();
     let e = batch.written(APPEND_3, 0).unwrap_err();
     assert_eq!(e.kind, ErrorKind::InvalidArgument);
     batch.written(append_4, 100).unwrap();
@@ -164,7 +170,7 @@ fn a_batch_is_written_to_the_file_that_it_is_signed_for() {
 fn entries_without_bytes_have_a_block_without_bytes() {
     let mut batch = LogBatch::new().unwrap();
     batch.add_entries(7, 1, &["", ""]).unwrap();
-    seal(&mut batch);
+    finish_and_sign(&mut batch);
     batch.written(APPEND_3, 100).unwrap();
     let Content::Entries(entries) = batch.into_items().unwrap().get(0).unwrap().content else {
         panic!("the first item has entries");
@@ -180,17 +186,17 @@ fn a_batch_without_items_has_no_bytes() {
     let mut batch = LogBatch::new().unwrap();
     batch.add_entries::<&str>(7, 10, &[]).unwrap();
     assert_eq!(batch.finish().unwrap(), 0);
-    batch.sign(file(3)).unwrap();
+    batch.sign(append_file(3)).unwrap();
     assert_eq!(batch.bytes().unwrap(), b"");
     assert!(batch.into_items().unwrap().is_empty());
 }
 
 #[test]
-fn batches_are_merged() {
-    let (mut first, mut more) = (batch(), batch());
+fn a_merged_batch_has_the_items_of_both() {
+    let (mut first, mut more) = (batch_of_all_kinds(), batch_of_all_kinds());
     first.merge(&mut more).unwrap();
     assert!(more.into_items().unwrap().is_empty());
-    seal(&mut first);
+    finish_and_sign(&mut first);
     first.written(APPEND_3, 0).unwrap();
     let items = first.into_items().unwrap();
     assert_eq!(items.len(), 12);
@@ -204,8 +210,8 @@ fn batches_are_merged() {
 }
 
 #[test]
-fn nothing_is_added_once_the_bytes_are_made() {
-    let mut batch = batch();
+fn nothing_is_added_to_an_encoded_batch() {
+    let mut batch = batch_of_all_kinds();
     assert_eq!(batch.stage(), Stage::Open);
     batch.finish().unwrap();
     assert_eq!(batch.stage(), Stage::Encoded);
@@ -224,20 +230,20 @@ fn nothing_is_added_once_the_bytes_are_made() {
     for (i, refused) in refused.into_iter().enumerate() {
         assert_eq!(refused.unwrap_err().kind, ErrorKind::InvalidArgument, "{i}");
     }
-    batch.sign(file(3)).unwrap();
+    batch.sign(append_file(3)).unwrap();
     assert_eq!(batch.stage(), Stage::Signed);
     assert_eq!(batch.into_items().unwrap().len(), 6);
 }
 
 #[test]
-fn bytes_are_signed_before_they_are_written() {
-    let mut batch = batch();
+fn a_batch_is_finished_and_signed_before_it_is_written() {
+    let mut batch = batch_of_all_kinds();
     let invalid = ErrorKind::InvalidArgument;
-    assert_eq!(batch.sign(file(3)).unwrap_err().kind, invalid);
+    assert_eq!(batch.sign(append_file(3)).unwrap_err().kind, invalid);
     batch.finish().unwrap();
     assert_eq!(batch.bytes().unwrap_err().kind, invalid);
     assert_eq!(batch.written(APPEND_3, 0).unwrap_err().kind, invalid);
-    batch.sign(file(3)).unwrap();
+    batch.sign(append_file(3)).unwrap();
     let last = u64::MAX - 16;
     assert_eq!(batch.written(APPEND_3, last + 1).unwrap_err().kind, invalid);
     batch.written(APPEND_3, last).unwrap();
@@ -261,9 +267,9 @@ fn the_last_index_is_kept_free_and_group_markers_are_no_keys() {
 #[test]
 fn written_batches_are_checked_and_applied() {
     let mut tables = Tables::new().unwrap();
-    let mut batch = batch();
+    let mut batch = batch_of_all_kinds();
     tables.check_append(&batch).unwrap();
-    seal(&mut batch);
+    finish_and_sign(&mut batch);
     batch.written(APPEND_3, 0).unwrap();
     tables.check_append(&batch).unwrap();
     tables.apply_append(batch.into_items().unwrap()).unwrap();
@@ -281,7 +287,9 @@ fn written_batches_are_checked_and_applied() {
 #[test]
 fn cleaned_regions_are_handed_out_as_a_batch() {
     let mut tables = Tables::new().unwrap();
-    tables.append(5, &run(Queue::Append, 3, 1..3)).unwrap();
+    tables
+        .append(5, &entries_in_file(Queue::Append, 3, 1..3))
+        .unwrap();
     tables.remove(5, true).unwrap();
     tables.remove(4, true).unwrap();
     let logs = tables.take_cleaned_logs().unwrap();
@@ -296,7 +304,7 @@ fn cleaned_regions_are_handed_out_as_a_batch() {
 }
 
 #[test]
-fn all_keys_of_a_region_are_walked() {
+fn the_keys_of_a_region_are_listed_by_queue_and_gate() {
     let mut tables = Tables::new().unwrap();
     let pair = |key: &[u8], value: &[u8]| Pair {
         key: key.to_vec(),
@@ -328,9 +336,9 @@ fn all_keys_of_a_region_are_walked() {
 
 #[test]
 fn a_batch_moves_to_another_thread() {
-    let mut batch = batch();
+    let mut batch = batch_of_all_kinds();
     let batch = thread::spawn(move || {
-        seal(&mut batch);
+        finish_and_sign(&mut batch);
         batch
     });
     assert_eq!(batch.join().unwrap().stage(), Stage::Signed);

@@ -1,39 +1,40 @@
 //! Tests what an engine over files in memory and in a folder writes, reads and refuses.
 
 use crate::common::TempFolder;
-use crate::common::engines::{asked_since, engine, write};
-use crate::common::model::region_of;
+use crate::common::engines::{asks_as_words, new_engine, write_batch};
+use crate::common::model::read_region;
 use raft_recover::{
     Engine, Entries, Error, ErrorKind, FileId, LogBatch, MemoryFiles, Options, Queue, Result,
     Version, batch_len,
 };
 use std::ops::Bound;
 
+/// The first append file.
 const FIRST: FileId = FileId::new(Queue::Append, 1);
 
-/// Returns entries as texts.
-fn texts(entries: Result<Entries>) -> Vec<String> {
+/// Returns entries that were read as texts. Panics where the read failed, or an entry is no text.
+fn entry_texts(entries: Result<Entries>) -> Vec<String> {
     let texts = entries.unwrap().map(String::from_utf8);
     texts.collect::<std::result::Result<_, _>>().unwrap()
 }
 
 #[test]
-fn what_is_written_is_found_again() {
+fn all_records_are_found_when_a_folder_is_opened_again() {
     let room = TempFolder::new();
     for (version, other) in [(Version::V2, Version::V1), (Version::V1, Version::V2)] {
         let path = room.path().join(version.to_string());
         let open = |version| Engine::open(&path, Options::new().version(version));
         let engine = open(version).unwrap();
-        write(&engine, |batch| {
+        write_batch(&engine, |batch| {
             batch.add_entries(7, 1, &["one", "", "three"])?;
             batch.add_entries(8, 5, &["five"])?;
             batch.put(7, b"key", b"value")?;
             batch.put(7, b"", b"")
         });
-        write(&engine, |batch| batch.compact(7, 2));
+        write_batch(&engine, |batch| batch.compact(7, 2));
         drop(engine);
         let engine = open(version).unwrap();
-        assert_eq!(texts(engine.entries(7, ..)), ["", "three"]);
+        assert_eq!(entry_texts(engine.entries(7, ..)), ["", "three"]);
         assert_eq!(engine.entry(8, 5).unwrap().unwrap(), b"five");
         assert_eq!(engine.entry(8, 6).unwrap(), None);
         assert_eq!(engine.get(7, b"key").unwrap().unwrap(), b"value");
@@ -57,14 +58,14 @@ fn what_is_written_is_found_again() {
     }
 }
 
-/// Opens an engine whose region 7 has the entries 3 to 6.
+/// Opens an engine whose region 7 has the entries 3 to 6, of 3, 1, 2 and 1 bytes, after a compaction took 1 and 2.
 fn compacted_engine() -> Engine<MemoryFiles> {
-    let engine = engine();
-    write(&engine, |batch| {
+    let engine = new_engine();
+    write_batch(&engine, |batch| {
         batch.add_entries(7, 1, &["1", "22", "333", "4"])
     });
-    write(&engine, |batch| batch.add_entries(7, 5, &["55", "6"]));
-    write(&engine, |batch| batch.compact(7, 3));
+    write_batch(&engine, |batch| batch.add_entries(7, 5, &["55", "6"]));
+    write_batch(&engine, |batch| batch.compact(7, 3));
     engine
 }
 
@@ -87,14 +88,14 @@ fn entries_are_read_by_ranges() {
         ((Bound::Excluded(u64::MAX), Bound::Included(u64::MAX)), &[]),
     ];
     for (range, expected) in rows {
-        assert_eq!(texts(engine.entries(7, range)), expected, "{range:?}");
+        assert_eq!(entry_texts(engine.entries(7, range)), expected, "{range:?}");
     }
-    assert_eq!(texts(engine.entries(9, ..)), [""; 0]);
-    assert_eq!(texts(engine.entries(9, 4..)), [""; 0]);
+    assert_eq!(entry_texts(engine.entries(9, ..)), [""; 0]);
+    assert_eq!(entry_texts(engine.entries(9, 4..)), [""; 0]);
 }
 
 #[test]
-fn ranges_that_a_region_has_not_are_refused() {
+fn ranges_that_a_region_lacks_are_refused() {
     let engine = compacted_engine();
     for (begin, end, kind, index) in [
         (2, 4, ErrorKind::EntryCompacted, 2),
@@ -116,7 +117,7 @@ fn ranges_that_a_region_has_not_are_refused() {
 }
 
 #[test]
-fn entries_are_read_up_to_a_size() {
+fn entries_are_read_up_to_a_number_of_bytes_and_at_least_one() {
     let engine = compacted_engine();
     for (max_size, expected) in [
         (0, 1),
@@ -134,37 +135,37 @@ fn entries_are_read_up_to_a_size() {
 
 #[test]
 fn an_entry_of_index_0_is_the_first_and_the_last_one() {
-    let engine = engine();
-    write(&engine, |batch| batch.add_entries(7, 0, &["none before"]));
+    let engine = new_engine();
+    write_batch(&engine, |batch| batch.add_entries(7, 0, &["none before"]));
     assert_eq!(engine.first_index(7).unwrap(), Some(0));
     assert_eq!(engine.last_index(7).unwrap(), Some(0));
-    assert_eq!(texts(engine.entries(7, ..)), ["none before"]);
-    assert_eq!(texts(engine.entries(7, 0..=0)), ["none before"]);
+    assert_eq!(entry_texts(engine.entries(7, ..)), ["none before"]);
+    assert_eq!(entry_texts(engine.entries(7, 0..=0)), ["none before"]);
 }
 
 #[test]
 fn blocks_at_the_same_offset_of_several_files_are_told_apart() {
-    let engine = engine();
+    let engine = new_engine();
     for (index, text) in (1..).zip(["a", "b", "c"]) {
-        write(&engine, |batch| batch.add_entries(7, index, &[text]));
+        write_batch(&engine, |batch| batch.add_entries(7, index, &[text]));
         engine.rotate().unwrap();
         assert_eq!(engine.entries(7, ..).unwrap().len() as u64, index);
     }
-    assert_eq!(texts(engine.entries(7, ..)), ["a", "b", "c"]);
+    assert_eq!(entry_texts(engine.entries(7, ..)), ["a", "b", "c"]);
     engine.rewrite(1).unwrap();
-    assert_eq!(texts(engine.entries(7, ..)), ["a", "b", "c"]);
+    assert_eq!(entry_texts(engine.entries(7, ..)), ["a", "b", "c"]);
 }
 
 #[test]
 fn read_entries_are_an_iterator_from_both_ends() {
-    let engine = engine();
-    write(&engine, |batch| {
+    let engine = new_engine();
+    write_batch(&engine, |batch| {
         batch.add_entries(7, 1, &["1", "2", "3", "4"])
     });
     let mut entries = engine.entries(7, 2..).unwrap();
     assert_eq!((entries.len(), entries.index()), (3, Some(2)));
     assert_eq!(entries.next_back().unwrap(), b"4");
-    assert_eq!(texts(Ok(entries.clone())), ["2", "3"]);
+    assert_eq!(entry_texts(Ok(entries.clone())), ["2", "3"]);
     assert_eq!(entries.nth(1).unwrap(), b"3");
     assert_eq!(
         (entries.next(), entries.next_back(), entries.index()),
@@ -178,9 +179,9 @@ fn read_entries_are_an_iterator_from_both_ends() {
 }
 
 #[test]
-fn a_refused_batch_stays_as_it_was_and_the_engine_goes_on() {
-    let engine = engine();
-    write(&engine, |batch| batch.add_entries(7, 1, &["1", "2"]));
+fn a_refused_batch_is_left_unchanged_and_the_engine_goes_on() {
+    let engine = new_engine();
+    write_batch(&engine, |batch| batch.add_entries(7, 1, &["1", "2"]));
     let asked = engine.files().asked();
     let mut batch = LogBatch::new().unwrap();
     batch.put(8, b"key", b"value").unwrap();
@@ -191,9 +192,9 @@ fn a_refused_batch_stays_as_it_was_and_the_engine_goes_on() {
     assert_eq!(batch.approximate_size(), size);
     assert_eq!(engine.get(8, b"key").unwrap(), None);
     assert_eq!(engine.files().asked(), asked);
-    write(&engine, |batch| batch.add_entries(7, 3, &["3"]));
+    write_batch(&engine, |batch| batch.add_entries(7, 3, &["3"]));
     engine.write(&mut batch, true).unwrap();
-    assert_eq!(texts(engine.entries(7, ..)), ["1", "2", "3", "4"]);
+    assert_eq!(entry_texts(engine.entries(7, ..)), ["1", "2", "3", "4"]);
     assert_eq!(engine.get(8, b"key").unwrap().unwrap(), b"value");
     assert_eq!(engine.stats().batches, 3);
 
@@ -208,7 +209,7 @@ fn a_refused_batch_stays_as_it_was_and_the_engine_goes_on() {
 
 #[test]
 fn a_batch_is_empty_once_it_was_written() {
-    let engine = engine();
+    let engine = new_engine();
     let mut batch = LogBatch::new().unwrap();
     let empty = batch.approximate_size();
     for index in 1..=3 {
@@ -220,8 +221,8 @@ fn a_batch_is_empty_once_it_was_written() {
 }
 
 #[test]
-fn a_sync_is_asked_where_it_is_wanted() {
-    let engine = engine();
+fn files_are_synced_only_where_a_call_wants_a_sync() {
+    let engine = new_engine();
     let mut batch = LogBatch::new().unwrap();
     let mut asked = |sync, items: usize| {
         let before = engine.files().asked();
@@ -229,7 +230,7 @@ fn a_sync_is_asked_where_it_is_wanted() {
             batch.put(7, b"key", b"value").unwrap();
         }
         engine.write(&mut batch, sync).unwrap();
-        asked_since(engine.files(), before)
+        asks_as_words(engine.files(), before)
     };
     assert_eq!(asked(false, 1), ["write append file 1"]);
     assert_eq!(asked(true, 1), ["write append file 1", "sync append"]);
@@ -237,12 +238,12 @@ fn a_sync_is_asked_where_it_is_wanted() {
     assert_eq!(asked(true, 0), ["sync append"]);
     let before = engine.files().asked();
     engine.sync().unwrap();
-    assert_eq!(asked_since(engine.files(), before), ["sync append"]);
+    assert_eq!(asks_as_words(engine.files(), before), ["sync append"]);
 }
 
 #[test]
-fn batches_are_counted_that_have_items_and_syncs_that_are_made() {
-    let engine = engine();
+fn stats_count_batches_with_items_and_all_syncs() {
+    let engine = new_engine();
     let before = engine.stats().syncs;
     let mut batch = LogBatch::new().unwrap();
     engine.sync().unwrap();
@@ -261,11 +262,11 @@ fn batches_are_counted_that_have_items_and_syncs_that_are_made() {
 }
 
 #[test]
-fn files_are_begun_where_the_last_one_is_long_enough() {
+fn a_file_is_begun_once_the_last_one_has_enough_bytes() {
     let options = Options::new().target_file_size(200);
     let engine = Engine::with_files(MemoryFiles::new(), options).unwrap();
     for index in 1..=10 {
-        write(&engine, |batch| {
+        write_batch(&engine, |batch| {
             batch.add_entries(7, index, &["x".repeat(100)])
         });
     }
@@ -287,7 +288,7 @@ fn files_are_begun_where_the_last_one_is_long_enough() {
     engine.rotate().unwrap();
     let begun = format!("begin append file {}", last.0 + 1);
     assert_eq!(
-        asked_since(engine.files(), before),
+        asks_as_words(engine.files(), before),
         ["sync append".to_owned(), begun]
     );
 }
@@ -297,7 +298,7 @@ fn a_file_is_closed_by_the_write_with_which_it_has_enough_bytes() {
     let written = |target_file_size| {
         let options = Options::new().target_file_size(target_file_size);
         let engine = Engine::with_files(MemoryFiles::new(), options).unwrap();
-        write(&engine, |batch| batch.add_entries(7, 1, &["an entry"]));
+        write_batch(&engine, |batch| batch.add_entries(7, 1, &["an entry"]));
         engine.stats().append
     };
     let len = written(u64::MAX).bytes;
@@ -312,17 +313,17 @@ fn a_sync_begins_no_file_behind_an_empty_one() {
     let engine = Engine::with_files(MemoryFiles::new(), options).unwrap();
     engine.sync().unwrap();
     assert_eq!(engine.stats().append.files, 1);
-    write(&engine, |batch| batch.put(7, b"key", b"value"));
+    write_batch(&engine, |batch| batch.put(7, b"key", b"value"));
     engine.sync().unwrap();
     assert_eq!(engine.stats().append.files, 2);
 }
 
 #[test]
-fn damaged_bytes_are_told_by_region_and_index_file_and_offset() {
-    let engine = engine();
-    write(&engine, |batch| batch.put(7, b"key", b"value"));
-    write(&engine, |batch| batch.add_entries(8, 1, &["damaged"]));
-    write(&engine, |batch| batch.add_entries(9, 1, &["sound"]));
+fn an_error_names_region_index_file_and_offset_of_damaged_entries() {
+    let engine = new_engine();
+    write_batch(&engine, |batch| batch.put(7, b"key", b"value"));
+    write_batch(&engine, |batch| batch.add_entries(8, 1, &["damaged"]));
+    write_batch(&engine, |batch| batch.add_entries(9, 1, &["sound"]));
     engine.rotate().unwrap();
     let mut files = engine.files().files(Queue::Append);
     let at = files[0]
@@ -350,17 +351,17 @@ fn damaged_bytes_are_told_by_region_and_index_file_and_offset() {
     }
     is_told(engine.rewrite(1).unwrap_err());
     assert_eq!(engine.entry(9, 1).unwrap().unwrap(), b"sound");
-    write(&engine, |batch| batch.clean(8));
+    write_batch(&engine, |batch| batch.clean(8));
     engine.rewrite(1).unwrap();
     assert_eq!(engine.purge().unwrap().append_files, 1);
     assert_eq!(engine.entry(9, 1).unwrap().unwrap(), b"sound");
 }
 
 #[test]
-fn damaged_bytes_that_are_to_move_again_are_told_by_file_and_offset() {
-    let engine = engine();
+fn an_error_names_file_and_offset_of_damaged_entries_that_are_to_move_again() {
+    let engine = new_engine();
     for (region, text) in [(7, "sound"), (8, "damaged")] {
-        write(&engine, |batch| batch.add_entries(region, 1, &[text]));
+        write_batch(&engine, |batch| batch.add_entries(region, 1, &[text]));
     }
     engine.rotate().unwrap();
     engine.rewrite(1).unwrap();
@@ -388,16 +389,16 @@ fn damaged_bytes_that_are_to_move_again_are_told_by_file_and_offset() {
     let unmoved = engine.rewrite_again().unwrap_err();
     assert_eq!(unmoved.kind, told.kind);
     assert_eq!((unmoved.file, unmoved.offset), (told.file, told.offset));
-    write(&engine, |batch| batch.clean(8));
-    write(&engine, |batch| batch.add_entries(7, 2, &["sound too"]));
-    assert_eq!(texts(engine.entries(7, 2..)), ["sound too"]);
+    write_batch(&engine, |batch| batch.clean(8));
+    write_batch(&engine, |batch| batch.add_entries(7, 2, &["sound too"]));
+    assert_eq!(entry_texts(engine.entries(7, 2..)), ["sound too"]);
 }
 
 #[test]
-fn files_that_no_engine_of_this_crate_wrote_are_refused_and_stay_as_they_are() {
-    let engine = engine();
-    write(&engine, |batch| batch.put(7, b"key", b"value"));
-    write(&engine, |batch| batch.put(7, b"key", b"another"));
+fn foreign_damaged_and_torn_files_are_refused_and_left_unchanged() {
+    let engine = new_engine();
+    write_batch(&engine, |batch| batch.put(7, b"key", b"value"));
+    write_batch(&engine, |batch| batch.put(7, b"key", b"another"));
     let bytes = engine.files().files(Queue::Append).remove(0).1;
     let second = batch_len(&bytes).unwrap();
     let mut damaged = bytes.clone();
@@ -429,7 +430,7 @@ fn files_that_no_engine_of_this_crate_wrote_are_refused_and_stay_as_they_are() {
 }
 
 #[test]
-fn a_file_of_raft_engine_is_found_wherever_it_stands() {
+fn a_file_of_raft_engine_is_refused_by_its_name_in_either_queue() {
     let foreign = b"RAFT-LOG-FILE-HEADER-9986AB3E47F320B394C8E84916EB0ED5".to_vec();
     let files = vec![(1, vec![]), (2, foreign.clone())];
     for (queue, append, rewrite) in [
@@ -446,10 +447,10 @@ fn a_file_of_raft_engine_is_found_wherever_it_stands() {
 
 #[test]
 fn a_torn_tail_is_cut_wherever_it_was_torn() {
-    let engine = engine();
-    write(&engine, |batch| batch.put(7, b"key", b"value"));
+    let engine = new_engine();
+    write_batch(&engine, |batch| batch.put(7, b"key", b"value"));
     let whole = engine.files().files(Queue::Append)[0].1.len();
-    write(&engine, |batch| {
+    write_batch(&engine, |batch| {
         batch.add_entries(7, 1, &["an entry", "another"])
     });
     let bytes = engine.files().files(Queue::Append).remove(0).1;
@@ -464,8 +465,8 @@ fn a_torn_tail_is_cut_wherever_it_was_torn() {
         assert_eq!(engine.stats().append.bytes, whole as u64);
         assert_eq!(engine.get(7, b"key").unwrap().unwrap(), b"value");
         assert_eq!(engine.entries(7, ..).unwrap().len(), 0);
-        write(&engine, |batch| batch.add_entries(7, 5, &["behind"]));
-        assert_eq!(texts(engine.entries(7, ..)), ["behind"]);
+        write_batch(&engine, |batch| batch.add_entries(7, 5, &["behind"]));
+        assert_eq!(entry_texts(engine.entries(7, ..)), ["behind"]);
     }
 }
 
@@ -474,7 +475,7 @@ fn recovery_gives_the_same_on_each_number_of_threads() {
     let options = Options::new().target_file_size(2000);
     let engine = Engine::with_files(MemoryFiles::new(), options).unwrap();
     for index in 1..=300 {
-        write(&engine, |batch| {
+        write_batch(&engine, |batch| {
             batch.add_entries(index % 7, index / 7 + 1, &[index.to_string()])?;
             batch.put(index % 5, b"a", &index.to_le_bytes())
         });
@@ -485,7 +486,7 @@ fn recovery_gives_the_same_on_each_number_of_threads() {
     let files = |queue| engine.files().files(queue);
     let all = |engine: &Engine<MemoryFiles>| {
         let regions = engine.regions().unwrap();
-        let read = |id: &u64| region_of(engine, *id).unwrap();
+        let read = |id: &u64| read_region(engine, *id).unwrap();
         regions.iter().map(read).collect::<Vec<_>>()
     };
     for threads in [0, 1, 2, 3, 8, 64] {

@@ -1,7 +1,7 @@
 //! Tests what an engine says of a torn tail that its opening cut off, and where the tail is kept.
 
 use crate::common::TempFolder;
-use crate::common::engines::{engine, write};
+use crate::common::engines::{new_engine, write_batch};
 use raft_recover::{
     CutTail, Engine, ErrorKind, FileId, Files, FolderFiles, MemoryFiles, Options, Queue,
 };
@@ -9,21 +9,23 @@ use std::collections::BTreeMap;
 use std::fs;
 use std::path::Path;
 
+/// The first append file.
 const FIRST: FileId = FileId::new(Queue::Append, 1);
 
-/// Returns the bytes of an append file of two batches, and how many the first batch has.
+/// Returns the bytes of an append file of two batches, and how many of them are those of the first batch.
 fn two_batches() -> (Vec<u8>, usize) {
-    let engine = engine();
-    write(&engine, |batch| batch.put(7, b"key", b"value"));
+    let engine = new_engine();
+    write_batch(&engine, |batch| batch.put(7, b"key", b"value"));
     let whole = engine.stats().append.bytes as usize;
-    write(&engine, |batch| {
+    write_batch(&engine, |batch| {
         batch.add_entries(7, 1, &["an entry", "another"])
     });
     (engine.files().files(Queue::Append).remove(0).1, whole)
 }
 
-/// Tests what is said of a tail of `len` bytes behind `whole` bytes of whole batches.
-fn assert_told(cut: &CutTail, file: FileId, whole: usize, len: usize) {
+/// Tests that a cut is that of a tail of `len` bytes behind `whole` bytes of whole batches, and that its reason and its words name
+/// the same place.
+fn assert_cut(cut: &CutTail, file: FileId, whole: usize, len: usize) {
     let place = (file, whole as u64, len as u64);
     assert_eq!((cut.file, cut.offset, cut.len), place);
     let reason = cut.reason.as_ref().unwrap();
@@ -35,7 +37,7 @@ fn assert_told(cut: &CutTail, file: FileId, whole: usize, len: usize) {
 }
 
 #[test]
-fn what_is_cut_is_told_by_its_place_with_the_reason() {
+fn an_opening_says_what_it_cut_with_the_place_and_the_reason() {
     let (bytes, whole) = two_batches();
     for len in whole..bytes.len() {
         let held = || vec![(1, bytes[..len].to_vec())];
@@ -54,25 +56,25 @@ fn what_is_cut_is_told_by_its_place_with_the_reason() {
             assert_eq!((cut.is_some(), other), (len > whole, &None));
             assert!(recovered.cuts().eq(cut));
             if let Some(cut) = cut {
-                assert_told(cut, FileId::new(queue, 1), whole, len - whole);
+                assert_cut(cut, FileId::new(queue, 1), whole, len - whole);
             }
         }
     }
 }
 
 #[test]
-fn a_changed_byte_in_the_last_batch_is_told_as_the_reason() {
+fn a_changed_byte_in_the_last_batch_is_the_reason_of_a_cut() {
     let (mut bytes, whole) = two_batches();
     *bytes.last_mut().unwrap() ^= 1;
     let found = MemoryFiles::found(vec![(1, bytes.clone())], vec![]);
     let engine = Engine::with_files(found, Options::new()).unwrap();
     let cut = engine.recovered().append.as_ref().unwrap();
-    assert_told(cut, FIRST, whole, bytes.len() - whole);
+    assert_cut(cut, FIRST, whole, bytes.len() - whole);
     assert_eq!(cut.reason.as_ref().unwrap().kind, ErrorKind::Corruption);
 }
 
-/// Returns the files in a folder by their names, without `LOCK`.
-fn files_in(folder: &Path) -> BTreeMap<String, Vec<u8>> {
+/// Reads all files in a folder but `LOCK`, and returns the bytes of each by its name.
+fn read_files(folder: &Path) -> BTreeMap<String, Vec<u8>> {
     let entries = fs::read_dir(folder).unwrap().map(Result::unwrap);
     let files = entries.filter(|entry| entry.file_name() != "LOCK");
     files
@@ -83,9 +85,9 @@ fn files_in(folder: &Path) -> BTreeMap<String, Vec<u8>> {
         .collect()
 }
 
-/// Appends a tail to the first append file in a folder, opens the folder, and returns how many bytes were cut off; `None` where
-/// none were.
-fn cut_by_opening(folder: &Path, tail: &[u8]) -> Option<u64> {
+/// Appends a tail to the first append file in a folder, opens the folder, and returns how many bytes the opening cut off; `None`
+/// where it cut none.
+fn append_tail_and_open(folder: &Path, tail: &[u8]) -> Option<u64> {
     let path = folder.join("0000000000000001.raftlog");
     let mut bytes = fs::read(&path).unwrap();
     bytes.extend(tail);
@@ -95,10 +97,10 @@ fn cut_by_opening(folder: &Path, tail: &[u8]) -> Option<u64> {
 }
 
 #[test]
-fn what_is_cut_is_kept_beside_the_file() {
+fn a_tail_that_is_cut_off_is_kept_beside_its_file() {
     let room = TempFolder::new();
     let engine = Engine::open(room.path(), Options::new()).unwrap();
-    write(&engine, |batch| batch.put(7, b"key", b"value"));
+    write_batch(&engine, |batch| batch.put(7, b"key", b"value"));
     let whole = engine.stats().append.bytes;
     drop(engine);
     let path = room.path().join("0000000000000001.raftlog");
@@ -123,10 +125,10 @@ fn what_is_cut_is_kept_beside_the_file() {
         ),
     ];
     for (tail, expected) in rows {
-        let count = cut_by_opening(room.path(), tail);
+        let count = append_tail_and_open(room.path(), tail);
         assert_eq!(count, (!tail.is_empty()).then_some(tail.len() as u64));
         assert_eq!(fs::read(&path).unwrap(), bytes);
-        let mut kept = files_in(room.path());
+        let mut kept = read_files(room.path());
         kept.retain(|name, _| name.ends_with(".cut"));
         let expected = expected
             .iter()
@@ -138,7 +140,7 @@ fn what_is_cut_is_kept_beside_the_file() {
 }
 
 #[test]
-fn nothing_is_cut_that_cant_be_kept() {
+fn a_tail_that_cant_be_kept_isnt_cut_off() {
     let room = TempFolder::new();
     let files = FolderFiles::open(room.path()).unwrap();
     files.rotate(FIRST).unwrap();

@@ -1,7 +1,7 @@
 //! Tests what an opening takes for a torn tail, and what for damage, which it refuses. Where a queue's last file can't be read
 //! on, what is left is cut off if it may be part of a single batch, or has nothing that can be read.
 
-use crate::common::{batch_bytes, file};
+use crate::common::{append_file, batch_bytes};
 use raft_recover::{
     Engine, Error, ErrorKind, FileId, LogFile, MemoryFiles, Options, Queue, RecoveryMode, Version,
     crc32,
@@ -20,7 +20,7 @@ fn four_batches(file: LogFile) -> (Vec<u8>, Vec<usize>) {
     (bytes, places)
 }
 
-/// Returns files of which the last one of a queue has this id and these bytes; the other queue has none.
+/// Returns a single file with this id and these bytes, as one that is found.
 fn found_files(id: FileId, bytes: &[u8]) -> MemoryFiles {
     let held = vec![(id.seq, bytes.to_vec())];
     match id.queue {
@@ -29,15 +29,16 @@ fn found_files(id: FileId, bytes: &[u8]) -> MemoryFiles {
     }
 }
 
-/// Opens such files, and returns how many bytes of that file the opening leaves, and how many it cuts off.
+/// Opens a single file with this id and these bytes, and returns how many of these the opening leaves, and how many it cuts off.
+/// Errs where it refuses the file.
 fn open_and_measure(id: FileId, bytes: &[u8], options: &Options) -> Result<(u64, u64), Error> {
     let engine = Engine::with_files(found_files(id, bytes), options.clone())?;
     let cut = engine.recovered().cuts().map(|cut| cut.len).sum();
     Ok((bytes.len() as u64 - cut, cut))
 }
 
-/// Tests that such files are refused at an offset, also where they are opened for reading only, and that nothing is asked of
-/// them.
+/// Tests that a single file with this id and these bytes is refused with this offset and reason, also where it is opened for
+/// reading only, and that nothing is asked of it but to read.
 fn assert_refused(id: FileId, bytes: &[u8], offset: usize, reason: &str) {
     let text =
         format!("Corruption: {id}, offset {offset}: no batch can be read there, but {reason}");
@@ -74,10 +75,10 @@ fn a_changed_bit_in_front_of_a_batch_that_can_be_read_is_damage() {
 }
 
 #[test]
-fn all_of_a_last_batch_that_cant_be_read_is_cut() {
-    let (bytes, places) = four_batches(file(1));
+fn a_last_batch_that_cant_be_read_is_cut_as_a_whole() {
+    let (bytes, places) = four_batches(append_file(1));
     let last = places[3];
-    let id = FileId::from(file(1));
+    let id = FileId::from(append_file(1));
     // the first bytes of the header, of the items, and the last one of the checksum
     let items = u64::from_be_bytes(bytes[last + 8..last + 16].try_into().unwrap()) as usize;
     for i in [last, last + 7, last + 15, last + items, bytes.len() - 1] {
@@ -90,9 +91,9 @@ fn all_of_a_last_batch_that_cant_be_read_is_cut() {
 }
 
 #[test]
-fn a_changed_checksum_of_a_last_batch_may_be_that_for_another_file() {
-    let (bytes, places) = four_batches(file(1));
-    let (id, last) = (FileId::from(file(1)), places[3]);
+fn a_changed_bit_in_the_last_checksum_is_refused_where_it_signs_for_another_file() {
+    let (bytes, places) = four_batches(append_file(1));
+    let (id, last) = (FileId::from(append_file(1)), places[3]);
     for bit in 0..32 {
         let mut bytes = bytes.clone();
         let at = bytes.len() - 4 + bit / 8;
@@ -113,7 +114,7 @@ fn a_changed_checksum_of_a_last_batch_may_be_that_for_another_file() {
 }
 
 #[test]
-fn a_file_of_another_number_is_refused_and_that_is_named() {
+fn a_file_signed_for_another_number_is_refused_and_that_number_is_named() {
     for queue in [Queue::Append, Queue::Rewrite] {
         let (bytes, places) = four_batches(LogFile::new(queue, 3, Version::V2));
         let taken = FileId::new(queue, 2);
@@ -139,15 +140,15 @@ fn batches_of_version_1_say_nothing_of_their_file() {
 
 #[test]
 fn a_part_of_one_batch_is_cut_whatever_its_entries_hold() {
-    let (held, places) = four_batches(file(1));
-    let another = four_batches(file(3)).0;
+    let (held, places) = four_batches(append_file(1));
+    let another = four_batches(append_file(3)).0;
     let mut bytes = held[..places[1]].to_vec();
-    bytes.extend(batch_bytes(file(1), |batch| {
+    bytes.extend(batch_bytes(append_file(1), |batch| {
         batch.add_entries(8, 1, &[&held, &another]).unwrap();
         batch.put(8, b"key", &held).unwrap();
     }));
     let front = places[1] as u64;
-    let id = FileId::from(file(1));
+    let id = FileId::from(append_file(1));
     for len in places[1]..bytes.len() {
         let left = open_and_measure(id, &bytes[..len], &Options::new()).unwrap();
         assert_eq!(left, (front, len as u64 - front), "{len}");
@@ -161,7 +162,7 @@ fn a_part_of_one_batch_is_cut_whatever_its_entries_hold() {
 }
 
 #[test]
-fn an_entry_that_ends_behind_its_block_is_refused_by_its_name() {
+fn an_entry_that_ends_behind_its_block_is_refused_by_region_and_index() {
     // of region 7 the entries 10 and 11, which end at the bytes 2 and 5 of no bytes
     let items = [1, 7, 1, 2, 10, 2, 3];
     let (len, block_end) = (16 + items.len() as u64 + 4, 16u64);
@@ -185,7 +186,7 @@ fn an_entry_that_ends_behind_its_block_is_refused_by_its_name() {
     }
 }
 
-/// Returns options with a mode.
+/// Returns the options that are the default, with this recovery mode.
 fn options_in_mode(mode: RecoveryMode) -> Options {
     Options::new().recovery_mode(mode)
 }
@@ -248,8 +249,8 @@ fn all_from_damage_on_is_cut_in_the_mode_that_tolerates_it() {
 
 #[test]
 fn a_missing_file_and_one_of_the_other_version_are_refused_in_each_mode() {
-    let (first, _) = four_batches(file(1));
-    let (third, _) = four_batches(file(3));
+    let (first, _) = four_batches(append_file(1));
+    let (third, _) = four_batches(append_file(3));
     for mode in [
         RecoveryMode::AbsoluteConsistency,
         RecoveryMode::TolerateTornTail,
@@ -261,7 +262,7 @@ fn a_missing_file_and_one_of_the_other_version_are_refused_in_each_mode() {
         let missing = FileId::new(Queue::Append, 2);
         assert_eq!((e.kind, e.file), (ErrorKind::Corruption, Some(missing)));
         let options = options_in_mode(mode).version(Version::V1);
-        let e = open_and_measure(FileId::from(file(1)), &first, &options).unwrap_err();
+        let e = open_and_measure(FileId::from(append_file(1)), &first, &options).unwrap_err();
         let text = "Corruption: append file 1, offset 0: a batch of the other version stands there";
         assert_eq!(e.text, text);
     }

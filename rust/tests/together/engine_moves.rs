@@ -1,27 +1,27 @@
 //! Tests how an engine moves records and deletes files.
 
-use crate::common::engines::{asked_since, engine, write};
-use crate::common::model::region_of;
-use crate::common::{batch_bytes, file};
+use crate::common::engines::{asks_as_words, new_engine, write_batch};
+use crate::common::model::read_region;
+use crate::common::{append_file, batch_bytes};
 use raft_recover::{Ask, Engine, MemoryFiles, Options, Queue};
 
 #[test]
-fn records_move_and_files_go() {
+fn records_move_to_the_rewrite_queue_and_needless_files_are_deleted() {
     let options = Options::new().target_file_size(300);
     let files = MemoryFiles::new();
     let engine = Engine::with_files(files.clone(), options.clone()).unwrap();
     for index in 1..=20 {
-        write(&engine, |batch| {
+        write_batch(&engine, |batch| {
             batch.add_entries(7, index, &["x".repeat(50)])?;
             batch.add_entries(8, index, &[index.to_string()])?;
             batch.put(8, b"a", &index.to_le_bytes())
         });
     }
-    write(&engine, |batch| batch.compact(7, 11));
-    let expected = [7, 8].map(|region| region_of(&engine, region).unwrap());
+    write_batch(&engine, |batch| batch.compact(7, 11));
+    let expected = [7, 8].map(|region| read_region(&engine, region).unwrap());
     let same = |engine: &Engine<MemoryFiles>| {
         assert_eq!(
-            [7, 8].map(|region| region_of(engine, region).unwrap()),
+            [7, 8].map(|region| read_region(engine, region).unwrap()),
             expected
         );
     };
@@ -56,12 +56,12 @@ fn a_large_region_moves_again_in_a_group_of_batches() {
     let engine = Engine::with_files(files.clone(), Options::new()).unwrap();
     for index in 1..=5 {
         let entry = vec![index as u8; 60 << 10];
-        write(&engine, |batch| batch.add_entries(7, index, &[entry]));
+        write_batch(&engine, |batch| batch.add_entries(7, index, &[entry]));
     }
-    write(&engine, |batch| batch.put(7, b"a", b"value"));
-    let expected = region_of(&engine, 7).unwrap();
+    write_batch(&engine, |batch| batch.put(7, b"a", b"value"));
+    let expected = read_region(&engine, 7).unwrap();
     let same = |engine: &Engine<MemoryFiles>| {
-        assert_eq!(region_of(engine, 7).unwrap(), expected);
+        assert_eq!(read_region(engine, 7).unwrap(), expected);
         assert_eq!(engine.stats().rewrite.records, 6);
     };
     engine.rotate().unwrap();
@@ -78,12 +78,12 @@ fn a_large_region_moves_again_in_a_group_of_batches() {
 }
 
 #[test]
-fn a_rewriting_of_more_than_is_read_at_once_moves_all() {
+fn a_rewriting_moves_more_bytes_than_it_reads_at_once() {
     // 30 MiB, where 1 MiB or a region is read at once: so the blocks are listed many times
-    let engine = engine();
+    let engine = new_engine();
     let entry = |region: u64| vec![region as u8; 3 << 20];
     for region in 1..=10 {
-        write(&engine, |batch| {
+        write_batch(&engine, |batch| {
             batch.add_entries(region, 1, &[entry(region)])
         });
     }
@@ -101,7 +101,7 @@ fn a_rewriting_of_more_than_is_read_at_once_moves_all() {
 
 #[test]
 fn records_move_out_of_a_file_of_number_0() {
-    let bytes = batch_bytes(file(0), |batch| {
+    let bytes = batch_bytes(append_file(0), |batch| {
         batch.add_entries(7, 1, &["an entry"]).unwrap();
     });
     let found = MemoryFiles::found(vec![(0, bytes), (1, vec![])], vec![]);
@@ -113,11 +113,11 @@ fn records_move_out_of_a_file_of_number_0() {
 }
 
 #[test]
-fn a_gate_behind_the_last_file_is_that_file() {
+fn a_gate_behind_the_last_file_moves_all_records() {
     let files = MemoryFiles::new();
     let engine = Engine::with_files(files.clone(), Options::new()).unwrap();
     for index in 1..=3 {
-        write(&engine, |batch| {
+        write_batch(&engine, |batch| {
             batch.add_entries(7, index, &[index.to_string()])?;
             batch.put(7, b"a", &index.to_le_bytes())
         });
@@ -128,31 +128,31 @@ fn a_gate_behind_the_last_file_is_that_file() {
         engine.rotate().unwrap();
         assert_eq!(engine.purge().unwrap().append_files, 1);
     }
-    let expected = region_of(&engine, 7).unwrap();
+    let expected = read_region(&engine, 7).unwrap();
     let left = files.left(files.asked(), Default::default(), Default::default());
     let opened = Engine::with_files(left, Options::new()).unwrap();
-    assert_eq!(region_of(&opened, 7).unwrap(), expected);
+    assert_eq!(read_region(&opened, 7).unwrap(), expected);
 }
 
 #[test]
-fn small_regions_move_all_at_once() {
-    let engine = engine();
+fn a_hundred_small_regions_move_in_one_write() {
+    let engine = new_engine();
     for region in 1..=100 {
-        write(&engine, |batch| batch.add_entries(region, 1, &["x"]));
+        write_batch(&engine, |batch| batch.add_entries(region, 1, &["x"]));
     }
     engine.rotate().unwrap();
     let before = engine.files().asked();
     engine.rewrite(1).unwrap();
-    let asked = asked_since(engine.files(), before);
+    let asked = asks_as_words(engine.files(), before);
     assert_eq!(asked, ["sync append", "write rewrite file 1"]);
 }
 
 #[test]
-fn a_purge_moves_records_where_there_are_too_many_bytes() {
+fn purges_keep_the_bytes_of_both_queues_within_limits() {
     let options = Options::new().target_file_size(500).purge_above(4000);
     let engine = Engine::with_files(MemoryFiles::new(), options).unwrap();
     for index in 1..=400 {
-        write(&engine, |batch| {
+        write_batch(&engine, |batch| {
             batch.add_entries(index % 10, index / 10 + 1, &["x".repeat(20)])?;
             if index > 100 {
                 batch.compact(index % 10, index / 10 - 8)?;
@@ -177,12 +177,13 @@ fn a_purge_moves_records_where_there_are_too_many_bytes() {
     }
 }
 
-/// Opens an engine, and writes ten entries of a hundred bytes, each in an append file of its own. An eleventh file is the last.
-fn ten_files(options: &Options) -> Engine<MemoryFiles> {
+/// Opens an engine with these options over new files in memory, and writes ten entries of a hundred bytes, each in an append file
+/// of its own. An eleventh file, the last one, is empty.
+fn engine_with_ten_files(options: &Options) -> Engine<MemoryFiles> {
     let options = options.clone().target_file_size(100);
     let engine = Engine::with_files(MemoryFiles::new(), options).unwrap();
     for index in 1..=10 {
-        write(&engine, |batch| batch.add_entries(7, index, &[[7; 100]]));
+        write_batch(&engine, |batch| batch.add_entries(7, index, &[[7; 100]]));
     }
     assert_eq!(engine.stats().append.files, 11);
     engine
@@ -190,10 +191,10 @@ fn ten_files(options: &Options) -> Engine<MemoryFiles> {
 
 #[test]
 fn a_purge_leaves_half_of_the_bytes_that_may_stay() {
-    let len = ten_files(&Options::new()).stats().append.bytes / 10;
+    let len = engine_with_ten_files(&Options::new()).stats().append.bytes / 10;
     // of so many files those that stay
     for (may_stay, stay) in [(10, 10), (9, 4), (8, 4), (7, 3), (1, 0)] {
-        let engine = ten_files(&Options::new().purge_above(may_stay * len));
+        let engine = engine_with_ten_files(&Options::new().purge_above(may_stay * len));
         let purged = engine.purge().unwrap();
         assert_eq!(purged.append_files as u64, 10 - stay, "{may_stay}");
         assert_eq!(engine.stats().append.bytes, stay * len);
@@ -205,17 +206,17 @@ fn a_purge_leaves_half_of_the_bytes_that_may_stay() {
 fn a_purge_counts_the_files_that_each_of_its_steps_deletes() {
     let options = Options::new().target_file_size(100).purge_above(500);
     let engine = Engine::with_files(MemoryFiles::new(), options).unwrap();
-    write(&engine, |batch| batch.add_entries(9, 1, &[[9; 2000]]));
+    write_batch(&engine, |batch| batch.add_entries(9, 1, &[[9; 2000]]));
     engine.rewrite(u64::MAX).unwrap();
-    write(&engine, |batch| batch.clean(9)); // most of the rewrite queue isn't needed
+    write_batch(&engine, |batch| batch.clean(9)); // most of the rewrite queue isn't needed
     for region in [8, 7] {
         for index in 1..=8 {
-            write(&engine, |batch| {
+            write_batch(&engine, |batch| {
                 batch.add_entries(region, index, &[[7; 100]])
             });
         }
     }
-    write(&engine, |batch| batch.clean(8)); // no record has to move out of the first eight files
+    write_batch(&engine, |batch| batch.clean(8)); // no record has to move out of the first eight files
     let before = engine.stats();
     let purged = engine.purge().unwrap();
     let after = engine.stats();
@@ -230,20 +231,20 @@ fn a_purge_counts_the_files_that_each_of_its_steps_deletes() {
 fn a_purge_moves_nothing_out_of_the_file_that_is_written_to() {
     let options = Options::new().purge_above(100);
     let engine = Engine::with_files(MemoryFiles::new(), options).unwrap();
-    write(&engine, |batch| batch.add_entries(7, 1, &[[7; 1000]]));
+    write_batch(&engine, |batch| batch.add_entries(7, 1, &[[7; 1000]]));
     assert_eq!(engine.purge().unwrap(), Default::default());
     let stats = engine.stats();
     assert_eq!((stats.append.records, stats.rewrite.bytes), (1, 0));
 }
 
 #[test]
-fn records_move_again_once_there_are_twice_as_many_bytes() {
+fn records_move_again_once_the_rewrite_queue_has_twice_as_many_bytes() {
     for (more, purged) in [(8, 0), (12, 1)] {
-        let engine = ten_files(&Options::new().purge_above(200));
+        let engine = engine_with_ten_files(&Options::new().purge_above(200));
         engine.purge().unwrap();
         let before = engine.stats().rewrite.bytes;
         for index in 11..=10 + more {
-            write(&engine, |batch| batch.add_entries(7, index, &[[7; 100]]));
+            write_batch(&engine, |batch| batch.add_entries(7, index, &[[7; 100]]));
         }
         engine.rewrite(u64::MAX).unwrap();
         assert_eq!(engine.stats().rewrite.bytes / before, 1 + purged);
@@ -253,8 +254,8 @@ fn records_move_again_once_there_are_twice_as_many_bytes() {
 }
 
 #[test]
-fn records_move_no_more_where_there_are_not_more_bytes() {
-    let engine = ten_files(&Options::new().purge_above(200));
+fn a_purge_asks_nothing_of_files_that_didnt_grow_since_the_last_one() {
+    let engine = engine_with_ten_files(&Options::new().purge_above(200));
     engine.purge().unwrap();
     let moved = engine.stats().rewrite;
     assert!(moved.bytes > 1000 && moved.files == 1, "{moved:?}");

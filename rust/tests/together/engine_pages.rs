@@ -3,12 +3,12 @@
 //! entry was moving at the crash.
 
 use crate::common::TempFolder;
-use crate::common::engines::{engine, write};
+use crate::common::engines::{new_engine, write_batch};
 use raft_recover::{Ask, Engine, ErrorKind, FileId, MemoryFiles, Options, Queue, Unsynced};
 use std::fs;
 
-/// Returns the bytes of the entry of a region: `len` bytes, none of which is 0.
-fn entry(region: u64, len: usize) -> Vec<u8> {
+/// Returns the bytes that each entry of a region has: `len` of them, none of which is 0 for a region from 1 to 255.
+fn entry_bytes(region: u64, len: usize) -> Vec<u8> {
     vec![region as u8; len]
 }
 
@@ -18,8 +18,8 @@ fn moved_engine(regions: u64, entries: usize, len: usize) -> Engine<MemoryFiles>
     let options = Options::new().purge_above(1).purge_garbage(0);
     let engine = Engine::with_files(MemoryFiles::new(), options).unwrap();
     for region in 1..=regions {
-        write(&engine, |batch| {
-            batch.add_entries(region, 1, &vec![entry(region, len); entries])
+        write_batch(&engine, |batch| {
+            batch.add_entries(region, 1, &vec![entry_bytes(region, len); entries])
         });
     }
     engine.sync().unwrap();
@@ -32,7 +32,7 @@ fn moved_engine(regions: u64, entries: usize, len: usize) -> Engine<MemoryFiles>
 /// Has a purge move records once more, and returns the files that a crash leaves once all of these records are written and before
 /// they are synced. In the last rewrite file the pages of one block are zeros: those of the first block of a batch, if
 /// `is_first`, else those of its last one. All other bytes are there.
-fn left_in_purge(engine: &Engine<MemoryFiles>, is_first: bool) -> MemoryFiles {
+fn files_after_crash_in_purge(engine: &Engine<MemoryFiles>, is_first: bool) -> MemoryFiles {
     let files = engine.files();
     engine.purge().unwrap();
     let asks = files.asks();
@@ -54,7 +54,7 @@ fn left_in_purge(engine: &Engine<MemoryFiles>, is_first: bool) -> MemoryFiles {
         last.len() + 1,
         "the file was begun since the last sync"
     );
-    let blocks = blocks_of(last);
+    let blocks = block_ranges(last);
     let lost = if is_first {
         blocks[0].clone()
     } else {
@@ -64,9 +64,10 @@ fn left_in_purge(engine: &Engine<MemoryFiles>, is_first: bool) -> MemoryFiles {
     MemoryFiles::found(left.files(Queue::Append), rewrite)
 }
 
-/// Returns where the entries stand in the batches of a file: behind the 16 bytes of the header, up to the checksum before the
-/// items. The first seven bytes of the header are the length of the batch, the last eight the offset of its items.
-fn blocks_of(bytes: &[u8]) -> Vec<std::ops::Range<usize>> {
+/// Returns for each batch of a file that has entries where their bytes stand: behind the 16 bytes of the header, up to the
+/// checksum before the items. The first seven bytes of the header are the length of the batch, the last eight the offset of its
+/// items.
+fn block_ranges(bytes: &[u8]) -> Vec<std::ops::Range<usize>> {
     let (mut blocks, mut at) = (Vec::new(), 0);
     while at < bytes.len() {
         let number = |from: usize| u64::from_be_bytes(bytes[from..from + 8].try_into().unwrap());
@@ -79,9 +80,9 @@ fn blocks_of(bytes: &[u8]) -> Vec<std::ops::Range<usize>> {
     blocks
 }
 
-/// Tests that an opening of files that a crash left refuses them with a place, or finds all entries; and that these are there
-/// after the next purge.
-fn assert_kept(left: MemoryFiles, regions: u64, entries: u64, len: usize) {
+/// Opens files that a crash left, and tests that the opening refuses them with a place, or that the entries 1 to `entries` of each
+/// region are there, of `len` bytes each, before and after the next purge.
+fn assert_refused_or_kept(left: MemoryFiles, regions: u64, entries: u64, len: usize) {
     let opened = match Engine::with_files(left, Options::new()) {
         Ok(opened) => opened,
         Err(e) => return assert!(e.file.is_some() && e.offset.is_some(), "{e}"),
@@ -94,7 +95,7 @@ fn assert_kept(left: MemoryFiles, regions: u64, entries: u64, len: usize) {
             for index in 1..=entries {
                 let read = opened.entry(region, index);
                 let read = read.map_err(|e| panic!("region {region}, entry {index}: {e}"));
-                assert_eq!(read.unwrap().unwrap(), entry(region, len));
+                assert_eq!(read.unwrap().unwrap(), entry_bytes(region, len));
             }
         }
     }
@@ -102,34 +103,61 @@ fn assert_kept(left: MemoryFiles, regions: u64, entries: u64, len: usize) {
 
 #[test]
 fn an_entry_stays_that_was_moving_again_when_the_machine_stopped() {
-    assert_kept(left_in_purge(&moved_engine(1, 1, 100), true), 1, 1, 100);
+    assert_refused_or_kept(
+        files_after_crash_in_purge(&moved_engine(1, 1, 100), true),
+        1,
+        1,
+        100,
+    );
 }
 
 #[test]
-fn so_it_does_where_another_region_moved_behind_it() {
-    assert_kept(left_in_purge(&moved_engine(2, 1, 100), true), 2, 1, 100);
-    assert_kept(left_in_purge(&moved_engine(2, 1, 100), false), 2, 1, 100);
+fn an_entry_stays_where_another_region_was_moving_too() {
+    assert_refused_or_kept(
+        files_after_crash_in_purge(&moved_engine(2, 1, 100), true),
+        2,
+        1,
+        100,
+    );
+    assert_refused_or_kept(
+        files_after_crash_in_purge(&moved_engine(2, 1, 100), false),
+        2,
+        1,
+        100,
+    );
 }
 
 #[test]
-fn so_it_does_where_a_region_moved_in_a_group() {
+fn entries_stay_where_their_region_was_moving_in_a_group() {
     const LEN: usize = 100 << 10;
-    assert_kept(left_in_purge(&moved_engine(1, 3, LEN), true), 1, 3, LEN);
-    assert_kept(left_in_purge(&moved_engine(1, 3, LEN), false), 1, 3, LEN);
+    assert_refused_or_kept(
+        files_after_crash_in_purge(&moved_engine(1, 3, LEN), true),
+        1,
+        3,
+        LEN,
+    );
+    assert_refused_or_kept(
+        files_after_crash_in_purge(&moved_engine(1, 3, LEN), false),
+        1,
+        3,
+        LEN,
+    );
 }
 
 #[test]
 fn an_entry_of_the_append_queue_stays_where_its_moved_copy_is_lost() {
-    let engine = engine();
-    write(&engine, |batch| batch.add_entries(1, 1, &[entry(1, 100)]));
+    let engine = new_engine();
+    write_batch(&engine, |batch| {
+        batch.add_entries(1, 1, &[entry_bytes(1, 100)])
+    });
     engine.rotate().unwrap();
     engine.rewrite(1).unwrap();
     let files = engine.files();
     let mut rewrite = files.files(Queue::Rewrite);
-    let block = blocks_of(&rewrite[0].1).remove(0);
+    let block = block_ranges(&rewrite[0].1).remove(0);
     rewrite[0].1[block].fill(0);
     let left = MemoryFiles::found(files.files(Queue::Append), rewrite);
-    assert_kept(left, 1, 1, 100);
+    assert_refused_or_kept(left, 1, 1, 100);
 }
 
 #[test]
@@ -139,15 +167,15 @@ fn a_page_of_zeros_among_the_entries_of_the_last_append_file_is_named_by_its_bat
     let path = room.path().join("logs");
     let engine = Engine::open(&path, Options::new()).unwrap();
     for index in 1..=5 {
-        write(&engine, |batch| {
-            batch.add_entries(7, index, &[entry(7, 3 * PAGE)])?;
+        write_batch(&engine, |batch| {
+            batch.add_entries(7, index, &[entry_bytes(7, 3 * PAGE)])?;
             batch.put(7, b"key", &[index as u8])
         });
     }
     let last = engine.files().path_of(FileId::new(Queue::Append, 1));
     drop(engine);
     let mut bytes = fs::read(&last).unwrap();
-    let third = blocks_of(&bytes)[2].clone();
+    let third = block_ranges(&bytes)[2].clone();
     let page = third.start.next_multiple_of(PAGE);
     assert!(page + PAGE <= third.end);
     bytes[page..page + PAGE].fill(0);
@@ -179,7 +207,7 @@ fn a_page_of_zeros_among_the_entries_of_the_last_append_file_is_named_by_its_bat
             let e = read.unwrap_err();
             assert_eq!((e.file, e.offset), (Some(named.file), Some(offset + 16)));
         } else {
-            assert_eq!(read.unwrap().unwrap(), entry(7, 3 * PAGE));
+            assert_eq!(read.unwrap().unwrap(), entry_bytes(7, 3 * PAGE));
         }
     }
     assert_eq!(engine.get(7, b"key").unwrap().unwrap(), [5]);
@@ -193,15 +221,15 @@ fn a_page_of_zeros_among_the_entries_of_the_last_batches_is_cut_off_and_kept_bes
     let path = room.path().join("logs");
     let engine = Engine::open(&path, Options::new()).unwrap();
     for index in 1..=5 {
-        write(&engine, |batch| {
-            batch.add_entries(7, index, &[entry(7, 3 * PAGE)])?;
+        write_batch(&engine, |batch| {
+            batch.add_entries(7, index, &[entry_bytes(7, 3 * PAGE)])?;
             batch.put(7, b"key", &[index as u8])
         });
     }
     let last = engine.files().path_of(FileId::new(Queue::Append, 1));
     drop(engine);
     let mut bytes = fs::read(&last).unwrap();
-    let blocks = blocks_of(&bytes);
+    let blocks = block_ranges(&bytes);
     for block in &blocks[3..] {
         let page = block.start.next_multiple_of(PAGE);
         assert!(page + PAGE <= block.end);
@@ -235,7 +263,7 @@ fn a_page_of_zeros_among_the_entries_of_the_last_batches_is_cut_off_and_kept_bes
         )
     };
     assert_eq!(ends(&engine), (Some(3), Some(vec![3])));
-    write(&engine, |batch| batch.add_entries(7, 4, &[b"another"]));
+    write_batch(&engine, |batch| batch.add_entries(7, 4, &[b"another"]));
     engine.sync().unwrap();
     drop(engine);
     let engine = Engine::open(&path, Options::new()).unwrap();
@@ -245,22 +273,22 @@ fn a_page_of_zeros_among_the_entries_of_the_last_batches_is_cut_off_and_kept_bes
 }
 
 #[test]
-fn no_crash_brings_batches_back_that_were_cut_off_for_their_entries() {
-    let engine = engine();
+fn batches_cut_off_for_damaged_entries_stay_gone_after_a_crash() {
+    let engine = new_engine();
     for index in 1..=4 {
-        write(&engine, |batch| {
-            batch.add_entries(7, index, &[entry(7, 100)])
+        write_batch(&engine, |batch| {
+            batch.add_entries(7, index, &[entry_bytes(7, 100)])
         });
     }
     let mut append = engine.files().files(Queue::Append);
-    for block in blocks_of(&append[0].1).split_off(2) {
+    for block in block_ranges(&append[0].1).split_off(2) {
         append[0].1[block].fill(0);
     }
     let files = MemoryFiles::found(append, engine.files().files(Queue::Rewrite));
     let engine = Engine::with_files(files.clone(), Options::new()).unwrap();
     assert_eq!(engine.last_index(7).unwrap(), Some(2));
-    let another = entry(8, 300); // longer than what was cut off
-    write(&engine, |batch| {
+    let another = entry_bytes(8, 300); // longer than what was cut off
+    write_batch(&engine, |batch| {
         batch.add_entries(7, 3, std::slice::from_ref(&another))
     });
     engine.sync().unwrap();
@@ -275,7 +303,7 @@ fn no_crash_brings_batches_back_that_were_cut_off_for_their_entries() {
             let left = files.left(asked, unsynced, Unsynced::default());
             let opened = Engine::with_files(left, Options::new()).unwrap();
             for index in [1, 2] {
-                assert_eq!(opened.entry(7, index).unwrap(), Some(entry(7, 100)));
+                assert_eq!(opened.entry(7, index).unwrap(), Some(entry_bytes(7, 100)));
             }
             let third = opened.entry(7, 3).unwrap();
             assert!(third == Some(another.clone()) || !is_synced && third.is_none());

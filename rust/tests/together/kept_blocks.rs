@@ -1,16 +1,16 @@
 //! Tests that the block which was read last is kept, so that its other entries cost no read.
 
-use crate::common::engines::{engine, write};
-use crate::common::hooked::{Call, Hooked};
+use crate::common::engines::{new_engine, write_batch};
+use crate::common::hooked::{Call, HookedFiles};
 use raft_recover::{Engine, ErrorKind, Files, MemoryFiles, Options, Queue};
 use std::sync::Arc;
 use std::sync::atomic::{AtomicUsize, Ordering::SeqCst};
 
-/// Runs a test over an engine. The test also gets a call that returns how often a block was read.
-fn run_counting(test: impl FnOnce(&Engine<Arc<dyn Files>>, &dyn Fn() -> usize)) {
+/// Runs a test over a new engine. The test also gets a call that returns how often a block was read since the last call of it.
+fn run_with_read_count(test: impl FnOnce(&Engine<Arc<dyn Files>>, &dyn Fn() -> usize)) {
     let reads = Arc::new(AtomicUsize::new(0));
     let counted = reads.clone();
-    let hooked = Hooked::new(&MemoryFiles::new(), move |call: Call<'_>| {
+    let hooked = HookedFiles::new(&MemoryFiles::new(), move |call: Call<'_>| {
         counted.fetch_add(usize::from(!call.is_change()), SeqCst);
         Ok(())
     });
@@ -19,8 +19,8 @@ fn run_counting(test: impl FnOnce(&Engine<Arc<dyn Files>>, &dyn Fn() -> usize)) 
     test(&engine, &|| reads.swap(0, SeqCst));
 }
 
-/// Returns the texts of the entries of a block: a hundred from an index on.
-fn texts(first: u64) -> Vec<String> {
+/// Returns the texts of a hundred entries, those of the indexes from `first` on.
+fn hundred_texts(first: u64) -> Vec<String> {
     (first..first + 100)
         .map(|index| index.to_string())
         .collect()
@@ -28,9 +28,11 @@ fn texts(first: u64) -> Vec<String> {
 
 #[test]
 fn the_entries_of_a_block_cost_one_read() {
-    run_counting(|engine, reads| {
+    run_with_read_count(|engine, reads| {
         for first in [1, 101, 201] {
-            write(engine, |batch| batch.add_entries(7, first, &texts(first)));
+            write_batch(engine, |batch| {
+                batch.add_entries(7, first, &hundred_texts(first))
+            });
         }
         for index in 1..=300 {
             let text = index.to_string().into_bytes();
@@ -47,9 +49,11 @@ fn the_entries_of_a_block_cost_one_read() {
 
 #[test]
 fn ranges_that_follow_one_another_read_each_block_once() {
-    run_counting(|engine, reads| {
+    run_with_read_count(|engine, reads| {
         for first in (1..=2901).step_by(100) {
-            write(engine, |batch| batch.add_entries(7, first, &texts(first)));
+            write_batch(engine, |batch| {
+                batch.add_entries(7, first, &hundred_texts(first))
+            });
         }
         let mut read = Vec::new();
         for first in (1..=2990).step_by(30) {
@@ -66,10 +70,12 @@ fn ranges_that_follow_one_another_read_each_block_once() {
 }
 
 #[test]
-fn so_many_blocks_and_bytes_are_kept_and_no_more() {
-    run_counting(|engine, reads| {
+fn at_most_sixteen_blocks_and_eight_mebibytes_are_kept() {
+    run_with_read_count(|engine, reads| {
         for region in 0..20 {
-            write(engine, |batch| batch.add_entries(region, 1, &texts(1)));
+            write_batch(engine, |batch| {
+                batch.add_entries(region, 1, &hundred_texts(1))
+            });
         }
         let read_all = |regions: std::ops::Range<u64>| {
             regions.for_each(|region| drop(engine.entry(region, 1).unwrap().unwrap()));
@@ -91,7 +97,7 @@ fn so_many_blocks_and_bytes_are_kept_and_no_more() {
         assert_eq!(reads(), 1);
 
         for region in 30..35 {
-            write(engine, |batch| {
+            write_batch(engine, |batch| {
                 batch.add_entries(region, 1, &[vec![7; 3 << 20]])
             });
         }
@@ -104,7 +110,7 @@ fn so_many_blocks_and_bytes_are_kept_and_no_more() {
         read_all(30..31);
         assert_eq!(reads(), 1);
 
-        write(engine, |batch| {
+        write_batch(engine, |batch| {
             batch.add_entries(40, 1, &[vec![7; 9 << 20]])
         });
         read_all(30..31);
@@ -118,9 +124,9 @@ fn so_many_blocks_and_bytes_are_kept_and_no_more() {
 }
 
 #[test]
-fn an_entry_that_moved_is_read_at_its_place() {
-    run_counting(|engine, reads| {
-        write(engine, |batch| batch.add_entries(7, 1, &texts(1)));
+fn an_entry_that_moved_or_was_replaced_is_read_at_its_new_place() {
+    run_with_read_count(|engine, reads| {
+        write_batch(engine, |batch| batch.add_entries(7, 1, &hundred_texts(1)));
         assert_eq!(engine.entry(7, 1).unwrap().unwrap(), b"1");
         engine.rotate().unwrap();
         engine.rewrite(1).unwrap();
@@ -128,7 +134,7 @@ fn an_entry_that_moved_is_read_at_its_place() {
         reads();
         assert_eq!(engine.entry(7, 2).unwrap().unwrap(), b"2");
         assert_eq!(reads(), 1);
-        write(engine, |batch| batch.add_entries(7, 2, &["another 2"]));
+        write_batch(engine, |batch| batch.add_entries(7, 2, &["another 2"]));
         assert_eq!(engine.entry(7, 2).unwrap().unwrap(), b"another 2");
         assert_eq!(engine.entry(7, 1).unwrap().unwrap(), b"1");
         assert_eq!(reads(), 1);
@@ -137,8 +143,8 @@ fn an_entry_that_moved_is_read_at_its_place() {
 
 #[test]
 fn a_damaged_block_isnt_kept() {
-    let engine = engine();
-    write(&engine, |batch| {
+    let engine = new_engine();
+    write_batch(&engine, |batch| {
         batch.add_entries(7, 1, &["damaged", "too"])
     });
     let mut files = engine.files().files(Queue::Append);

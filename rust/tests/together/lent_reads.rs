@@ -1,24 +1,25 @@
 //! Tests that entries and pairs are lent, not copied.
 
-use crate::common::engines::{engine, write};
+use crate::common::engines::{new_engine, write_batch};
 use raft_recover::{Engine, ErrorKind, MemoryFiles};
 
 /// Opens an engine whose region 7 has the entries 2 to 7: in two blocks of the rewrite queue, and in two of the append queue, the
 /// last of which has no bytes.
 fn engine_of_four_blocks() -> Engine<MemoryFiles> {
-    let engine = engine();
-    write(&engine, |batch| batch.add_entries(7, 1, &["1", "22"]));
-    write(&engine, |batch| batch.add_entries(7, 3, &["333"]));
+    let engine = new_engine();
+    write_batch(&engine, |batch| batch.add_entries(7, 1, &["1", "22"]));
+    write_batch(&engine, |batch| batch.add_entries(7, 3, &["333"]));
     engine.rotate().unwrap();
     engine.rewrite(1).unwrap();
-    write(&engine, |batch| {
+    write_batch(&engine, |batch| {
         batch.add_entries(7, 4, &["4444", "5", "66"])
     });
-    write(&engine, |batch| batch.add_entries(7, 7, &[""]));
-    write(&engine, |batch| batch.compact(7, 2));
+    write_batch(&engine, |batch| batch.add_entries(7, 7, &[""]));
+    write_batch(&engine, |batch| batch.compact(7, 2));
     engine
 }
 
+/// The texts of the entries 2 to 7 of `engine_of_four_blocks`.
 const TEXTS: [&str; 6] = ["22", "333", "4444", "5", "66", ""];
 
 /// Tests whether two byte strings follow one another in memory, so that neither was copied.
@@ -58,7 +59,7 @@ fn entries_are_lent_in_order_with_their_indexes() {
 }
 
 #[test]
-fn an_entry_is_lent_if_there_is_one() {
+fn a_single_entry_is_lent_where_there_is_one() {
     let engine = engine_of_four_blocks();
     for (index, text) in (2..).zip(TEXTS) {
         let is_equal = engine.entry_with(7, index, |bytes| bytes == text.as_bytes());
@@ -99,8 +100,8 @@ fn read_entries_are_lent_from_both_ends() {
 
 #[test]
 fn scanned_pairs_are_lent_from_both_ends() {
-    let engine = engine();
-    write(&engine, |batch| {
+    let engine = new_engine();
+    write_batch(&engine, |batch| {
         for key in ["a", "bb", "c", "d"] {
             batch.put(7, key.as_bytes(), key.to_uppercase().as_bytes())?;
         }

@@ -1,19 +1,23 @@
 //! Tests the files of an engine in memory, and what a crash of the machine leaves of them.
 
-use crate::common::model::{Region, region_of};
+use crate::common::model::{Region, read_region};
 use raft_recover::{Ask, Engine, FileId, Files, LogBatch, MemoryFiles, Options, Queue, Unsynced};
 use std::io;
 use std::sync::Arc;
 
+/// The first append file.
 const FIRST: FileId = FileId::new(Queue::Append, 1);
+/// The second append file.
 const SECOND: FileId = FileId::new(Queue::Append, 2);
+/// The first rewrite file.
 const REWRITTEN: FileId = FileId::new(Queue::Rewrite, 1);
+/// Nothing of what isn't synced.
 const NONE: Unsynced = Unsynced {
     steps: 0,
     deletions: 0,
 };
 
-/// Makes files, and asks this of them.
+/// Makes new files, asks this of them in order, and returns them. Panics where an ask is refused.
 fn files_after_asks(asks: &[Ask]) -> MemoryFiles {
     let files = MemoryFiles::new();
     for ask in asks {
@@ -33,11 +37,12 @@ fn files_after_asks(asks: &[Ask]) -> MemoryFiles {
 }
 
 /// Returns the ask to append bytes to a file.
-fn write(file: FileId, bytes: &str) -> Ask {
+fn write_ask(file: FileId, bytes: &str) -> Ask {
     Ask::Write(file, bytes.as_bytes().to_vec())
 }
 
-/// Returns what each number of unsynced steps leaves of the append queue, with all deletions done or none.
+/// Returns what crashes leave of the append queue, one text for each number of unsynced steps that are done, with all unsynced
+/// deletions or none. A text such as `1:a 2:` has the number and the bytes of each file.
 fn left_after_each_step(files: &MemoryFiles, all_deleted: bool) -> Vec<String> {
     let asks = files.asked();
     let most = files.unsynced(asks, Queue::Append);
@@ -54,28 +59,42 @@ fn left_after_each_step(files: &MemoryFiles, all_deleted: bool) -> Vec<String> {
 }
 
 #[test]
-fn a_front_of_what_was_not_synced_is_left() {
+fn a_crash_leaves_a_prefix_of_what_was_not_synced() {
     let begun = [Ask::Begin(FIRST), Ask::Sync(Queue::Append)];
     let rows: [(&[Ask], &[&str]); 7] = [
         (&[], &["1:"]),
-        (&[write(FIRST, "ab")], &["1:", "1:a", "1:ab"]),
-        (&[write(FIRST, "ab"), Ask::Sync(Queue::Append)], &["1:ab"]),
+        (&[write_ask(FIRST, "ab")], &["1:", "1:a", "1:ab"]),
+        (
+            &[write_ask(FIRST, "ab"), Ask::Sync(Queue::Append)],
+            &["1:ab"],
+        ),
         (
             &[
-                write(FIRST, "a"),
+                write_ask(FIRST, "a"),
                 Ask::Sync(Queue::Append),
-                write(FIRST, "bc"),
-                write(FIRST, "d"),
+                write_ask(FIRST, "bc"),
+                write_ask(FIRST, "d"),
             ],
             &["1:a", "1:ab", "1:abc", "1:abcd"],
         ),
         (
-            &[write(FIRST, "abc"), Ask::Cut(FIRST, 1), write(FIRST, "d")],
+            &[
+                write_ask(FIRST, "abc"),
+                Ask::Cut(FIRST, 1),
+                write_ask(FIRST, "d"),
+            ],
             &["1:", "1:a", "1:ab", "1:abc", "1:a", "1:ad"],
         ),
-        (&[write(FIRST, "a"), Ask::Begin(SECOND)], &["1:a", "1:a 2:"]),
         (
-            &[write(FIRST, "a"), Ask::Begin(SECOND), write(SECOND, "b")],
+            &[write_ask(FIRST, "a"), Ask::Begin(SECOND)],
+            &["1:a", "1:a 2:"],
+        ),
+        (
+            &[
+                write_ask(FIRST, "a"),
+                Ask::Begin(SECOND),
+                write_ask(SECOND, "b"),
+            ],
             &["1:a", "1:a 2:", "1:a 2:b"],
         ),
     ];
@@ -86,7 +105,7 @@ fn a_front_of_what_was_not_synced_is_left() {
 }
 
 #[test]
-fn a_first_file_may_not_be_there() {
+fn a_crash_may_leave_no_first_file() {
     assert_eq!(left_after_each_step(&files_after_asks(&[]), false), [""]);
     assert_eq!(
         left_after_each_step(&files_after_asks(&[Ask::Begin(FIRST)]), false),
@@ -95,13 +114,13 @@ fn a_first_file_may_not_be_there() {
 }
 
 #[test]
-fn deletions_that_were_not_synced_may_not_be_done() {
+fn a_crash_may_bring_files_back_whose_deletion_was_not_synced() {
     let asks = [
         Ask::Begin(FIRST),
-        write(FIRST, "a"),
+        write_ask(FIRST, "a"),
         Ask::Begin(SECOND),
         Ask::Delete(FIRST),
-        write(SECOND, "b"),
+        write_ask(SECOND, "b"),
     ];
     let files = files_after_asks(&asks);
     assert_eq!(left_after_each_step(&files, true), ["", "2:", "2:b"]);
@@ -134,8 +153,8 @@ fn deletions_add_up_and_a_new_file_syncs_none_of_them() {
 }
 
 #[test]
-fn bytes_are_read_where_all_of_them_are_there() {
-    let files = files_after_asks(&[Ask::Begin(FIRST), write(FIRST, "abc")]);
+fn a_read_of_bytes_that_are_not_all_there_is_refused() {
+    let files = files_after_asks(&[Ask::Begin(FIRST), write_ask(FIRST, "abc")]);
     let read = |offset, len| {
         let mut bytes = vec![0; len];
         files.read(FIRST, offset, &mut bytes).map(|()| bytes)
@@ -151,12 +170,12 @@ fn bytes_are_read_where_all_of_them_are_there() {
 }
 
 #[test]
-fn one_queue_says_nothing_of_the_other() {
+fn a_sync_of_one_queue_leaves_the_other_unsynced() {
     let files = files_after_asks(&[
         Ask::Begin(FIRST),
         Ask::Begin(REWRITTEN),
-        write(FIRST, "a"),
-        write(REWRITTEN, "b"),
+        write_ask(FIRST, "a"),
+        write_ask(REWRITTEN, "b"),
         Ask::Sync(Queue::Append),
     ]);
     let steps = [Queue::Append, Queue::Rewrite].map(|queue| files.unsynced(5, queue).steps);
@@ -171,7 +190,7 @@ fn one_queue_says_nothing_of_the_other() {
 }
 
 #[test]
-fn what_was_found_stays() {
+fn files_that_were_found_outlast_a_crash() {
     let files = MemoryFiles::found(vec![(3, b"abc".to_vec())], vec![(1, b"d".to_vec())]);
     files.write(FileId::new(Queue::Append, 3), b"e").unwrap();
     let left = files.left(1, NONE, NONE);
@@ -181,7 +200,7 @@ fn what_was_found_stays() {
 }
 
 #[test]
-fn what_no_engine_asks_is_refused_and_changes_nothing() {
+fn asks_that_no_engine_makes_are_refused_and_change_nothing() {
     let files = files_after_asks(&[Ask::Begin(FIRST), Ask::Begin(SECOND), Ask::Begin(REWRITTEN)]);
     let refused = [
         files.write(FIRST, b"."),
@@ -212,8 +231,8 @@ fn a_clone_is_a_handle_of_the_same_files() {
     assert_eq!(format!("{files:?}"), "MemoryFiles { asked: 1, .. }");
 }
 
-/// Makes each kind of change of an engine over files, and returns what its region 7 has then.
-fn history<F: Files>(files: F) -> Region {
+/// Has an engine over files make each kind of change, and returns what its region 7 has then.
+fn run_history<F: Files>(files: F) -> Region {
     let options = Options::new().target_file_size(300).purge_above(600);
     let engine = Engine::with_files(files, options).unwrap();
     for index in 1..=20 {
@@ -229,18 +248,18 @@ fn history<F: Files>(files: F) -> Region {
     }
     engine.purge().unwrap();
     engine.sync().unwrap();
-    region_of(&engine, 7).unwrap()
+    read_region(&engine, 7).unwrap()
 }
 
 #[test]
-fn files_behind_an_arc_are_asked_the_same() {
+fn files_behind_an_arc_get_the_same_asks() {
     let found = || MemoryFiles::found(vec![(1, b"torn".to_vec())], vec![]);
     let (alone, shared) = (found(), Arc::new(found()));
-    let expected = history(alone.clone());
+    let expected = run_history(alone.clone());
     assert_eq!(expected.entries.len(), 6);
-    assert_eq!(history(Arc::clone(&shared)), expected);
+    assert_eq!(run_history(Arc::clone(&shared)), expected);
     let behind_dyn: Arc<dyn Files> = Arc::new(found());
-    assert_eq!(history(behind_dyn), expected);
+    assert_eq!(run_history(behind_dyn), expected);
     let asks = shared.asks();
     assert_eq!(asks, alone.asks());
     for queue in [Queue::Append, Queue::Rewrite] {
@@ -253,11 +272,11 @@ fn files_behind_an_arc_are_asked_the_same() {
     // all of it is synced, so that whatever stops the machine leaves it
     let left = shared.left(asks.len(), NONE, NONE);
     let opened = Engine::with_files(left, Options::new()).unwrap();
-    assert_eq!(region_of(&opened, 7).unwrap(), expected);
+    assert_eq!(read_region(&opened, 7).unwrap(), expected);
 }
 
 #[test]
-fn each_ask_is_of_a_queue() {
+fn each_ask_says_of_which_queue_it_is() {
     for queue in [Queue::Append, Queue::Rewrite] {
         let file = FileId::new(queue, 1);
         let asks = [

@@ -1,6 +1,6 @@
 //! Tests messages of a program's own, which are written and read again.
 
-use crate::common::engines::engine;
+use crate::common::engines::new_engine;
 use raft_recover::{ErrorKind, LogBatch, Message};
 use std::error::Error as _;
 use std::num::ParseIntError;
@@ -15,6 +15,7 @@ const REFUSED: Number = Number(13);
 impl Message for Number {
     type Error = Box<dyn std::error::Error + Send + Sync>;
 
+    /// Adds the digits to `bytes`. Errs, with them added, for the number that can't be encoded.
     fn encode(&self, bytes: &mut Vec<u8>) -> Result<(), Self::Error> {
         bytes.extend(self.0.to_string().bytes());
         match *self {
@@ -23,6 +24,7 @@ impl Message for Number {
         }
     }
 
+    /// Reads a number from its digits. Errs where they are none.
     fn decode(bytes: &[u8]) -> Result<Number, Self::Error> {
         Ok(Number(str::from_utf8(bytes)?.parse()?))
     }
@@ -34,19 +36,21 @@ struct Greedy;
 impl Message for Greedy {
     type Error = &'static str;
 
+    /// Takes all bytes away.
     fn encode(&self, bytes: &mut Vec<u8>) -> Result<(), Self::Error> {
         bytes.clear();
         Ok(())
     }
 
+    /// Returns the message whatever the bytes are.
     fn decode(_: &[u8]) -> Result<Greedy, Self::Error> {
         Ok(Greedy)
     }
 }
 
 #[test]
-fn messages_are_entries_and_values() {
-    let engine = engine();
+fn messages_are_written_and_read_as_entries_and_values() {
+    let engine = new_engine();
     let mut batch = LogBatch::new().unwrap();
     let numbers = [1, 22, 333].map(Number);
     batch.add_messages(7, 10, &numbers).unwrap();
@@ -90,8 +94,8 @@ fn messages_are_entries_and_values() {
 }
 
 #[test]
-fn bytes_and_words_are_messages() {
-    let engine = engine();
+fn byte_strings_and_strings_are_messages() {
+    let engine = new_engine();
     let mut batch = LogBatch::new().unwrap();
     let words = ["one", "", "zwölf"].map(str::to_owned);
     batch.add_messages(7, 1, &words).unwrap();
@@ -104,7 +108,7 @@ fn bytes_and_words_are_messages() {
 
 #[test]
 fn a_message_that_cant_be_encoded_is_named_and_adds_nothing() {
-    let engine = engine();
+    let engine = new_engine();
     let mut batch = LogBatch::new().unwrap();
     batch.add_messages(7, 1, &[Number(1)]).unwrap();
     let before = (batch.len(), batch.approximate_size());
@@ -152,6 +156,7 @@ enum Mixed {
 impl Message for Mixed {
     type Error = &'static str;
 
+    /// Adds a word to `bytes`, or takes their last two away.
     fn encode(&self, bytes: &mut Vec<u8>) -> Result<(), Self::Error> {
         match self {
             Mixed::Bytes => bytes.extend(b"bytes"),
@@ -160,6 +165,7 @@ impl Message for Mixed {
         Ok(())
     }
 
+    /// Errs, as it is never called.
     fn decode(_: &[u8]) -> Result<Mixed, Self::Error> {
         Err("it is never read")
     }
@@ -181,8 +187,8 @@ fn a_message_that_takes_away_what_stands_before_it_is_refused() {
 }
 
 #[test]
-fn bytes_that_are_no_message_are_named() {
-    let engine = engine();
+fn an_entry_or_value_that_is_no_message_is_refused_by_name() {
+    let engine = new_engine();
     let mut batch = LogBatch::new().unwrap();
     batch.add_entries(7, 1, &["1", "two"]).unwrap();
     batch.put(7, b"key", b"three").unwrap();

@@ -1,7 +1,7 @@
 //! Tests changes that find no room and leave the files as they were: what was left undone is done before the next change, and
 //! meanwhile all can be read.
 
-use crate::common::model::{Change, Draw, Region, region_of};
+use crate::common::model::{Change, Draw, Region, read_region};
 use raft_recover::{
     Engine, Error, ErrorKind, FileId, Files, LogBatch, MemoryFiles, Options, Queue, Result,
     Unsynced,
@@ -13,14 +13,14 @@ use std::{error, io, thread};
 
 /// Files in memory that have no room for some of the next writes and new files.
 #[derive(Default)]
-struct Crowded {
+struct CrowdedFiles {
     files: MemoryFiles,
     refused: AtomicUsize,
 }
 
-impl Crowded {
-    /// Returns an error in place of a change, as long as there is no room for it.
-    fn find_room(&self) -> io::Result<()> {
+impl CrowdedFiles {
+    /// Counts one of the changes for which there is no room, and errs for it; succeeds once there are none of them left.
+    fn refuse_if_full(&self) -> io::Result<()> {
         let left = |refused: usize| refused.checked_sub(1);
         match self.refused.fetch_update(SeqCst, SeqCst, left) {
             Ok(_) => Err(io::ErrorKind::StorageFull.into()),
@@ -29,59 +29,67 @@ impl Crowded {
     }
 }
 
-impl Files for Crowded {
+impl Files for CrowdedFiles {
+    /// Lists the files.
     fn list(&self, queue: Queue) -> io::Result<Vec<(u64, u64)>> {
         self.files.list(queue)
     }
 
+    /// Appends the bytes to the file, where there is room.
     fn write(&self, file: FileId, bytes: &[u8]) -> io::Result<()> {
-        self.find_room()?;
+        self.refuse_if_full()?;
         self.files.write(file, bytes)
     }
 
+    /// Syncs the queue, which takes no room.
     fn sync(&self, queue: Queue) -> io::Result<()> {
         self.files.sync(queue)
     }
 
+    /// Begins the file, where there is room.
     fn rotate(&self, file: FileId) -> io::Result<()> {
-        self.find_room()?;
+        self.refuse_if_full()?;
         self.files.rotate(file)
     }
 
+    /// Deletes the file, which takes no room.
     fn delete(&self, file: FileId) -> io::Result<()> {
         self.files.delete(file)
     }
 
+    /// Cuts the file to `len` bytes, which takes no room.
     fn truncate(&self, file: FileId, len: u64) -> io::Result<()> {
         self.files.truncate(file, len)
     }
 
+    /// Reads from the file.
     fn read(&self, file: FileId, offset: u64, bytes: &mut [u8]) -> io::Result<()> {
         self.files.read(file, offset, bytes)
     }
 
+    /// Returns true, as a refused change changes nothing.
     fn is_as_before(&self) -> bool {
         true
     }
 }
 
 /// Returns options with files so small that there are soon many of them.
-fn options() -> Options {
+fn small_file_options() -> Options {
     Options::new().target_file_size(300).purge_above(1500)
 }
 
-/// Tests that an error says that there is no room.
-fn assert_full(e: &Error) {
+/// Tests that an error says that the disk has no room.
+fn assert_no_room(e: &Error) {
     assert_eq!(e.kind, ErrorKind::Io, "{e}");
     let source: &io::Error = error::Error::source(e).unwrap().downcast_ref().unwrap();
     assert_eq!(source.kind(), io::ErrorKind::StorageFull);
 }
 
-/// Makes a change again and again until there is room for it. Returns how often there was none.
-fn until_there_is_room(mut change: impl FnMut() -> Result<()>) -> usize {
+/// Makes a change again and again until it finds room. Returns how often it found none; panics where it fails for another reason.
+fn retry_until_room(mut change: impl FnMut() -> Result<()>) -> usize {
     let mut refused = 0;
     while let Err(e) = change() {
-        assert_full(&e);
+        assert_no_room(&e);
         refused += 1;
     }
     refused
@@ -89,17 +97,17 @@ fn until_there_is_room(mut change: impl FnMut() -> Result<()>) -> usize {
 
 /// An engine, and what it has to have, by region.
 struct History {
-    engine: Engine<Crowded>,
+    engine: Engine<CrowdedFiles>,
     model: BTreeMap<u64, Region>,
     draw: Draw,
     refused: usize,
 }
 
 impl History {
-    /// Begins the history of a seed with an engine over new files.
+    /// Opens an engine over new files for the history of a seed, of which no step is taken yet.
     fn new(seed: u64) -> History {
         History {
-            engine: Engine::with_files(Crowded::default(), options()).unwrap(),
+            engine: Engine::with_files(CrowdedFiles::default(), small_file_options()).unwrap(),
             model: BTreeMap::new(),
             draw: Draw::new(seed),
             refused: 0,
@@ -107,107 +115,109 @@ impl History {
     }
 
     /// Writes a random change of a random region, again and again until there is room for it.
-    fn write(&mut self, sync: bool) {
-        let id = self.draw.below(4) as u64;
+    fn write_random_change(&mut self, sync: bool) {
+        let id = self.draw.number_below(4) as u64;
         let region = self.model.entry(id).or_default();
         let before = region.clone();
         let change = Change::draw(&mut self.draw, region);
         change.apply(region);
         let mut batch = LogBatch::new().unwrap();
-        change.add(id, &mut batch).unwrap();
+        change.add_to_batch(id, &mut batch).unwrap();
         while let Err(e) = self.engine.write(&mut batch, sync) {
-            assert_full(&e);
+            assert_no_room(&e);
             self.refused += 1;
             // it is kept, and read already, or as it was
             let expected = if batch.is_empty() { &*region } else { &before };
-            assert_eq!(&region_of(&self.engine, id).unwrap(), expected);
+            assert_eq!(&read_region(&self.engine, id).unwrap(), expected);
         }
         assert!(batch.is_empty());
     }
 
-    /// Takes a random step, again and again until there is room for it.
-    fn step(&mut self) {
-        if self.draw.once_in(4) {
-            let refused = 1 + self.draw.below(3);
+    /// Takes a random step, again and again until there is room for it. Before one step in four it takes the room for the next one
+    /// to three writes and new files.
+    fn take_step(&mut self) {
+        if self.draw.happens_once_in(4) {
+            let refused = 1 + self.draw.number_below(3);
             self.engine.files().refused.store(refused, SeqCst);
         }
         let engine = &self.engine;
-        self.refused += match self.draw.below(12) {
-            0 => until_there_is_room(|| engine.purge().map(drop)),
-            1 => until_there_is_room(|| engine.rotate()),
-            2 => until_there_is_room(|| engine.rewrite(engine.stats().append.first_file)),
-            3 => until_there_is_room(|| engine.rewrite_again()),
-            4 => until_there_is_room(|| engine.sync()),
+        self.refused += match self.draw.number_below(12) {
+            0 => retry_until_room(|| engine.purge().map(drop)),
+            1 => retry_until_room(|| engine.rotate()),
+            2 => retry_until_room(|| engine.rewrite(engine.stats().append.first_file)),
+            3 => retry_until_room(|| engine.rewrite_again()),
+            4 => retry_until_room(|| engine.sync()),
             _ => {
-                let sync = self.draw.once_in(3);
-                self.write(sync);
+                let sync = self.draw.happens_once_in(3);
+                self.write_random_change(sync);
                 if sync {
-                    self.assert_synced();
+                    self.assert_synced_records();
                 }
                 0
             }
         };
     }
 
-    /// Tests that a crash of the machine that takes away all that isn't synced leaves all records.
-    fn assert_synced(&self) {
+    /// Tests that all records are synced: they are there after a crash that takes away all that isn't.
+    fn assert_synced_records(&self) {
         let files = &self.engine.files().files;
         let none = Unsynced::default();
-        self.assert_has(files.left(files.asked(), none, none));
+        self.assert_records(files.left(files.asked(), none, none));
     }
 
-    /// Tests that both an engine over files and the engine of the history have what the model has.
-    fn assert_has(&self, files: MemoryFiles) {
-        let engine = Engine::with_files(files, options()).unwrap();
+    /// Opens an engine over these files, and tests that both it and the engine of the history have just the records of the model.
+    fn assert_records(&self, files: MemoryFiles) {
+        let engine = Engine::with_files(files, small_file_options()).unwrap();
         for (id, region) in &self.model {
-            assert_eq!(&region_of(&engine, *id).unwrap(), region);
-            assert_eq!(&region_of(&self.engine, *id).unwrap(), region);
+            assert_eq!(&read_region(&engine, *id).unwrap(), region);
+            assert_eq!(&read_region(&self.engine, *id).unwrap(), region);
         }
     }
 }
 
 #[test]
-fn what_found_no_room_is_done_before_the_next_change() {
+fn a_change_that_found_no_room_is_made_before_the_next_one() {
     let mut refused = 0;
     for seed in 0..15 {
         let mut history = History::new(seed);
-        (0..80).for_each(|_| history.step());
+        (0..80).for_each(|_| history.take_step());
         history.engine.files().refused.store(0, SeqCst);
-        until_there_is_room(|| history.engine.sync());
-        history.assert_synced();
+        retry_until_room(|| history.engine.sync());
+        history.assert_synced_records();
         refused += history.refused;
     }
     assert!(refused > 300, "{refused}");
 }
 
 #[test]
-fn what_is_left_undone_when_an_engine_is_dropped_was_never_written() {
+fn a_batch_that_found_no_room_is_never_written_where_the_engine_is_dropped() {
     for seed in 0..15 {
         let mut history = History::new(seed);
-        (0..30).for_each(|_| history.step());
+        (0..30).for_each(|_| history.take_step());
         history.engine.files().refused.store(0, SeqCst);
-        until_there_is_room(|| history.engine.sync());
+        retry_until_room(|| history.engine.sync());
         history.engine.files().refused.store(usize::MAX, SeqCst);
         let mut batch = LogBatch::new().unwrap();
         batch.put(9, b"a", b"found no room").unwrap();
         for _ in 0..3 {
-            assert_full(&history.engine.write(&mut batch, true).unwrap_err());
+            assert_no_room(&history.engine.write(&mut batch, true).unwrap_err());
         }
         assert_eq!(history.engine.files().refused.load(SeqCst), usize::MAX - 3);
         let found =
             [Queue::Append, Queue::Rewrite].map(|queue| history.engine.files().files.files(queue));
         let [append, rewrite] = found;
-        let opened = Engine::with_files(MemoryFiles::found(append, rewrite), options()).unwrap();
+        let opened =
+            Engine::with_files(MemoryFiles::found(append, rewrite), small_file_options()).unwrap();
         assert_eq!(opened.get(9, b"a").unwrap(), None);
-        history.assert_synced();
+        history.assert_synced_records();
     }
 }
 
 #[test]
 fn threads_that_find_no_room_go_on_and_each_batch_is_there_once() {
-    let crowded = Arc::new(Crowded::default());
+    let crowded = Arc::new(CrowdedFiles::default());
     let files: Arc<dyn Files> = crowded.clone();
-    let engine = Engine::with_files(files, options()).unwrap();
+    let engine = Engine::with_files(files, small_file_options()).unwrap();
     let (writes, refused) = (60, AtomicU64::new(0));
     thread::scope(|scope| {
         for region in 0..4 {
@@ -220,8 +230,7 @@ fn threads_that_find_no_room_go_on_and_each_batch_is_there_once() {
                     if index % 5 == region {
                         crowded.refused.fetch_add(2, SeqCst);
                     }
-                    let found_none =
-                        until_there_is_room(|| engine.write(&mut batch, index % 2 == 0));
+                    let found_none = retry_until_room(|| engine.write(&mut batch, index % 2 == 0));
                     refused.fetch_add(found_none as u64, SeqCst);
                     assert_eq!(engine.last_index(region).unwrap(), Some(index));
                 }
@@ -230,10 +239,10 @@ fn threads_that_find_no_room_go_on_and_each_batch_is_there_once() {
     });
     assert!(refused.load(SeqCst) >= 30, "{refused:?}");
     assert_eq!(engine.stats().batches, 4 * writes);
-    until_there_is_room(|| engine.sync());
+    retry_until_room(|| engine.sync());
     let files = &crowded.files;
     let left = files.left(files.asked(), Unsynced::default(), Unsynced::default());
-    let opened = Engine::with_files(left, options()).unwrap();
+    let opened = Engine::with_files(left, small_file_options()).unwrap();
     for region in 0..4 {
         let entries = opened.entries(region, ..).unwrap();
         assert_eq!(entries.len() as u64, writes);

@@ -1,16 +1,16 @@
 //! Tests parts of files: their batches one by one, and where one can't be read.
 
-use crate::common::{batch_bytes, file, files, parts};
+use crate::common::{append_file, append_parts, batch_bytes, demo_files};
 use raft_recover::{
     Batches, Content, Context, ErrorKind, FileId, FilePart, LogFile, Queue, Version,
     readable_front, recover,
 };
 
 #[test]
-fn batches_are_walked_item_by_item() {
-    let files = files();
+fn the_batches_of_a_part_are_read_item_by_item() {
+    let files = demo_files();
     let (mut batches, mut items, mut entries) = (0, 0, 0);
-    for part in &parts(&files)[..3] {
+    for part in &append_parts(&files)[..3] {
         for batch in Batches::new(*part).unwrap() {
             let batch = batch.unwrap();
             batches += 1;
@@ -33,9 +33,9 @@ fn batches_are_walked_item_by_item() {
 }
 
 #[test]
-fn a_torn_tail_is_found() {
-    let files = files();
-    let whole = parts(&files)[0];
+fn a_readable_front_ends_before_a_torn_batch() {
+    let files = demo_files();
+    let whole = append_parts(&files)[0];
     assert_eq!(readable_front(whole).unwrap(), (whole.bytes.len(), None));
     let cut = FilePart {
         bytes: &whole.bytes[..whole.bytes.len() - 1],
@@ -72,10 +72,10 @@ fn a_torn_tail_is_found() {
 }
 
 #[test]
-fn batches_end_behind_a_refusal() {
-    let sound = batch_bytes(file(1), |batch| batch.clean(7).unwrap());
+fn nothing_is_read_behind_a_batch_that_is_refused() {
+    let sound = batch_bytes(append_file(1), |batch| batch.clean(7).unwrap());
     let torn = [&sound[..], &sound[..20], &sound[..]].concat();
-    let mut batches = Batches::new(FilePart::new(file(1), &torn)).unwrap();
+    let mut batches = Batches::new(FilePart::new(append_file(1), &torn)).unwrap();
     assert!(batches.next().unwrap().is_ok());
     assert_eq!(batches.next_at(), Some(sound.len()));
     assert!(batches.next().unwrap().is_err());
@@ -101,11 +101,11 @@ fn a_refusal_names_the_file_of_either_queue() {
 }
 
 #[test]
-fn a_tail_of_any_length_is_told() {
-    let sound = batch_bytes(file(1), |batch| batch.clean(7).unwrap());
+fn a_torn_tail_of_any_length_is_refused() {
+    let sound = batch_bytes(append_file(1), |batch| batch.clean(7).unwrap());
     for len in 1..sound.len() {
         let torn = [&sound[..], &sound[..len]].concat();
-        let part = FilePart::new(file(1), &torn);
+        let part = FilePart::new(append_file(1), &torn);
         let (front, refused) = readable_front(part).unwrap();
         assert_eq!((front, refused.is_some()), (sound.len(), true), "{len}");
         let batches = Batches::new(part).unwrap();
@@ -115,11 +115,11 @@ fn a_tail_of_any_length_is_told() {
 
 #[test]
 fn a_part_may_begin_anywhere_and_end_at_the_last_offset() {
-    let sound = batch_bytes(file(3), |batch| batch.clean(7).unwrap());
+    let sound = batch_bytes(append_file(3), |batch| batch.clean(7).unwrap());
     let torn = [&sound[..], &sound[..20]].concat();
     let part = |offset| FilePart {
         offset,
-        ..FilePart::new(file(3), &torn)
+        ..FilePart::new(append_file(3), &torn)
     };
     let last = u64::MAX - torn.len() as u64;
     for offset in [0, 1, 1 << 40, last] {
@@ -143,15 +143,15 @@ fn a_part_may_begin_anywhere_and_end_at_the_last_offset() {
 }
 
 #[test]
-fn entries_stand_where_the_part_and_the_batch_before_them_say() {
-    let bytes = batch_bytes(file(3), |batch| {
+fn offsets_of_entries_count_from_the_offset_of_their_part() {
+    let bytes = batch_bytes(append_file(3), |batch| {
         batch.add_entries(7, 1, &["an entry"]).unwrap();
     });
     let twice = bytes.repeat(2);
     for offset in [0, 1, 1 << 40] {
         let part = FilePart {
             offset,
-            ..FilePart::new(file(3), &twice)
+            ..FilePart::new(append_file(3), &twice)
         };
         let expected = [0, bytes.len()].map(|at| offset + at as u64 + 16);
         let blocks = Batches::new(part).unwrap().map(|batch| {

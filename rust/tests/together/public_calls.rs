@@ -1,17 +1,17 @@
 //! Tests that each public call is made by a test that runs with either heap.
 
-use crate::common::top;
+use crate::common::repository_folder;
 use std::collections::BTreeSet;
 use std::fs;
 use std::path::Path;
 
-/// Returns the texts of all Rust sources in a folder and in those below it, without the one that `but` names.
-fn sources(folder: &Path, but: &str) -> Vec<String> {
+/// Returns the texts of all Rust sources in a folder and in those below it, without folders of the name `but`.
+fn source_texts(folder: &Path, but: &str) -> Vec<String> {
     let mut all = Vec::new();
     for entry in fs::read_dir(folder).unwrap() {
         let path = entry.unwrap().path();
         if path.is_dir() && !path.ends_with(but) {
-            all.extend(sources(&path, but));
+            all.extend(source_texts(&path, but));
         } else if path.extension().is_some_and(|ending| ending == "rs") {
             all.push(fs::read_to_string(path).unwrap());
         }
@@ -19,8 +19,9 @@ fn sources(folder: &Path, but: &str) -> Vec<String> {
     all
 }
 
-/// Returns the type whose calls follow a line that begins an `impl` or a trait: the last word before a `{`, a `<` or ` for`.
-fn type_of(line: &str) -> String {
+/// Returns the type in a line that begins an `impl` or a trait, without its parameters: for `impl<T> Files for Arc<T> {` it is
+/// `Arc`.
+fn type_in_line(line: &str) -> String {
     let named = line.rsplit(" for ").next().unwrap();
     let named = named.trim_end_matches(" {");
     let mut depth = 0;
@@ -38,8 +39,8 @@ fn type_of(line: &str) -> String {
         .to_owned()
 }
 
-/// Adds the public calls in a source to `calls`: each as a test makes it, and its type.
-fn calls(text: &str, calls: &mut BTreeSet<(String, String)>) {
+/// Adds the public calls in a source to `calls`: the type of each, empty for a free function, and its name.
+fn add_public_calls(text: &str, calls: &mut BTreeSet<(String, String)>) {
     let (mut of, mut is_trait) = (String::new(), false);
     for line in text.lines() {
         if line.starts_with("impl") || line.starts_with("pub trait") {
@@ -49,7 +50,7 @@ fn calls(text: &str, calls: &mut BTreeSet<(String, String)>) {
             } else {
                 line
             };
-            of = type_of(head);
+            of = type_in_line(head);
         }
         let line_of = line.trim_start();
         let of_trait = line_of
@@ -73,15 +74,15 @@ fn calls(text: &str, calls: &mut BTreeSet<(String, String)>) {
 
 #[test]
 fn each_public_call_is_made_by_a_test() {
-    let rust = top().join("rust");
+    let rust = repository_folder().join("rust");
     let mut public = BTreeSet::new();
-    for text in sources(&rust.join("src"), "sys") {
+    for text in source_texts(&rust.join("src"), "sys") {
         if !text.starts_with("//! What crosses to the library") {
-            calls(&text, &mut public);
+            add_public_calls(&text, &mut public);
         }
     }
     assert!(public.len() > 120, "{}", public.len());
-    let tests = sources(&rust.join("tests"), "target");
+    let tests = source_texts(&rust.join("tests"), "target");
     let both: Vec<_> = tests
         .iter()
         .filter(|text| !text.contains("#![cfg("))

@@ -1,14 +1,14 @@
 //! Tests what a purge says: which files it deleted, which regions need the oldest one, and whether there is something to do.
 
-use crate::common::engines::{engine, write};
-use crate::common::model::{Change, Draw, Region, region_of};
+use crate::common::engines::{new_engine, write_batch};
+use crate::common::model::{Change, Draw, Region, read_region};
 use raft_recover::{
     Engine, ErrorKind, FileId, Files, Holder, LogBatch, MemoryFiles, Options, Queue, QueueUsage,
 };
 use std::collections::BTreeMap;
 
-/// Returns append file `seq`.
-fn append(seq: u64) -> FileId {
+/// Returns the id of append file `seq`.
+fn append_id(seq: u64) -> FileId {
     FileId::new(Queue::Append, seq)
 }
 
@@ -24,34 +24,34 @@ fn holder_numbers(holder: &Holder) -> (u64, u64, Option<u64>, u64) {
 }
 
 #[test]
-fn the_files_are_named_that_went() {
-    let engine = engine();
+fn a_purge_names_the_files_that_it_deleted() {
+    let engine = new_engine();
     for index in 1..=4 {
-        write(&engine, |batch| batch.add_entries(7, index, &["an entry"]));
+        write_batch(&engine, |batch| batch.add_entries(7, index, &["an entry"]));
         engine.rotate().unwrap();
     }
     let purged = engine.purge().unwrap();
     assert_eq!((purged.files, purged.append_files), (vec![], 0));
-    write(&engine, |batch| batch.compact(7, 4));
+    write_batch(&engine, |batch| batch.compact(7, 4));
     let purged = engine.purge().unwrap();
-    assert_eq!(purged.files, [1, 2, 3].map(append));
+    assert_eq!(purged.files, [1, 2, 3].map(append_id));
     assert_eq!((purged.append_files, purged.rewrite_files), (3, 0));
     engine.rewrite(4).unwrap();
     engine.rewrite_again().unwrap();
     let purged = engine.purge().unwrap();
-    assert_eq!(purged.files, [append(4), FileId::new(Queue::Rewrite, 1)]);
+    assert_eq!(purged.files, [append_id(4), FileId::new(Queue::Rewrite, 1)]);
     assert_eq!((purged.append_files, purged.rewrite_files), (1, 1));
 }
 
 #[test]
-fn a_needless_file_of_either_queue_is_something_to_do() {
-    let engine = engine();
-    write(&engine, |batch| batch.add_entries(7, 1, &["an entry"]));
+fn a_needless_file_of_either_queue_makes_a_purge_needed() {
+    let engine = new_engine();
+    write_batch(&engine, |batch| batch.add_entries(7, 1, &["an entry"]));
     engine.rotate().unwrap();
     assert!(!engine.needs_purge().unwrap());
     engine.rewrite(1).unwrap();
     assert!(engine.needs_purge().unwrap());
-    assert_eq!(engine.purge().unwrap().files, [append(1)]);
+    assert_eq!(engine.purge().unwrap().files, [append_id(1)]);
     assert!(!engine.needs_purge().unwrap());
     engine.rewrite_again().unwrap();
     assert!(engine.needs_purge().unwrap());
@@ -62,8 +62,8 @@ fn a_needless_file_of_either_queue_is_something_to_do() {
 
 #[test]
 fn the_holders_of_the_oldest_file_are_named_with_what_they_have_there() {
-    let engine = engine();
-    write(&engine, |batch| {
+    let engine = new_engine();
+    write_batch(&engine, |batch| {
         batch.add_entries(7, 10, &["10", "11", "12"])?; // three of them in the first file
         batch.add_entries(8, 1, &["1", "2"])?; // one stays there, the other one is replaced
         batch.put(9, b"key", b"value")?; // a key alone
@@ -73,7 +73,7 @@ fn the_holders_of_the_oldest_file_are_named_with_what_they_have_there() {
         batch.put(12, b"key", b"value") // it is put again
     });
     engine.rotate().unwrap();
-    write(&engine, |batch| {
+    write_batch(&engine, |batch| {
         batch.add_entries(7, 13, &["13"])?;
         batch.add_entries(8, 2, &["another 2", "3"])?;
         batch.compact(10, 6)?;
@@ -89,7 +89,7 @@ fn the_holders_of_the_oldest_file_are_named_with_what_they_have_there() {
     ];
     assert_eq!(holders.iter().map(holder_numbers).collect::<Vec<_>>(), rows);
 
-    write(&engine, |batch| {
+    write_batch(&engine, |batch| {
         batch.compact(7, 13)?;
         batch.compact(8, 2)?;
         batch.put(9, b"key", b"value")?;
@@ -100,22 +100,22 @@ fn the_holders_of_the_oldest_file_are_named_with_what_they_have_there() {
         holders.iter().map(holder_numbers).collect::<Vec<_>>(),
         [(11, 1, None, 0)]
     );
-    write(&engine, |batch| batch.delete(11, b"key"));
+    write_batch(&engine, |batch| batch.delete(11, b"key"));
     let purged = engine.purge().unwrap();
-    assert_eq!((purged.files, purged.holders), (vec![append(1)], vec![]));
+    assert_eq!((purged.files, purged.holders), (vec![append_id(1)], vec![]));
 }
 
 #[test]
-fn what_moved_is_held_by_nobody() {
-    let engine = engine();
-    write(&engine, |batch| batch.add_entries(7, 1, &["1", "2"]));
+fn a_region_whose_records_moved_is_no_holder() {
+    let engine = new_engine();
+    write_batch(&engine, |batch| batch.add_entries(7, 1, &["1", "2"]));
     engine.rotate().unwrap();
-    write(&engine, |batch| batch.add_entries(7, 3, &["3", "4", "5"]));
+    write_batch(&engine, |batch| batch.add_entries(7, 3, &["3", "4", "5"]));
     engine.rotate().unwrap();
-    write(&engine, |batch| batch.add_entries(7, 6, &["6"]));
+    write_batch(&engine, |batch| batch.add_entries(7, 6, &["6"]));
     engine.rewrite(1).unwrap();
     let purged = engine.purge().unwrap();
-    assert_eq!(purged.files, [append(1)]);
+    assert_eq!(purged.files, [append_id(1)]);
     // those that moved go with the compaction, too
     assert_eq!(
         purged
@@ -132,9 +132,9 @@ fn what_moved_is_held_by_nobody() {
 /// Draws options with small files, some of which are deleted at once, and some only when their records have moved.
 fn draw_options(draw: &mut Draw) -> Options {
     Options::new()
-        .target_file_size(200 + draw.below(400) as u64)
-        .purge_above(800 + draw.below(3000) as u64)
-        .purge_garbage(20 + draw.below(70) as u8)
+        .target_file_size(200 + draw.number_below(400) as u64)
+        .purge_above(800 + draw.number_below(3000) as u64)
+        .purge_garbage(20 + draw.number_below(70) as u8)
 }
 
 /// Makes a random change of a random region, in the engine and in the model.
@@ -143,15 +143,15 @@ fn make_random_change(
     model: &mut BTreeMap<u64, Region>,
     draw: &mut Draw,
 ) {
-    let id = draw.below(4) as u64;
+    let id = draw.number_below(4) as u64;
     let region = model.entry(id).or_default();
     let change = Change::draw(draw, region);
     change.apply(region);
-    write(engine, |batch| change.add(id, batch));
+    write_batch(engine, |batch| change.add_to_batch(id, batch));
 }
 
 #[test]
-fn a_purge_asks_something_of_the_files_where_one_is_needed_and_else_nothing() {
+fn a_purge_asks_nothing_of_files_unless_one_is_needed() {
     let (mut needed, mut needless) = (0, 0);
     for seed in 0..30 {
         let mut draw = Draw::new(seed);
@@ -160,7 +160,7 @@ fn a_purge_asks_something_of_the_files_where_one_is_needed_and_else_nothing() {
         let mut model = BTreeMap::new();
         for step in 0..300 {
             make_random_change(&engine, &mut model, &mut draw);
-            if draw.once_in(6) {
+            if draw.happens_once_in(6) {
                 let (is_needed, before) = (engine.needs_purge().unwrap(), engine.files().asked());
                 engine.purge().unwrap();
                 let is_asked = engine.files().asked() > before;
@@ -173,21 +173,22 @@ fn a_purge_asks_something_of_the_files_where_one_is_needed_and_else_nothing() {
             }
         }
         for (id, region) in model {
-            assert_eq!(region_of(&engine, id).unwrap(), region, "seed {seed}");
+            assert_eq!(read_region(&engine, id).unwrap(), region, "seed {seed}");
         }
     }
     assert!(needed > 100 && needless > 100, "{needed} {needless}");
 }
 
-/// Opens an engine, gives it a random history, and returns it with the regions that need its oldest file.
-fn drawn_holders(seed: u64) -> (Engine<MemoryFiles>, Vec<Holder>) {
+/// Opens an engine, gives it the random history of a seed, and purges it. Returns it with the regions that need its oldest append
+/// file.
+fn draw_holders(seed: u64) -> (Engine<MemoryFiles>, Vec<Holder>) {
     let mut draw = Draw::new(seed);
     let options = Options::new().target_file_size(300);
     let engine = Engine::with_files(MemoryFiles::new(), options).unwrap();
     let mut model = BTreeMap::new();
     for _ in 0..60 {
         make_random_change(&engine, &mut model, &mut draw);
-        if draw.once_in(20) {
+        if draw.happens_once_in(20) {
             let first = engine.stats().append.first_file;
             engine.rewrite(first).unwrap();
         }
@@ -196,17 +197,17 @@ fn drawn_holders(seed: u64) -> (Engine<MemoryFiles>, Vec<Holder>) {
     (engine, holders)
 }
 
-/// Returns the regions of those holders that need a file.
-fn regions<'a>(holders: impl IntoIterator<Item = &'a Holder>, file: FileId) -> Vec<u64> {
+/// Returns the regions of those holders whose file is `file`, in order.
+fn regions_that_need<'a>(holders: impl IntoIterator<Item = &'a Holder>, file: FileId) -> Vec<u64> {
     let of_file = holders.into_iter().filter(|holder| holder.file == file);
     of_file.map(|holder| holder.region).collect()
 }
 
 #[test]
-fn once_its_holders_let_go_the_oldest_file_goes_and_nothing_moves() {
+fn the_oldest_file_is_deleted_without_a_move_once_its_holders_let_go() {
     let mut held = 0;
     for seed in 0..60 {
-        let (engine, holders) = drawn_holders(seed);
+        let (engine, holders) = draw_holders(seed);
         let Some(file) = holders.first().map(|holder| holder.file) else {
             continue;
         };
@@ -227,8 +228,12 @@ fn once_its_holders_let_go_the_oldest_file_goes_and_nothing_moves() {
         engine.write(&mut batch, false).unwrap();
         let left = engine.purge().unwrap().holders;
         let with_entries = holders.iter().filter(|holder| holder.compact_to.is_some());
-        let kept = regions(with_entries.clone(), file);
-        assert_eq!(regions(&left, file), kept, "seed {seed}: {holders:?}");
+        let kept = regions_that_need(with_entries.clone(), file);
+        assert_eq!(
+            regions_that_need(&left, file),
+            kept,
+            "seed {seed}: {holders:?}"
+        );
         for holder in with_entries {
             let index = holder.compact_to.unwrap();
             batch.compact(holder.region, index).unwrap();
@@ -244,20 +249,20 @@ fn once_its_holders_let_go_the_oldest_file_goes_and_nothing_moves() {
 
 /// Opens an engine, moves a hundred entries to its rewrite queue, and compacts `garbage` of them, so that as many of a hundred
 /// bytes there, or some more, aren't needed.
-fn rewritten_with_garbage(options: Options, garbage: u8) -> Engine<MemoryFiles> {
+fn engine_with_garbage(options: Options, garbage: u8) -> Engine<MemoryFiles> {
     let engine = Engine::with_files(MemoryFiles::new(), options).unwrap();
-    write(&engine, |batch| {
+    write_batch(&engine, |batch| {
         batch.add_entries(7, 1, &vec!["x".repeat(90); 100])
     });
     engine.rotate().unwrap();
     engine.rewrite(1).unwrap();
     engine.purge().unwrap();
-    write(&engine, |batch| batch.compact(7, 1 + u64::from(garbage)));
+    write_batch(&engine, |batch| batch.compact(7, 1 + u64::from(garbage)));
     engine
 }
 
 #[test]
-fn records_move_again_where_so_many_of_a_hundred_bytes_arent_needed() {
+fn records_move_again_once_the_share_of_garbage_reaches_the_limit() {
     for (garbage, limit, is_moved) in [
         (60, 60, true),
         (60, 80, false),
@@ -268,7 +273,7 @@ fn records_move_again_where_so_many_of_a_hundred_bytes_arent_needed() {
         (0, 0, true),
     ] {
         let options = Options::new().purge_above(1000).purge_garbage(limit);
-        let engine = rewritten_with_garbage(options, garbage);
+        let engine = engine_with_garbage(options, garbage);
         let found = MemoryFiles::found(
             engine.files().files(Queue::Append),
             engine.files().files(Queue::Rewrite),
@@ -281,10 +286,10 @@ fn records_move_again_where_so_many_of_a_hundred_bytes_arent_needed() {
 }
 
 #[test]
-fn bytes_that_are_needed_are_counted_by_queue() {
-    let engine = engine();
+fn usage_counts_the_bytes_that_are_needed_in_each_queue() {
+    let engine = new_engine();
     assert_eq!(engine.usage().unwrap(), Default::default());
-    write(&engine, |batch| {
+    write_batch(&engine, |batch| {
         batch.add_entries(7, 1, &["1", "22", "333"])?;
         batch.put(7, b"key", b"value")?;
         batch.put(8, b"k", b"")
@@ -302,8 +307,8 @@ fn bytes_that_are_needed_are_counted_by_queue() {
 
     engine.rotate().unwrap();
     engine.rewrite(1).unwrap();
-    write(&engine, |batch| batch.add_entries(7, 4, &["4444"]));
-    write(&engine, |batch| batch.compact(7, 2));
+    write_batch(&engine, |batch| batch.add_entries(7, 4, &["4444"]));
+    write_batch(&engine, |batch| batch.compact(7, 2));
     let usage = engine.usage().unwrap();
     assert_eq!((usage.append.live, usage.rewrite.live), (4, 5 + 8 + 1));
     assert_eq!(
@@ -319,7 +324,7 @@ fn bytes_that_are_needed_are_counted_by_queue() {
 }
 
 #[test]
-fn a_hundredth_is_never_more_than_there_is() {
+fn the_share_of_garbage_is_rounded_down() {
     for (live, dead, garbage) in [
         (0, 0, 0),
         (1, 0, 0),
@@ -338,11 +343,11 @@ fn a_hundredth_is_never_more_than_there_is() {
 }
 
 #[test]
-fn a_failed_engine_says_what_it_needs_as_long_as_it_is_read() {
-    let engine = engine();
-    write(&engine, |batch| batch.add_entries(7, 1, &["an entry"]));
+fn a_failed_engine_still_says_its_usage_and_needs() {
+    let engine = new_engine();
+    write_batch(&engine, |batch| batch.add_entries(7, 1, &["an entry"]));
     engine.rotate().unwrap();
-    engine.files().rotate(append(3)).unwrap(); // behind the engine's back: its next file can't be begun
+    engine.files().rotate(append_id(3)).unwrap(); // behind the engine's back: its next file can't be begun
     engine.rotate().unwrap_err();
     assert_eq!(engine.purge().unwrap_err().kind, ErrorKind::Failed);
     assert_eq!(engine.usage().unwrap().append.live, 8);

@@ -1,6 +1,8 @@
 //! Tests recovery on several threads, of the files of demo/.
 
-use crate::common::{batch_bytes, file, files, lines, parts, with_group_marker};
+use crate::common::{
+    append_file, append_parts, batch_bytes, demo_files, readme_lines, with_group_marker,
+};
 use raft_recover::{
     Context, ErrorKind, FilePart, Kept, LogBatch, LogFile, Queue, Result, Tables, Version,
     batch_len, recover, recover_both,
@@ -9,18 +11,18 @@ use std::thread;
 
 #[test]
 fn any_number_of_threads_gives_the_lines_of_the_readme() {
-    let files = files();
+    let files = demo_files();
     for workers in 0..6 {
-        let tables = recover(&parts(&files), Queue::Append, workers).unwrap();
-        assert_eq!(tables.to_string(), lines(), "{workers} threads");
+        let tables = recover(&append_parts(&files), Queue::Append, workers).unwrap();
+        assert_eq!(tables.to_string(), readme_lines(), "{workers} threads");
     }
 }
 
 #[test]
 fn files_cut_between_batches_give_the_same() {
-    let files = files();
+    let files = demo_files();
     let mut cut = Vec::new();
-    for part in parts(&files) {
+    for part in append_parts(&files) {
         let mut at = 0;
         while let Some(len) = batch_len(&part.bytes[at..]) {
             cut.push(FilePart {
@@ -33,13 +35,13 @@ fn files_cut_between_batches_give_the_same() {
         assert_eq!(at, part.bytes.len());
     }
     let tables = recover(&cut, Queue::Append, 7).unwrap();
-    assert_eq!(tables.to_string(), lines());
+    assert_eq!(tables.to_string(), readme_lines());
 }
 
 #[test]
 fn contexts_move_to_other_threads() {
-    let files = files();
-    let parts = parts(&files);
+    let files = demo_files();
+    let parts = append_parts(&files);
     let mut older = Context::new().unwrap();
     older.replay(parts[0]).unwrap();
     let older = thread::scope(|scope| {
@@ -53,11 +55,11 @@ fn contexts_move_to_other_threads() {
         });
         merged.join().unwrap()
     });
-    assert_eq!(older.finish().unwrap().to_string(), lines());
+    assert_eq!(older.finish().unwrap().to_string(), readme_lines());
 }
 
 #[test]
-fn nothing_is_recovered_of_nothing() {
+fn recovery_of_no_parts_finds_no_regions() {
     let tables = recover(&[], Queue::Append, 3).unwrap();
     assert_eq!(tables.to_string(), "cleaned -\nlive 0 0\n");
     let tables = recover_both(&[], &[], 3).unwrap();
@@ -67,9 +69,9 @@ fn nothing_is_recovered_of_nothing() {
 
 #[test]
 fn without_rewritten_files_both_queues_give_the_lines_of_the_readme() {
-    let files = files();
-    let tables = recover_both(&[], &parts(&files), 2).unwrap();
-    assert_eq!(tables.to_string(), lines());
+    let files = demo_files();
+    let tables = recover_both(&[], &append_parts(&files), 2).unwrap();
+    assert_eq!(tables.to_string(), readme_lines());
 }
 
 #[test]
@@ -121,7 +123,10 @@ fn appended_records_stand_over_rewritten_ones() {
 
 #[test]
 fn a_batch_is_read_in_the_version_that_it_is_written_in() {
-    let files = [Version::V1, Version::V2].map(|version| LogFile { version, ..file(3) });
+    let files = [Version::V1, Version::V2].map(|version| LogFile {
+        version,
+        ..append_file(3)
+    });
     for written in files {
         let bytes = batch_bytes(written, |batch| batch.clean(7).unwrap());
         for read in files {
@@ -138,10 +143,10 @@ fn a_batch_is_read_in_the_version_that_it_is_written_in() {
 }
 
 #[test]
-fn a_context_says_how_much_it_holds() {
-    let files = files();
+fn a_context_counts_what_its_tables_have() {
+    let files = demo_files();
     let mut context = Context::new().unwrap();
-    for part in parts(&files) {
+    for part in append_parts(&files) {
         context.replay(part).unwrap();
     }
     let kept = context.kept().unwrap();
@@ -158,10 +163,10 @@ fn a_context_says_how_much_it_holds() {
 }
 
 #[test]
-fn the_numbers_of_a_context_are_told_apart() {
+fn a_context_counts_each_kind_of_what_it_keeps() {
     let file = LogFile {
         queue: Queue::Rewrite,
-        ..file(1)
+        ..append_file(1)
     };
     let records = batch_bytes(file, |batch| {
         batch.add_entries(7, 1, &["entry"; 9]).unwrap();
@@ -206,30 +211,30 @@ fn the_numbers_of_a_context_are_told_apart() {
 #[test]
 fn each_file_is_read_once_whatever_the_number_of_threads() {
     let files: Vec<_> = (1..=6)
-        .map(|seq| batch_bytes(file(seq), |batch| batch.clean(10 * seq).unwrap()))
+        .map(|seq| batch_bytes(append_file(seq), |batch| batch.clean(10 * seq).unwrap()))
         .collect();
     for workers in 0..9 {
-        let tables = recover(&parts(&files), Queue::Append, workers).unwrap();
+        let tables = recover(&append_parts(&files), Queue::Append, workers).unwrap();
         assert_eq!(tables.cleaned(), [10, 20, 30, 40, 50, 60], "{workers}");
     }
 }
 
 #[test]
 fn parts_without_bytes_change_nothing() {
-    let files = files();
-    let mut many = vec![FilePart::new(file(1), &[]); 100];
-    many.extend(parts(&files));
-    many.extend([FilePart::new(file(4), &[]); 100]);
+    let files = demo_files();
+    let mut many = vec![FilePart::new(append_file(1), &[]); 100];
+    many.extend(append_parts(&files));
+    many.extend([FilePart::new(append_file(4), &[]); 100]);
     for workers in [1, 3, 7, usize::MAX] {
         let tables = recover(&many, Queue::Append, workers).unwrap();
-        assert_eq!(tables.to_string(), lines(), "{workers} threads");
+        assert_eq!(tables.to_string(), readme_lines(), "{workers} threads");
     }
 }
 
 #[test]
-fn of_several_refusals_the_first_is_told() {
+fn of_several_files_that_are_refused_the_first_one_is_named() {
     let run = |seq, first| {
-        batch_bytes(file(seq), |batch| {
+        batch_bytes(append_file(seq), |batch| {
             batch.add_entries(7, first, &["x"]).unwrap();
         })
     };
@@ -241,17 +246,17 @@ fn of_several_refusals_the_first_is_told() {
         [run(4, 22), run(4, 40)].concat(),
     ];
     for workers in 1..6 {
-        let e = recover(&parts(&files), Queue::Append, workers).unwrap_err();
+        let e = recover(&append_parts(&files), Queue::Append, workers).unwrap_err();
         assert_eq!(e.kind, ErrorKind::Corruption);
         assert!(e.text.contains("append file 2, offset "), "{workers}: {e}");
     }
 }
 
 #[test]
-fn a_refusal_has_a_kind_and_a_text_and_empties_the_context() {
-    let files = files();
+fn after_a_refusal_all_calls_of_a_context_fail() {
+    let files = demo_files();
     let mut context = Context::new().unwrap();
-    let whole = parts(&files)[0];
+    let whole = append_parts(&files)[0];
     let cut = FilePart {
         bytes: &whole.bytes[..whole.bytes.len() - 1],
         ..whole
@@ -270,9 +275,9 @@ fn a_refusal_has_a_kind_and_a_text_and_empties_the_context() {
 }
 
 #[test]
-fn a_hole_is_told_by_its_batch_or_by_its_region() {
+fn a_hole_is_refused_by_its_batch_or_in_a_merge_by_its_region() {
     let run = |first, seq| {
-        batch_bytes(file(seq), |batch| {
+        batch_bytes(append_file(seq), |batch| {
             batch.add_entries(7, first, &["x"]).unwrap();
         })
     };
@@ -280,7 +285,7 @@ fn a_hole_is_told_by_its_batch_or_by_its_region() {
     let first = run(1, 1);
     let both = [first.clone(), run(5, 1)].concat();
     let part = |seq, bytes| FilePart {
-        file: file(seq),
+        file: append_file(seq),
         offset: 0,
         bytes,
     };
@@ -304,7 +309,7 @@ fn a_hole_is_told_by_its_batch_or_by_its_region() {
 
 #[test]
 fn a_file_below_the_last_one_is_refused() {
-    let clean = |seq| batch_bytes(file(seq), |batch| batch.clean(7).unwrap());
+    let clean = |seq| batch_bytes(append_file(seq), |batch| batch.clean(7).unwrap());
     let mut context = Context::new().unwrap();
     for (seq, kind) in [
         (5, None),
@@ -313,7 +318,7 @@ fn a_file_below_the_last_one_is_refused() {
     ] {
         let bytes = clean(seq);
         let part = FilePart {
-            file: file(seq),
+            file: append_file(seq),
             offset: 0,
             bytes: &bytes,
         };
@@ -323,10 +328,10 @@ fn a_file_below_the_last_one_is_refused() {
 
 #[test]
 fn bytes_that_are_signed_for_another_file_are_refused() {
-    let files = files();
+    let files = demo_files();
     let part = FilePart {
-        file: file(2),
-        ..parts(&files)[0]
+        file: append_file(2),
+        ..append_parts(&files)[0]
     };
     let e = recover(&[part], Queue::Append, 1).unwrap_err();
     assert_eq!(e.kind, ErrorKind::Corruption, "{e}");
@@ -336,7 +341,7 @@ fn bytes_that_are_signed_for_another_file_are_refused() {
 fn a_part_that_ends_past_the_last_offset_is_refused_and_the_context_stays() {
     let mut context = Context::new().unwrap();
     let part = |bytes| FilePart {
-        file: file(1),
+        file: append_file(1),
         offset: u64::MAX,
         bytes,
     };
@@ -348,10 +353,10 @@ fn a_part_that_ends_past_the_last_offset_is_refused_and_the_context_stays() {
 
 #[test]
 fn a_merge_in_the_wrong_order_is_refused() {
-    let files = files();
+    let files = demo_files();
     let read = |part| {
         let mut context = Context::new().unwrap();
-        context.replay(parts(&files)[part]).unwrap();
+        context.replay(append_parts(&files)[part]).unwrap();
         context
     };
     let mut newer = read(1);
@@ -364,11 +369,11 @@ fn a_merge_in_the_wrong_order_is_refused() {
 }
 
 #[test]
-fn an_overlay_asks_for_one_context_of_each_queue() {
-    let files = files();
+fn an_overlay_takes_one_context_of_each_queue() {
+    let files = demo_files();
     let read = || {
         let mut context = Context::new().unwrap();
-        context.replay(parts(&files)[0]).unwrap();
+        context.replay(append_parts(&files)[0]).unwrap();
         context
     };
     let mut rewrite = read();
@@ -377,7 +382,7 @@ fn an_overlay_asks_for_one_context_of_each_queue() {
     let mut rewrite = Context::new().unwrap();
     rewrite.overlay(read()).unwrap();
     assert!(rewrite.kept().unwrap().entries > 0);
-    let e = rewrite.replay(parts(&files)[1]).unwrap_err();
+    let e = rewrite.replay(append_parts(&files)[1]).unwrap_err();
     assert_eq!(e.kind, ErrorKind::Failed, "{e}");
     // another empty context is of either queue
     let mut both = Context::new().unwrap();
@@ -390,8 +395,8 @@ fn an_overlay_asks_for_one_context_of_each_queue() {
 
 #[test]
 fn an_overlaid_context_serves_kept_and_finish_alone() {
-    let files = files();
-    let whole = parts(&files)[0];
+    let files = demo_files();
+    let whole = append_parts(&files)[0];
     let no_bytes = FilePart {
         bytes: &[],
         ..whole
@@ -416,6 +421,7 @@ fn an_overlaid_context_serves_kept_and_finish_alone() {
 
 #[test]
 fn types_may_move_to_other_threads_but_not_be_shared() {
+    /// Compiles only for types that may move to other threads.
     fn is_send<T: Send>() {}
     is_send::<Context>();
     is_send::<Tables>();

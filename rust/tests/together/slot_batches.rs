@@ -1,14 +1,14 @@
 //! Tests batches that are applied to slots, and those that slots return.
 
-use crate::common::slots::{APPEND_9, many_tables, other, slot};
-use crate::common::{file, run};
+use crate::common::slots::{APPEND_9, empty_slot, region_of_other_slot, tables_of_600_regions};
+use crate::common::{append_file, entries_in_file};
 use raft_recover::{
     Batch, Content, ErrorKind, Item, LogBatch, LogFile, Queue, SLOTS, Tables, slot_of,
 };
 
 #[test]
 fn cleaned_regions_are_handed_out_as_a_batch() {
-    let mut slot = slot(7);
+    let mut slot = empty_slot(7);
     slot.remove(7, true).unwrap();
     let mut batch = LogBatch::new().unwrap();
     batch.put(1, b"a", b"b").unwrap();
@@ -29,8 +29,8 @@ fn cleaned_regions_are_handed_out_as_a_batch() {
     );
 }
 
-/// Makes a batch with items of several regions, signed for file 9.
-fn batch(regions: impl Iterator<Item = u64>) -> LogBatch {
+/// Makes an open batch: two entries, a key and a compaction of each of these regions, and a clean of each fifth one.
+fn batch_of_regions(regions: impl Iterator<Item = u64>) -> LogBatch {
     let mut batch = LogBatch::new().unwrap();
     for region in regions {
         let first = region + 4;
@@ -46,23 +46,23 @@ fn batch(regions: impl Iterator<Item = u64>) -> LogBatch {
     batch
 }
 
-/// Returns the items of a batch that was written to file 9.
+/// Finishes a batch, signs it for file 9 of the append queue, and returns its items as written there from offset 0 on.
 fn written_items(mut batch: LogBatch) -> Batch {
     batch.finish().unwrap();
-    batch.sign(file(9)).unwrap();
+    batch.sign(append_file(9)).unwrap();
     batch.written(APPEND_9, 0).unwrap();
     batch.into_items().unwrap()
 }
 
 #[test]
-fn a_batch_is_tested_against_slots_and_written_to_them() {
-    let mut slots = many_tables().into_slots().unwrap();
-    let mut tables = many_tables();
+fn slots_check_and_apply_a_batch_as_tables_do() {
+    let mut slots = tables_of_600_regions().into_slots().unwrap();
+    let mut tables = tables_of_600_regions();
     let regions = || (0..100).chain([1000]);
     for slot in &slots {
-        slot.check_append(&batch(regions())).unwrap();
+        slot.check_append(&batch_of_regions(regions())).unwrap();
     }
-    let items = written_items(batch(regions()));
+    let items = written_items(batch_of_regions(regions()));
     let numbers = items.slots();
     assert!(numbers.is_sorted() && numbers.len() > 50 && numbers.len() < SLOTS);
     for slot in &mut slots {
@@ -92,9 +92,10 @@ fn a_batch_is_tested_against_slots_and_written_to_them() {
 }
 
 #[test]
-fn a_slot_looks_at_no_item_of_another_one() {
-    let (mut slot, region) = (slot(7), other(7));
-    slot.append(7, &run(Queue::Append, 9, 1..4)).unwrap();
+fn a_slot_neither_checks_nor_applies_items_of_other_slots() {
+    let (mut slot, region) = (empty_slot(7), region_of_other_slot(7));
+    slot.append(7, &entries_in_file(Queue::Append, 9, 1..4))
+        .unwrap();
     let bad = |region| {
         let mut batch = LogBatch::new().unwrap();
         batch.put(7, b"key", b"value").unwrap();
@@ -117,15 +118,18 @@ fn a_slot_looks_at_no_item_of_another_one() {
 
 #[test]
 fn a_rewritten_batch_moves_what_a_slot_has() {
-    let (mut slot, region) = (slot(7), other(7));
+    let (mut slot, region) = (empty_slot(7), region_of_other_slot(7));
     let mut tables = Tables::new().unwrap();
-    slot.append(7, &run(Queue::Append, 9, 1..4)).unwrap();
+    slot.append(7, &entries_in_file(Queue::Append, 9, 1..4))
+        .unwrap();
     slot.put(7, b"key", b"value", APPEND_9).unwrap();
-    tables.append(region, &run(Queue::Append, 9, 1..4)).unwrap();
+    tables
+        .append(region, &entries_in_file(Queue::Append, 9, 1..4))
+        .unwrap();
     let mut batch = LogBatch::new().unwrap();
     let rewrite = LogFile {
         queue: Queue::Rewrite,
-        ..file(2)
+        ..append_file(2)
     };
     for region in [7, region] {
         batch

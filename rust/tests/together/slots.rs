@@ -1,7 +1,9 @@
 //! Tests slots: the tables of a part of all regions.
 
-use crate::common::slots::{APPEND_9, many_tables, other, slot};
-use crate::common::{entry, file, files, lines, parts, run};
+use crate::common::slots::{APPEND_9, empty_slot, region_of_other_slot, tables_of_600_regions};
+use crate::common::{
+    append_file, append_parts, demo_files, entries_in_file, entry_in_file, readme_lines,
+};
 use raft_recover::{
     Batches, Content, ErrorKind, FileId, Item, LogBatch, Queue, SLOTS, Slot, Tables, slot_of,
 };
@@ -22,10 +24,13 @@ fn a_slot_has_a_number_below_128() {
 
 #[test]
 fn a_slot_reads_and_writes_as_tables_do() {
-    let mut slot = slot(7);
+    let mut slot = empty_slot(7);
     let mut tables = Tables::new().unwrap();
-    slot.append(7, &run(Queue::Append, 9, 10..20)).unwrap();
-    tables.append(7, &run(Queue::Append, 9, 10..20)).unwrap();
+    slot.append(7, &entries_in_file(Queue::Append, 9, 10..20))
+        .unwrap();
+    tables
+        .append(7, &entries_in_file(Queue::Append, 9, 10..20))
+        .unwrap();
     assert_eq!(slot.compact(7, 13).unwrap(), tables.compact(7, 13).unwrap());
     assert_eq!(
         slot.truncate(7, 19).unwrap(),
@@ -37,7 +42,7 @@ fn a_slot_reads_and_writes_as_tables_do() {
     tables.put(7, b"b", b"two", APPEND_9).unwrap();
     slot.delete(7, b"a").unwrap();
     tables.delete(7, b"a").unwrap();
-    let moved = run(Queue::Rewrite, 2, 13..15);
+    let moved = entries_in_file(Queue::Rewrite, 2, 13..15);
     slot.rewrite(7, &moved, Some(9)).unwrap();
     tables.rewrite(7, &moved, Some(9)).unwrap();
     slot.rewrite_key(7, b"b", Some(9), 2).unwrap();
@@ -45,7 +50,10 @@ fn a_slot_reads_and_writes_as_tables_do() {
     slot.set_atomic_group(7, 1, 2).unwrap();
     tables.set_atomic_group(7, 1, 2).unwrap();
     assert_eq!(slot.summary(7), tables.summary(7));
-    assert_eq!(slot.entry(7, 13), Some(entry(Queue::Rewrite, 2, 13)));
+    assert_eq!(
+        slot.entry(7, 13),
+        Some(entry_in_file(Queue::Rewrite, 2, 13))
+    );
     assert_eq!(
         slot.entries(7, 13..19, None),
         tables.entries(7, 13..19, None)
@@ -69,15 +77,15 @@ fn a_slot_reads_and_writes_as_tables_do() {
 
 #[test]
 fn a_region_of_another_slot_is_refused() {
-    let mut slot = slot(7);
-    let region = other(7);
+    let mut slot = empty_slot(7);
+    let region = region_of_other_slot(7);
     let refused = [
-        slot.append(region, &run(Queue::Append, 9, 1..2)),
+        slot.append(region, &entries_in_file(Queue::Append, 9, 1..2)),
         slot.compact(region, 1).map(drop),
         slot.truncate(region, 1).map(drop),
         slot.put(region, b"a", b"b", APPEND_9),
         slot.delete(region, b"a"),
-        slot.rewrite(region, &run(Queue::Rewrite, 1, 1..2), None),
+        slot.rewrite(region, &entries_in_file(Queue::Rewrite, 1, 1..2), None),
         slot.rewrite_key(region, b"a", None, 1),
         slot.set_atomic_group(region, 1, 2),
         slot.remove(region, true).map(drop),
@@ -91,8 +99,8 @@ fn a_region_of_another_slot_is_refused() {
 }
 
 #[test]
-fn a_group_marker_changes_no_slot() {
-    let mut slot = slot(7);
+fn a_slot_takes_a_group_marker_and_stays_unchanged() {
+    let mut slot = empty_slot(7);
     let key = b"__\x01".to_vec();
     let put = Content::Put {
         key: key.clone(),
@@ -100,7 +108,7 @@ fn a_group_marker_changes_no_slot() {
     };
     for content in [put, Content::Delete { key }] {
         let marker = Item {
-            region: other(7),
+            region: region_of_other_slot(7),
             content,
         };
         slot.write(&marker, APPEND_9).unwrap();
@@ -110,7 +118,7 @@ fn a_group_marker_changes_no_slot() {
 
 #[test]
 fn a_key_that_begins_like_a_group_marker_is_none() {
-    let mut slot = slot(7);
+    let mut slot = empty_slot(7);
     let key = b"__\x01a".to_vec();
     let put = Content::Put {
         key: key.clone(),
@@ -134,9 +142,9 @@ fn the_items_of_a_batch_are_written_one_by_one() {
     }
     batch.delete(7, b"b").unwrap();
     batch.finish().unwrap();
-    batch.sign(file(9)).unwrap();
+    batch.sign(append_file(9)).unwrap();
     batch.written(APPEND_9, 0).unwrap();
-    let mut slot = slot(7);
+    let mut slot = empty_slot(7);
     for item in batch.into_items().unwrap() {
         slot.write(&item, APPEND_9).unwrap();
     }
@@ -147,9 +155,10 @@ fn the_items_of_a_batch_are_written_one_by_one() {
 }
 
 #[test]
-fn a_clean_that_is_written_is_listed() {
-    let mut slot = slot(7);
-    slot.append(7, &run(Queue::Append, 9, 10..20)).unwrap();
+fn a_region_that_a_written_item_cleans_is_listed() {
+    let mut slot = empty_slot(7);
+    slot.append(7, &entries_in_file(Queue::Append, 9, 10..20))
+        .unwrap();
     let clean = Item {
         region: 7,
         content: Content::Clean,
@@ -159,24 +168,26 @@ fn a_clean_that_is_written_is_listed() {
 }
 
 #[test]
-fn a_slot_keeps_limits_and_gates() {
-    let mut slot = slot(7);
+fn a_slot_returns_no_records_beyond_a_limit_or_gate() {
+    let mut slot = empty_slot(7);
     let first = FileId { seq: 0, ..APPEND_9 };
-    slot.append(7, &run(Queue::Append, 0, 10..14)).unwrap();
+    slot.append(7, &entries_in_file(Queue::Append, 0, 10..14))
+        .unwrap();
     slot.put(7, b"a", b"v", first).unwrap();
     slot.put(7, b"b", b"v", APPEND_9).unwrap();
     for (limit, count) in [(Some(0), 1), (Some(25), 2), (None, 4)] {
         let entries = slot.entries(7, 10..14, limit).unwrap();
         assert_eq!(entries.len(), count, "{limit:?}");
     }
-    slot.append(7, &run(Queue::Append, 9, 14..20)).unwrap();
+    slot.append(7, &entries_in_file(Queue::Append, 9, 14..20))
+        .unwrap();
     for (gate, keys, entries) in [(0, 1, 4), (8, 1, 4), (9, 2, 10)] {
         let pairs = slot.pairs_before(7, gate).unwrap();
         assert_eq!(pairs.len(), keys, "{gate}");
         let before = slot.entries_before(7, gate).unwrap();
         assert_eq!(before.len(), entries, "{gate}");
     }
-    let moved = run(Queue::Rewrite, 2, 10..12);
+    let moved = entries_in_file(Queue::Rewrite, 2, 10..12);
     slot.rewrite(7, &moved, Some(0)).unwrap();
     slot.rewrite_key(7, b"a", Some(0), 2).unwrap();
     assert_eq!(slot.rewritten_entries(7).unwrap(), moved);
@@ -189,11 +200,13 @@ fn a_slot_keeps_limits_and_gates() {
 
 #[test]
 fn nothing_of_a_slot_moves_that_is_in_a_file_above_the_gate() {
-    let mut slot = slot(7);
-    slot.append(7, &run(Queue::Append, 9, 10..12)).unwrap();
-    slot.append(7, &run(Queue::Append, 10, 12..14)).unwrap();
+    let mut slot = empty_slot(7);
+    slot.append(7, &entries_in_file(Queue::Append, 9, 10..12))
+        .unwrap();
+    slot.append(7, &entries_in_file(Queue::Append, 10, 12..14))
+        .unwrap();
     slot.put(7, b"k", b"v", APPEND_9).unwrap();
-    let moved = run(Queue::Rewrite, 2, 10..14);
+    let moved = entries_in_file(Queue::Rewrite, 2, 10..14);
     slot.rewrite(7, &moved, Some(9)).unwrap();
     assert_eq!(slot.rewritten_entries(7).unwrap(), moved[..2]);
     slot.rewrite_key(7, b"k", Some(8), 2).unwrap();
@@ -202,8 +215,9 @@ fn nothing_of_a_slot_moves_that_is_in_a_file_above_the_gate() {
 
 #[test]
 fn a_region_is_listed_as_cleaned_where_that_is_asked_for() {
-    let mut slot = slot(7);
-    slot.append(7, &run(Queue::Append, 9, 10..12)).unwrap();
+    let mut slot = empty_slot(7);
+    slot.append(7, &entries_in_file(Queue::Append, 9, 10..12))
+        .unwrap();
     assert!(slot.remove(7, false).unwrap());
     assert_eq!((slot.summary(7), slot.cleaned()), (None, vec![]));
     assert!(!slot.remove(7, true).unwrap());
@@ -212,7 +226,7 @@ fn a_region_is_listed_as_cleaned_where_that_is_asked_for() {
 
 #[test]
 fn a_key_is_put_in_the_queue_of_its_file() {
-    let mut slot = slot(7);
+    let mut slot = empty_slot(7);
     let rewritten = FileId {
         queue: Queue::Rewrite,
         seq: 2,
@@ -227,7 +241,7 @@ fn a_key_is_put_in_the_queue_of_its_file() {
 
 #[test]
 fn all_keys_of_a_region_are_walked_in_order() {
-    let mut slot = slot(7);
+    let mut slot = empty_slot(7);
     for (key, queue, seq) in [
         ("c", Queue::Append, u64::MAX),
         ("b", Queue::Rewrite, 2),
@@ -241,12 +255,12 @@ fn all_keys_of_a_region_are_walked_in_order() {
     let keys: Vec<_> = pairs.iter().map(|pair| &pair.key).collect();
     assert_eq!(keys, [b"a", b"b", b"c", b"d"]);
     assert!(pairs.iter().all(|pair| pair.value == b"value"));
-    assert_eq!(slot.pairs(other(7)).unwrap(), []);
+    assert_eq!(slot.pairs(region_of_other_slot(7)).unwrap(), []);
 }
 
 #[test]
 fn a_new_put_in_a_rewrite_file_is_refused() {
-    let mut slot = slot(7);
+    let mut slot = empty_slot(7);
     let put = Item {
         region: 7,
         content: Content::Put {
@@ -267,9 +281,9 @@ fn a_new_put_in_a_rewrite_file_is_refused() {
 
 #[test]
 fn a_slot_lists_its_regions() {
-    let tables = many_tables();
+    let tables = tables_of_600_regions();
     let mut regions = Vec::new();
-    for slot in many_tables().into_slots().unwrap() {
+    for slot in tables_of_600_regions().into_slots().unwrap() {
         let own = slot.regions().unwrap();
         assert!(own.is_sorted());
         assert!(own.iter().all(|region| slot_of(*region) == slot.number()));
@@ -280,12 +294,12 @@ fn a_slot_lists_its_regions() {
 }
 
 #[test]
-fn slots_under_locks_get_the_recovered_tables() {
-    let files = files();
+fn slots_that_threads_fill_under_locks_have_the_recovered_tables() {
+    let files = demo_files();
     let slots: Vec<_> = (0..SLOTS)
         .map(|n| Mutex::new(Slot::new(n).unwrap()))
         .collect();
-    for part in parts(&files) {
+    for part in append_parts(&files) {
         let id = FileId {
             queue: part.file.queue,
             seq: part.file.seq,
@@ -314,8 +328,8 @@ fn slots_under_locks_get_the_recovered_tables() {
         live += slot.live(Queue::Append);
     }
     let last = format!("live {live} 0\n");
-    assert!(lines().ends_with(&last), "{last}");
-    for line in lines().lines() {
+    assert!(readme_lines().ends_with(&last), "{last}");
+    for line in readme_lines().lines() {
         let Some((region, rest)) = line.split_once(" entries ") else {
             continue;
         };
@@ -328,8 +342,11 @@ fn slots_under_locks_get_the_recovered_tables() {
 
 #[test]
 fn recovered_tables_are_divided_into_slots() {
-    let tables = many_tables();
-    let slots = many_tables().into_slots().unwrap().map(Mutex::new);
+    let tables = tables_of_600_regions();
+    let slots = tables_of_600_regions()
+        .into_slots()
+        .unwrap()
+        .map(Mutex::new);
     for queue in [Queue::Append, Queue::Rewrite] {
         let live = |slot: &Mutex<Slot>| slot.lock().unwrap().live(queue);
         assert_eq!(slots.iter().map(live).sum::<usize>(), tables.live(queue));
@@ -359,12 +376,14 @@ fn recovered_tables_are_divided_into_slots() {
     assert_eq!(cleaned, tables.cleaned());
     // a slot goes on with what it was given
     let mut slot = slots[slot_of(5)].lock().unwrap();
-    slot.append(5, &run(Queue::Append, 10, 9..12)).unwrap();
+    slot.append(5, &entries_in_file(Queue::Append, 10, 9..12))
+        .unwrap();
     assert_eq!(slot.compact(5, 10).unwrap(), 4);
 }
 
 #[test]
 fn a_slot_moves_to_another_thread() {
+    /// Compiles only for types that may move to other threads.
     fn is_send<T: Send>() {}
     is_send::<Slot>();
     is_send::<LogBatch>();

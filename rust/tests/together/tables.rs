@@ -1,11 +1,14 @@
 //! Tests tables.
 
-use crate::common::{entry, file, files, lines, parts, run};
+use crate::common::{
+    append_file, append_parts, demo_files, entries_in_file, entry_in_file, readme_lines,
+};
 use raft_recover::{
     Batches, Block, Content, Entry, ErrorKind, FileId, LogBatch, LogFile, Pair, Queue, Result,
     Summary, Tables, crc32, recover,
 };
 
+/// Append file 9.
 const APPEND_9: FileId = FileId {
     queue: Queue::Append,
     seq: 9,
@@ -14,15 +17,20 @@ const APPEND_9: FileId = FileId {
 #[test]
 fn entries_are_appended_read_and_dropped() {
     let mut tables = Tables::new().unwrap();
-    tables.append(7, &run(Queue::Append, 9, 10..20)).unwrap();
+    tables
+        .append(7, &entries_in_file(Queue::Append, 9, 10..20))
+        .unwrap();
     assert_eq!(tables.compact(7, 13).unwrap(), 3);
     assert_eq!(tables.truncate(7, 19).unwrap(), 1);
     assert_eq!(tables.entry(7, 12), None);
-    assert_eq!(tables.entry(7, 13), Some(entry(Queue::Append, 9, 13)));
+    assert_eq!(
+        tables.entry(7, 13),
+        Some(entry_in_file(Queue::Append, 9, 13))
+    );
     assert_eq!(tables.entry(8, 13), None);
     assert_eq!(
         tables.entries(7, 14..16, None).unwrap(),
-        run(Queue::Append, 9, 14..16)
+        entries_in_file(Queue::Append, 9, 14..16)
     );
     // the third entry would pass 25 bytes
     assert_eq!(tables.entries(7, 13..19, Some(25)).unwrap().len(), 2);
@@ -39,7 +47,7 @@ fn entries_are_appended_read_and_dropped() {
 }
 
 #[test]
-fn entries_keep_their_places() {
+fn entries_keep_their_blocks_offsets_and_lengths() {
     let place = |queue, index, offset, len| Entry {
         index,
         block: Block {
@@ -70,12 +78,17 @@ fn entries_keep_their_places() {
 #[test]
 fn runs_that_do_not_fit_are_refused_and_change_nothing() {
     let mut tables = Tables::new().unwrap();
-    tables.append(7, &run(Queue::Append, 9, 10..20)).unwrap();
+    tables
+        .append(7, &entries_in_file(Queue::Append, 9, 10..20))
+        .unwrap();
     let before = tables.to_string();
     let mut kind = |entries: &[_]| tables.append(7, entries).unwrap_err().kind;
-    let hole = run(Queue::Append, 9, 30..31);
-    let gap = [entry(Queue::Append, 9, 15), entry(Queue::Append, 9, 17)];
-    let rewritten = run(Queue::Rewrite, 9, 20..21);
+    let hole = entries_in_file(Queue::Append, 9, 30..31);
+    let gap = [
+        entry_in_file(Queue::Append, 9, 15),
+        entry_in_file(Queue::Append, 9, 17),
+    ];
+    let rewritten = entries_in_file(Queue::Rewrite, 9, 20..21);
     assert_eq!(kind(&hole), ErrorKind::Corruption);
     assert_eq!(kind(&gap), ErrorKind::InvalidArgument);
     assert_eq!(kind(&rewritten), ErrorKind::InvalidArgument);
@@ -102,23 +115,27 @@ fn keys_are_put_read_and_deleted() {
 }
 
 #[test]
-fn places_are_rewritten_up_to_the_gate() {
+fn records_move_up_to_the_gate() {
     let mut tables = Tables::new().unwrap();
-    tables.append(7, &run(Queue::Append, 9, 10..12)).unwrap();
-    tables.append(7, &run(Queue::Append, 10, 12..14)).unwrap();
+    tables
+        .append(7, &entries_in_file(Queue::Append, 9, 10..12))
+        .unwrap();
+    tables
+        .append(7, &entries_in_file(Queue::Append, 10, 12..14))
+        .unwrap();
     tables.put(7, b"k", b"v", APPEND_9).unwrap();
     assert_eq!(
         tables.entries_before(7, 9).unwrap(),
-        run(Queue::Append, 9, 10..12)
+        entries_in_file(Queue::Append, 9, 10..12)
     );
     tables
-        .rewrite(7, &run(Queue::Rewrite, 2, 10..12), Some(9))
+        .rewrite(7, &entries_in_file(Queue::Rewrite, 2, 10..12), Some(9))
         .unwrap();
     tables.rewrite_key(7, b"k", Some(9), 2).unwrap();
     assert_eq!(tables.entries_before(7, 9).unwrap(), []);
     assert_eq!(
         tables.rewritten_entries(7).unwrap(),
-        run(Queue::Rewrite, 2, 10..12)
+        entries_in_file(Queue::Rewrite, 2, 10..12)
     );
     assert_eq!(
         tables.summary(7).unwrap(),
@@ -141,10 +158,14 @@ fn places_are_rewritten_up_to_the_gate() {
 #[test]
 fn nothing_moves_that_is_in_a_file_above_the_gate() {
     let mut tables = Tables::new().unwrap();
-    tables.append(7, &run(Queue::Append, 9, 10..12)).unwrap();
-    tables.append(7, &run(Queue::Append, 10, 12..14)).unwrap();
+    tables
+        .append(7, &entries_in_file(Queue::Append, 9, 10..12))
+        .unwrap();
+    tables
+        .append(7, &entries_in_file(Queue::Append, 10, 12..14))
+        .unwrap();
     tables.put(7, b"k", b"v", APPEND_9).unwrap();
-    let moved = run(Queue::Rewrite, 2, 10..14);
+    let moved = entries_in_file(Queue::Rewrite, 2, 10..14);
     tables.rewrite(7, &moved, Some(9)).unwrap();
     assert_eq!(tables.rewritten_entries(7).unwrap(), moved[..2]);
     tables.rewrite_key(7, b"k", Some(8), 2).unwrap();
@@ -152,7 +173,7 @@ fn nothing_moves_that_is_in_a_file_above_the_gate() {
     tables.rewrite_key(7, b"k", None, 2).unwrap();
     assert_eq!(tables.rewritten_pairs(7).unwrap(), []);
     // without a gate those move that are rewritten already
-    let again = run(Queue::Rewrite, 3, 10..14);
+    let again = entries_in_file(Queue::Rewrite, 3, 10..14);
     tables.rewrite(7, &again, None).unwrap();
     assert_eq!(tables.rewritten_entries(7).unwrap(), again[..2]);
 }
@@ -161,11 +182,13 @@ fn nothing_moves_that_is_in_a_file_above_the_gate() {
 fn a_gate_or_a_limit_of_0_is_not_none() {
     let mut tables = Tables::new().unwrap();
     let first = FileId { seq: 0, ..APPEND_9 };
-    tables.append(7, &run(Queue::Append, 0, 10..14)).unwrap();
+    tables
+        .append(7, &entries_in_file(Queue::Append, 0, 10..14))
+        .unwrap();
     tables.put(7, b"k", b"v", first).unwrap();
     // the first entry is returned whatever its length
     assert_eq!(tables.entries(7, 10..14, Some(0)).unwrap().len(), 1);
-    let moved = run(Queue::Rewrite, 2, 10..12);
+    let moved = entries_in_file(Queue::Rewrite, 2, 10..12);
     tables.rewrite(7, &moved, Some(0)).unwrap();
     tables.rewrite_key(7, b"k", Some(0), 2).unwrap();
     assert_eq!(tables.rewritten_entries(7).unwrap(), moved);
@@ -186,9 +209,9 @@ fn a_first_index_or_a_file_of_0_is_not_none() {
     let first = FileId { seq: 0, ..APPEND_9 };
     let put = seen(&|tables| tables.put(7, b"k", b"v", first));
     assert_eq!(put, (None, Some(0), None));
-    let appended = seen(&|tables| tables.append(7, &run(Queue::Append, 0, 0..2)));
+    let appended = seen(&|tables| tables.append(7, &entries_in_file(Queue::Append, 0, 0..2)));
     assert_eq!(appended, (Some(0), Some(0), None));
-    let moved = run(Queue::Rewrite, 0, 0..2);
+    let moved = entries_in_file(Queue::Rewrite, 0, 0..2);
     let rewritten = seen(&|tables| tables.rewrite(7, &moved, Some(0)));
     assert_eq!(rewritten, (Some(0), Some(0), Some(0)));
     let all_moved = seen(&|tables| tables.rewrite_key(7, b"k", Some(0), 0));
@@ -226,8 +249,12 @@ fn keys_are_listed_up_to_a_gate() {
 #[test]
 fn a_rewritten_batch_moves_what_is_in_files_up_to_the_gate() {
     let mut tables = Tables::new().unwrap();
-    tables.append(7, &run(Queue::Append, 9, 10..12)).unwrap();
-    tables.append(7, &run(Queue::Append, 10, 12..13)).unwrap();
+    tables
+        .append(7, &entries_in_file(Queue::Append, 9, 10..12))
+        .unwrap();
+    tables
+        .append(7, &entries_in_file(Queue::Append, 10, 12..13))
+        .unwrap();
     tables.put(7, b"k", b"v", APPEND_9).unwrap();
     let rewritten = FileId {
         queue: Queue::Rewrite,
@@ -240,7 +267,12 @@ fn a_rewritten_batch_moves_what_is_in_files_up_to_the_gate() {
     batch.put(7, b"k", b"v").unwrap();
     batch.finish().unwrap();
     let queue = rewritten.queue;
-    batch.sign(LogFile { queue, ..file(2) }).unwrap();
+    batch
+        .sign(LogFile {
+            queue,
+            ..append_file(2)
+        })
+        .unwrap();
     batch.written(rewritten, 0).unwrap();
     let items = batch.into_items().unwrap();
     tables.apply_rewrite(items, Some(9), 2).unwrap();
@@ -264,9 +296,11 @@ fn a_rewritten_batch_moves_what_is_in_files_up_to_the_gate() {
 #[test]
 fn the_least_rewritten_file_is_that_of_the_atomic_group() {
     let mut tables = Tables::new().unwrap();
-    tables.append(7, &run(Queue::Append, 9, 10..12)).unwrap();
     tables
-        .rewrite(7, &run(Queue::Rewrite, 5, 10..12), Some(9))
+        .append(7, &entries_in_file(Queue::Append, 9, 10..12))
+        .unwrap();
+    tables
+        .rewrite(7, &entries_in_file(Queue::Rewrite, 5, 10..12), Some(9))
         .unwrap();
     // a group may be in one file alone, and counts where the least file isn't behind it
     for (start, end, least) in [(4, 4, 5), (3, 5, 3)] {
@@ -281,7 +315,9 @@ fn the_least_rewritten_file_is_that_of_the_atomic_group() {
 fn regions_are_removed_and_listed() {
     let mut tables = Tables::new().unwrap();
     for region in [5, 1, 300, 2] {
-        tables.append(region, &run(Queue::Append, 9, 1..3)).unwrap();
+        tables
+            .append(region, &entries_in_file(Queue::Append, 9, 1..3))
+            .unwrap();
     }
     assert_eq!(tables.regions().unwrap(), [1, 2, 5, 300]);
     assert!(tables.remove(5, true).unwrap());
@@ -293,30 +329,37 @@ fn regions_are_removed_and_listed() {
 }
 
 #[test]
-fn tables_are_merged() {
+fn newer_tables_are_merged_into_older_ones_and_a_hole_is_refused() {
     let mut older = Tables::new().unwrap();
-    older.append(7, &run(Queue::Append, 9, 10..20)).unwrap();
+    older
+        .append(7, &entries_in_file(Queue::Append, 9, 10..20))
+        .unwrap();
     let mut newer = Tables::new().unwrap();
-    newer.append(7, &run(Queue::Append, 10, 15..17)).unwrap();
-    newer.append(8, &run(Queue::Append, 10, 1..2)).unwrap();
+    newer
+        .append(7, &entries_in_file(Queue::Append, 10, 15..17))
+        .unwrap();
+    newer
+        .append(8, &entries_in_file(Queue::Append, 10, 1..2))
+        .unwrap();
     older.merge_newer(newer).unwrap();
     assert_eq!(older.summary(7).unwrap().entries, 7);
     assert_eq!(older.regions().unwrap(), [7, 8]);
     let mut hole = Tables::new().unwrap();
-    hole.append(7, &run(Queue::Append, 11, 40..41)).unwrap();
+    hole.append(7, &entries_in_file(Queue::Append, 11, 40..41))
+        .unwrap();
     let e = older.merge_newer(hole).unwrap_err();
     assert_eq!(e.kind, ErrorKind::Corruption, "{e}");
     assert_eq!(older.summary(7).unwrap().entries, 7);
 }
 
-/// Makes tables with these runs of entries, each given as its region and its indexes, which moved from file 1 of the append queue
-/// to file 2 of the rewrite queue. Region 7 also has a key in that file.
+/// Makes tables with runs of entries, each given as its region and its indexes. They have moved from file 1 of the append queue to
+/// file 2 of the rewrite queue, where region 7 also has a key.
 fn rewritten_tables(runs: &[(u64, std::ops::Range<u64>)]) -> Tables {
     let mut tables = Tables::new().unwrap();
     for (region, range) in runs {
-        let old = run(Queue::Append, 1, range.clone());
+        let old = entries_in_file(Queue::Append, 1, range.clone());
         tables.append(*region, &old).unwrap();
-        let moved = run(Queue::Rewrite, 2, range.clone());
+        let moved = entries_in_file(Queue::Rewrite, 2, range.clone());
         tables.rewrite(*region, &moved, Some(1)).unwrap();
     }
     let file = FileId {
@@ -332,7 +375,7 @@ fn appended_tables_are_merged_into_rewritten_ones() {
     let mut tables = rewritten_tables(&[(6, 1..3), (7, 10..14), (8, 1..3)]);
     let mut appended = Tables::new().unwrap();
     for (region, range) in [(5, 1..2), (6, 9..11), (7, 12..16)] {
-        let new = run(Queue::Append, 9, range);
+        let new = entries_in_file(Queue::Append, 9, range);
         appended.append(region, &new).unwrap();
     }
     appended.put(7, b"k", b"new", APPEND_9).unwrap();
@@ -353,15 +396,15 @@ fn appended_tables_are_merged_into_rewritten_ones() {
 
 #[test]
 fn the_items_of_all_batches_give_the_recovered_tables() {
-    let files = files();
+    let files = demo_files();
     let mut tables = Tables::new().unwrap();
-    for part in parts(&files) {
+    for part in append_parts(&files) {
         for batch in Batches::new(part).unwrap() {
             tables.apply_append(batch.unwrap()).unwrap();
         }
     }
-    assert_eq!(tables.to_string(), lines());
-    let recovered = recover(&parts(&files), Queue::Append, 2).unwrap();
+    assert_eq!(tables.to_string(), readme_lines());
+    let recovered = recover(&append_parts(&files), Queue::Append, 2).unwrap();
     for region in recovered.regions().unwrap() {
         let Some(summary) = recovered.summary(region) else {
             panic!("{region}");
@@ -378,9 +421,9 @@ fn the_items_of_all_batches_give_the_recovered_tables() {
 }
 
 #[test]
-fn items_of_the_append_queue_are_no_rewriting() {
-    let files = files();
-    let batch = Batches::new(parts(&files)[0])
+fn a_batch_of_the_append_queue_is_refused_as_a_rewriting() {
+    let files = demo_files();
+    let batch = Batches::new(append_parts(&files)[0])
         .unwrap()
         .map(Result::unwrap)
         .find(|batch| {

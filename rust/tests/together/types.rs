@@ -77,7 +77,7 @@ all_are!(Send, Sync => Arc<dyn Listener>);
 all_are!(Send, Sync, Clone => Batches<'static>);
 
 #[test]
-fn queues_have_words_and_numbers() {
+fn queues_are_converted_from_words_and_numbers() {
     for (number, queue, word) in [(0, Queue::Append, "append"), (1, Queue::Rewrite, "rewrite")] {
         assert_eq!(Queue::try_from(number), Ok(queue));
         assert_eq!(word.parse(), Ok(queue));
@@ -95,7 +95,7 @@ fn queues_have_words_and_numbers() {
 }
 
 #[test]
-fn versions_have_numbers() {
+fn versions_are_converted_from_numbers() {
     for (number, version, text) in [(1, Version::V1, "V1"), (2, Version::V2, "V2")] {
         assert_eq!(Version::try_from(number), Ok(version));
         assert_eq!(version.to_string(), text);
@@ -107,7 +107,7 @@ fn versions_have_numbers() {
 }
 
 #[test]
-fn files_are_told_as_the_texts_of_errors_tell_them() {
+fn a_file_is_shown_by_its_queue_and_number() {
     let file = LogFile::new(Queue::Rewrite, 12, Version::V1);
     let expected = LogFile {
         queue: Queue::Rewrite,
@@ -119,7 +119,7 @@ fn files_are_told_as_the_texts_of_errors_tell_them() {
 }
 
 #[test]
-fn files_are_in_order_within_their_queue() {
+fn files_are_ordered_by_queue_and_number() {
     let files = [(1, Queue::Rewrite), (2, Queue::Append), (1, Queue::Append)];
     let in_order: BTreeSet<_> = files.map(|(seq, queue)| FileId::new(queue, seq)).into();
     let texts: Vec<_> = in_order.iter().map(FileId::to_string).collect();
@@ -127,7 +127,7 @@ fn files_are_in_order_within_their_queue() {
 }
 
 #[test]
-fn kinds_have_words_of_their_own() {
+fn each_kind_of_error_has_words_of_its_own() {
     let kinds = (1..=12).map(|number| ErrorKind::try_from(number).unwrap());
     let words: HashSet<_> = kinds.map(|kind| kind.to_string()).collect();
     assert_eq!(words.len(), 12);
@@ -184,7 +184,7 @@ fn a_part_begins_at_offset_0_and_is_shown_without_its_bytes() {
 }
 
 #[test]
-fn what_the_library_keeps_is_shown_without_pointers() {
+fn types_of_the_library_are_shown_without_pointers() {
     let mut batch = LogBatch::new().unwrap();
     batch.clean(7).unwrap();
     let shown = [
@@ -208,7 +208,7 @@ fn what_the_library_keeps_is_shown_without_pointers() {
 }
 
 #[test]
-fn the_items_of_a_batch_are_a_list() {
+fn the_items_of_a_batch_are_read_from_both_ends() {
     let batch = || {
         let mut batch = LogBatch::new().unwrap();
         for region in 1..=4 {

@@ -1,12 +1,12 @@
 //! Tests that each call of the library has a comment which names the clauses of its contract that a caller has to keep.
 
-use crate::common::top;
+use crate::common::repository_folder;
 use std::collections::BTreeMap;
 use std::fs;
 use std::path::Path;
 
-/// Returns the names and the texts of the sources in a folder, those whose names have an ending.
-fn sources(folder: &Path, ending: &str) -> Vec<(String, String)> {
+/// Returns the path and the text of each source in a folder whose path has this ending.
+fn named_sources(folder: &Path, ending: &str) -> Vec<(String, String)> {
     let read = |entry: std::io::Result<fs::DirEntry>| {
         let path = entry.unwrap().path();
         let name = path.to_string_lossy().into_owned();
@@ -19,7 +19,7 @@ fn sources(folder: &Path, ending: &str) -> Vec<(String, String)> {
 /// Returns for each exported function of the library the names of the clauses that bind its caller.
 fn required_clauses() -> BTreeMap<String, Vec<String>> {
     let mut asked = BTreeMap::new();
-    for (_, text) in sources(&top().join("crates/raft_ffi/src"), ".rt") {
+    for (_, text) in named_sources(&repository_folder().join("crates/raft_ffi/src"), ".rt") {
         for function in text.split("pub extern \"C\" fn ").skip(1) {
             let (name, rest) = function.split_once('(').unwrap();
             let (contract, _) = rest.split_once("\n{").unwrap();
@@ -34,7 +34,7 @@ fn required_clauses() -> BTreeMap<String, Vec<String>> {
 }
 
 /// Returns the calls of the library in a source, each with the comment above it that says why it is safe.
-fn calls(text: &str) -> Vec<(String, String)> {
+fn library_calls(text: &str) -> Vec<(String, String)> {
     let (mut calls, mut comment, mut is_comment) = (Vec::new(), String::new(), false);
     for line in text.lines().map(str::trim) {
         if let Some(words) = line.strip_prefix("// ") {
@@ -64,11 +64,11 @@ fn calls(text: &str) -> Vec<(String, String)> {
 fn each_call_names_the_clauses_that_it_keeps() {
     let (asked, mut called) = (required_clauses(), BTreeMap::new());
     assert!(asked.len() > 80, "{}", asked.len());
-    let src = top().join("rust/src");
-    let mut all = sources(&src.join("sys"), ".rs");
-    all.extend(sources(&src, "/sys.rs"));
+    let src = repository_folder().join("rust/src");
+    let mut all = named_sources(&src.join("sys"), ".rs");
+    all.extend(named_sources(&src, "/sys.rs"));
     for (file, text) in all {
-        for (name, comment) in calls(&text) {
+        for (name, comment) in library_calls(&text) {
             let Some(clauses) = asked.get(&name) else {
                 panic!("{file}: the library has no {name}");
             };

@@ -30,7 +30,7 @@ static MEETING: Mutex<Option<Meeting>> = Mutex::new(None);
 static HAS_COME: Condvar = Condvar::new();
 
 /// Comes to the meeting, if there is one, and waits until all have come, for 20 seconds at most.
-fn wait_for_meeting() {
+fn meet() {
     let mut meeting = MEETING.lock().unwrap();
     if let Some(meeting) = &mut *meeting {
         meeting.come.insert(thread::current().id());
@@ -77,7 +77,7 @@ unsafe extern "C" {
 }
 
 /// Returns the answer that grants a request, with its block.
-fn grant_request(p: *mut c_void) -> Tried {
+fn granted(p: *mut c_void) -> Tried {
     assert!(!p.is_null());
     Tried { ok: true, p }
 }
@@ -85,16 +85,16 @@ fn grant_request(p: *mut c_void) -> Tried {
 /// Allocates a block for the library, after the calling thread has met the others.
 #[unsafe(no_mangle)]
 extern "C" fn rattle_alloc(n: usize, _a: usize) -> Tried {
-    wait_for_meeting();
+    meet();
     // SAFETY: any size may be asked for; blocks are aligned to 16 bytes.
-    grant_request(unsafe { malloc(n.max(1)) })
+    granted(unsafe { malloc(n.max(1)) })
 }
 
 /// Gives a block of the library another size.
 #[unsafe(no_mangle)]
 unsafe extern "C" fn rattle_realloc(p: *mut c_void, _kept: usize, n: usize, _a: usize) -> Tried {
     // SAFETY: the block came from `granted`.
-    grant_request(unsafe { realloc(p, n.max(1)) })
+    granted(unsafe { realloc(p, n.max(1)) })
 }
 
 /// Frees a block of the library.
@@ -105,7 +105,7 @@ unsafe extern "C" fn rattle_dealloc(p: *mut c_void) {
 }
 
 /// Returns the bytes of eight files, each of a batch that puts a value of `value` bytes and then cleans its region.
-fn eight_files(value: usize) -> Vec<Vec<u8>> {
+fn files(value: usize) -> Vec<Vec<u8>> {
     (1..=8)
         .map(|seq| {
             batch_bytes(file(seq), |batch| {
@@ -122,7 +122,7 @@ static TURN: Mutex<()> = Mutex::new(());
 #[test]
 fn all_threads_of_a_recovery_read_at_the_same_time() {
     let _turn = TURN.lock();
-    let files = eight_files(0);
+    let files = files(0);
     let parts = parts(&files);
     for workers in 1..=8 {
         call_meeting(workers);
@@ -136,7 +136,7 @@ fn all_threads_of_a_recovery_read_at_the_same_time() {
 fn an_engine_is_opened_on_as_many_threads_as_its_options_say() {
     let _turn = TURN.lock();
     for value in [0, 100 << 10] {
-        let files: Vec<_> = (1..).zip(eight_files(value)).collect();
+        let files: Vec<_> = (1..).zip(files(value)).collect();
         for threads in 1..=8 {
             let found = MemoryFiles::found(files.clone(), vec![(1, vec![])]);
             // each thread replays what it has read of a file, and waits there

@@ -7,7 +7,7 @@ mod common;
 
 use common::TempFolder;
 use common::both::Both;
-use common::model::{COUNT, Change, Draw, Region, read_region};
+use common::model::{COUNT, Change, Draw, Region, region_of};
 use common::seeds::{number, run_each};
 use raft_recover::{
     Ask, Batches, Content, Engine, FilePart, Files, FolderFiles, LogBatch, LogFile, MemoryFiles,
@@ -49,62 +49,58 @@ impl Writer {
     }
 
     /// Returns its region with the number `i`: 0 has the number of its last batch, 1 and 2 what it writes.
-    fn region_at(&self, i: u64) -> u64 {
+    fn region(&self, i: u64) -> u64 {
         10 * self.id + i
     }
 
     /// Returns the number of its last batch.
-    fn last_number(&self) -> u64 {
+    fn last(&self) -> u64 {
         self.states.len() as u64 - 1
     }
 
     /// Takes all of its steps, and notes after which of them all that it has written is synced.
-    fn take_all_steps<F: Files>(&mut self, engine: &Engine<F>, files: &MemoryFiles) -> Result<()> {
+    fn run<F: Files>(&mut self, engine: &Engine<F>, files: &MemoryFiles) -> Result<()> {
         for _ in 0..STEPS {
-            if self.take_step(engine)? {
-                self.acks.push((files.asked(), self.last_number()));
+            if self.step(engine)? {
+                self.acks.push((files.asked(), self.last()));
             }
         }
         Ok(())
     }
 
     /// Takes a random step, and returns whether all that the thread has written is synced then.
-    fn take_step<F: Files>(&mut self, engine: &Engine<F>) -> Result<bool> {
-        match self.draw.draw_below(20) {
+    fn step<F: Files>(&mut self, engine: &Engine<F>) -> Result<bool> {
+        match self.draw.below(20) {
             0 => engine.rotate().map(|()| true),
             1 | 2 => {
                 let last = engine.stats().append.last_file;
-                let gate = last - self.draw.draw_below(2) as u64;
+                let gate = last - self.draw.below(2) as u64;
                 engine.rewrite(gate).map(|()| false)
             }
             3 => engine.rewrite_again().map(|()| false),
             4 => engine.purge().map(|_| false),
             5 => engine.sync().map(|()| true),
             6 => {
-                let found = [1, 2].map(|i| read_region(engine, self.region_at(i)).unwrap());
+                let found = [1, 2].map(|i| region_of(engine, self.region(i)).unwrap());
                 assert_eq!(&found, self.states.last().unwrap());
                 Ok(false)
             }
-            _ => self.write_random_batch(engine),
+            _ => self.write(engine),
         }
     }
 
     /// Writes a batch of random changes, and returns whether it is synced.
-    fn write_random_batch<F: Files>(&mut self, engine: &Engine<F>) -> Result<bool> {
+    fn write<F: Files>(&mut self, engine: &Engine<F>) -> Result<bool> {
         let mut state = self.states.last().unwrap().clone();
         let mut batch = LogBatch::new()?;
-        batch.put(
-            self.region_at(0),
-            COUNT,
-            &(self.last_number() + 1).to_le_bytes(),
-        )?;
-        for _ in 0..1 + self.draw.draw_below(3) {
-            let i = self.draw.draw_below(2);
+        batch.put(self.region(0), COUNT, &(self.last() + 1).to_le_bytes())?;
+        for _ in 0..1 + self.draw.below(3) {
+            let i = self.draw.below(2);
             let change = Change::draw(&mut self.draw, &state[i]);
             change.apply(&mut state[i]);
-            change.add(self.region_at(1 + i as u64), &mut batch)?;
+            change.add(self.region(1 + i as u64), &mut batch)?;
         }
-        let sync = self.draw.draw_one_in(2);
+        let sync = self.draw.once_in(2);
         engine.write(&mut batch, sync)?;
         self.states.push(state);
         Ok(sync)
@@ -141,10 +137,10 @@ impl History {
         let mut writers: Vec<_> = (0..1 + seed % 3).map(|id| Writer::new(seed, id)).collect();
         thread::scope(|scope| {
             for writer in &mut writers {
-                scope.spawn(|| writer.take_all_steps(engine, files).unwrap());
+                scope.spawn(|| writer.run(engine, files).unwrap());
             }
         });
-        let order = batches_in_order(&files.asks(), engine.options().version);
+        let order = order_of(&files.asks(), engine.options().version);
         History {
             seed,
             writers,
@@ -155,12 +151,12 @@ impl History {
 
     /// Tests that an engine opened over what a crash behind the first `asks` asks left has a prefix of all batches, with all that
     /// were synced, and just their records. Returns the number of each thread's last batch that is there.
-    fn check_opened<F: Files>(&self, engine: &Engine<F>, asks: usize) -> Vec<u64> {
+    fn check<F: Files>(&self, engine: &Engine<F>, asks: usize) -> Vec<u64> {
         let counts: Vec<_> = self
             .writers
             .iter()
             .map(|writer| {
-                let value = engine.get(writer.region_at(0), COUNT).unwrap();
+                let value = engine.get(writer.region(0), COUNT).unwrap();
                 value.map_or(0, |value| u64::from_le_bytes(value.try_into().unwrap()))
             })
             .collect();
@@ -168,7 +164,7 @@ impl History {
             let acks = writer.acks.iter().filter(|(asked, _)| *asked <= asks);
             let acked = acks.map(|(_, number)| *number).max().unwrap_or(0);
             assert!(acked <= *count, "{acked} batches last, {count} are there");
-            let found = [1, 2].map(|i| read_region(engine, writer.region_at(i)).unwrap());
+            let found = [1, 2].map(|i| region_of(engine, writer.region(i)).unwrap());
             assert_eq!(found, writer.states[*count as usize]);
         }
         // the batches are a prefix of all that were written
@@ -181,7 +177,7 @@ impl History {
 }
 
 /// Returns the batches that the asks write, in order: the position of the ask, the thread, and the number of the batch.
-fn batches_in_order(asks: &[Ask], version: Version) -> Vec<(usize, usize, u64)> {
+fn order_of(asks: &[Ask], version: Version) -> Vec<(usize, usize, u64)> {
     let mut order = Vec::new();
     for (at, ask) in asks.iter().enumerate() {
         let Ask::Write(file, bytes) = ask else {
@@ -207,12 +203,7 @@ fn batches_in_order(asks: &[Ask], version: Version) -> Vec<(usize, usize, u64)> 
 
 /// Returns how much of what isn't synced behind the first `asks` asks crashes may leave of both queues: nothing, all, and random
 /// prefixes; with `by_byte` also each prefix of one queue.
-fn draw_possible_crashes(
-    history: &History,
-    asks: usize,
-    draw: &mut Draw,
-    by_byte: bool,
-) -> Vec<[Unsynced; 2]> {
+fn stops(history: &History, asks: usize, draw: &mut Draw, by_byte: bool) -> Vec<[Unsynced; 2]> {
     let most = [Queue::Append, Queue::Rewrite].map(|queue| history.files.unsynced(asks, queue));
     let none = Unsynced::default();
     let mut stops = vec![[none; 2], most, [most[0], none], [none, most[1]]];
@@ -227,38 +218,38 @@ fn draw_possible_crashes(
         }
     }
     stops.push(most.map(|most| Unsynced {
-        steps: draw.draw_below(most.steps + 1),
-        deletions: draw.draw_below(most.deletions + 1),
+        steps: draw.below(most.steps + 1),
+        deletions: draw.below(most.deletions + 1),
     }));
     stops
 }
 
 /// Crashes the machine in a history behind one in four asks, and opens and tests what is left. Returns how many crashes there
 /// were.
-fn crash_everywhere(history: &History) -> u64 {
+fn stop_everywhere(history: &History) -> u64 {
     let seed = history.seed;
     let mut draw = Draw::new(!seed);
     let by_byte = seed.is_multiple_of(BY_BYTE);
     let mut count = 0;
     for asks in 0..=history.files.asked() {
-        if !draw.draw_one_in(4) {
+        if !draw.once_in(4) {
             continue;
         }
-        for [append, rewrite] in draw_possible_crashes(history, asks, &mut draw, by_byte) {
+        for [append, rewrite] in stops(history, asks, &mut draw, by_byte) {
             let left = history.files.left(asks, append, rewrite);
-            if seed.is_multiple_of(IN_FOLDER) && draw.draw_one_in(8) {
-                open_and_check_in_folder(history, &left, asks);
+            if seed.is_multiple_of(IN_FOLDER) && draw.once_in(8) {
+                open_in_folder(history, &left, asks);
             }
-            let threads = if draw.draw_one_in(40) { 3 } else { 1 };
+            let threads = if draw.once_in(40) { 3 } else { 1 };
             let options = options(seed).recovery_threads(threads);
             let engine = Engine::with_files(left.clone(), options).unwrap();
-            let counts = history.check_opened(&engine, asks);
+            let counts = history.check(&engine, asks);
             count += 1;
-            if draw.draw_one_in(16) {
-                write_on_and_reopen(history, &engine, &left, &counts, &mut draw);
-            } else if draw.draw_one_in(16) {
+            if draw.once_in(16) {
+                go_on(history, &engine, &left, &counts, &mut draw);
+            } else if draw.once_in(16) {
                 drop(engine);
-                count += crash_in_opening(history, &left, asks, &counts);
+                count += stop_in_opening(history, &left, asks, &counts);
             }
         }
     }
@@ -266,7 +257,7 @@ fn crash_everywhere(history: &History) -> u64 {
 }
 
 /// Writes files that a crash left into a folder, opens that, and tests it.
-fn open_and_check_in_folder(history: &History, left: &MemoryFiles, asks: usize) {
+fn open_in_folder(history: &History, left: &MemoryFiles, asks: usize) {
     let room = TempFolder::new();
     for (queue, ending) in [(Queue::Append, "raftlog"), (Queue::Rewrite, "rewrite")] {
         for (seq, bytes) in left.files(queue) {
@@ -274,12 +265,12 @@ fn open_and_check_in_folder(history: &History, left: &MemoryFiles, asks: usize) 
         }
     }
     let engine = Engine::open(room.path(), options(history.seed)).unwrap();
-    history.check_opened(&engine, asks);
+    history.check(&engine, asks);
 }
 
 /// Crashes the machine also in the opening of files that a crash left, and tests that all batches which that opening found are
 /// there again. Returns how many crashes there were.
-fn crash_in_opening(history: &History, left: &MemoryFiles, asks: usize, counts: &[u64]) -> u64 {
+fn stop_in_opening(history: &History, left: &MemoryFiles, asks: usize, counts: &[u64]) -> u64 {
     let mut count = 0;
     for asked in 0..=left.asked() {
         let most = [Queue::Append, Queue::Rewrite].map(|queue| left.unsynced(asked, queue));
@@ -290,7 +281,7 @@ fn crash_in_opening(history: &History, left: &MemoryFiles, asks: usize, counts: 
         for [append, rewrite] in [[Unsynced::default(); 2], half, most] {
             let again = left.left(asked, append, rewrite);
             let engine = Engine::with_files(again, options(history.seed)).unwrap();
-            assert_eq!(history.check_opened(&engine, asks), counts);
+            assert_eq!(history.check(&engine, asks), counts);
             count += 1;
         }
     }
@@ -298,20 +289,20 @@ fn crash_in_opening(history: &History, left: &MemoryFiles, asks: usize, counts: 
 }
 
 /// Writes on in an engine that was opened after a crash, opens its files once more, and tests their records.
-fn write_on_and_reopen(
+fn go_on(
     history: &History,
     engine: &Engine<MemoryFiles>,
     files: &MemoryFiles,
     counts: &[u64],
     draw: &mut Draw,
 ) {
-    let seed = draw.draw_below(1 << 40) as u64;
+    let seed = draw.below(1 << 40) as u64;
     let mut writers = Vec::new();
     for (old, count) in history.writers.iter().zip(counts) {
         let mut writer = Writer::new(seed, old.id);
         writer.states = old.states[..=*count as usize].to_vec();
         for _ in 0..3 {
-            writer.take_step(engine).unwrap();
+            writer.step(engine).unwrap();
         }
         writers.push(writer);
     }
@@ -319,17 +310,17 @@ fn write_on_and_reopen(
     let found = MemoryFiles::found(append, rewrite);
     let engine = Engine::with_files(found, options(history.seed)).unwrap();
     for writer in writers {
-        let found = [1, 2].map(|i| read_region(&engine, writer.region_at(i)).unwrap());
+        let found = [1, 2].map(|i| region_of(&engine, writer.region(i)).unwrap());
         assert_eq!(&found, writer.states.last().unwrap());
     }
 }
 
 /// Runs the history of a seed, with crashes, and returns how many these were.
-fn run_history(seed: u64) -> u64 {
+fn run(seed: u64) -> u64 {
     let files = MemoryFiles::new();
     if !seed.is_multiple_of(IN_FOLDER) {
         let engine = Engine::with_files(files.clone(), options(seed)).unwrap();
-        return crash_everywhere(&History::new(seed, &engine, &files));
+        return stop_everywhere(&History::new(seed, &engine, &files));
     }
     let room = TempFolder::new();
     let both = Both {
@@ -353,8 +344,8 @@ fn run_history(seed: u64) -> u64 {
     });
     drop(engine);
     let engine = Engine::open(room.path(), options(seed)).unwrap();
-    history.check_opened(&engine, files.asked());
-    crash_everywhere(&history)
+    history.check(&engine, files.asked());
+    stop_everywhere(&history)
 }
 
 #[test]
@@ -362,7 +353,7 @@ fn nothing_that_was_synced_is_lost_and_nothing_comes_back() {
     let (first, histories) = (number("SEED", 1), number("HISTORIES", 200));
     let stops = AtomicU64::new(0);
     run_each(first, histories, |seed| {
-        stops.fetch_add(run_history(seed), Relaxed);
+        stops.fetch_add(run(seed), Relaxed);
         let run = seed - first + 1;
         if run.is_multiple_of(500) {
             println!("{run} histories, {} stops", stops.load(Relaxed));

@@ -3,7 +3,7 @@
 mod common;
 
 use common::hooked::{Call, Hooked};
-use common::model::read_region;
+use common::model::region_of;
 use raft_recover::{
     Engine, Error, ErrorKind, FileId, Files, LogBatch, MemoryFiles, Options, Queue, Result,
     Unsynced,
@@ -17,7 +17,7 @@ use std::{io, thread};
 const FIRST: FileId = FileId::new(Queue::Append, 1);
 
 /// Makes a batch with an entry and a key that have a number.
-fn numbered_batch(number: u64) -> LogBatch {
+fn batch(number: u64) -> LogBatch {
     let mut batch = LogBatch::new().unwrap();
     batch.add_entries(7, number, &[number.to_string()]).unwrap();
     batch.put(7, b"a", &number.to_le_bytes()).unwrap();
@@ -36,7 +36,7 @@ fn make_all_changes<F: Files>(engine: &Engine<F>) -> (Progress, Result<()>) {
     let mut come = Progress::default();
     let mut steps = || {
         for number in 1..=6 {
-            engine.write(&mut numbered_batch(number), number % 2 == 0)?;
+            engine.write(&mut batch(number), number % 2 == 0)?;
             come.written = number;
             if number % 2 == 0 {
                 come.certain = number;
@@ -45,7 +45,7 @@ fn make_all_changes<F: Files>(engine: &Engine<F>) -> (Progress, Result<()>) {
         engine.rotate()?;
         engine.rewrite(1)?;
         engine.purge()?;
-        engine.write(&mut numbered_batch(7), false)?;
+        engine.write(&mut batch(7), false)?;
         come.written = 7;
         engine.rewrite_again()?;
         engine.purge()?;
@@ -60,7 +60,7 @@ fn make_all_changes<F: Files>(engine: &Engine<F>) -> (Progress, Result<()>) {
 /// Returns the errors of all kinds of changes of an engine that has failed.
 fn errors_of_changes<F: Files>(engine: &Engine<F>) -> Vec<Error> {
     let results = [
-        engine.write(&mut numbered_batch(9), false),
+        engine.write(&mut batch(9), false),
         engine.sync(),
         engine.rotate(),
         engine.rewrite(1),
@@ -85,14 +85,14 @@ fn errors_of_reads<F: Files>(engine: &Engine<F>) -> Vec<Error> {
 }
 
 /// Returns the kind of the system's error behind an error.
-fn kind_of_source(e: &Error) -> io::ErrorKind {
+fn source_of(e: &Error) -> io::ErrorKind {
     let source = std::error::Error::source(e).unwrap();
     let source: &io::Error = source.downcast_ref().unwrap();
     source.kind()
 }
 
 /// Returns the file and the offset that the error of a call on files has to name.
-fn expected_place(call: Call<'_>, files: &MemoryFiles) -> (Option<FileId>, Option<u64>) {
+fn place_of(call: Call<'_>, files: &MemoryFiles) -> (Option<FileId>, Option<u64>) {
     let end_of = |queue| {
         let (seq, len) = *files.list(queue).unwrap().last().unwrap();
         (FileId::new(queue, seq), len)
@@ -110,7 +110,7 @@ fn expected_place(call: Call<'_>, files: &MemoryFiles) -> (Option<FileId>, Optio
 fn assert_every_change_fails<F: Files>(engine: &Engine<F>, first: &Error) {
     for e in errors_of_changes(engine) {
         assert_eq!(e.kind, ErrorKind::Failed);
-        assert_eq!(kind_of_source(&e), io::ErrorKind::StorageFull);
+        assert_eq!(source_of(&e), io::ErrorKind::StorageFull);
         assert_eq!((e.file, e.offset), (first.file, first.offset));
         assert_eq!(e.text, format!("Failed: {first}"));
     }
@@ -119,7 +119,7 @@ fn assert_every_change_fails<F: Files>(engine: &Engine<F>, first: &Error) {
 
 /// Tests that an engine has a prefix of the batches that `make_all_changes` writes, and returns how many.
 fn count_batches<F: Files>(engine: &Engine<F>) -> u64 {
-    let region = read_region(engine, 7).unwrap();
+    let region = region_of(engine, 7).unwrap();
     let written = region.entries.len() as u64;
     let expected = (1..=written).map(|number| (number, number.to_string().into_bytes()));
     assert!(region.entries.into_iter().eq(expected));
@@ -175,7 +175,7 @@ fn where_any_change_fails_every_later_one_says_so_reads_go_on_and_nothing_is_los
         let files = MemoryFiles::new();
         let hooked = Hooked::new(&files, |call: Call<'_>| {
             if call.is_change() && made.fetch_add(1, SeqCst) == failing {
-                place.set(expected_place(call, &files)).unwrap();
+                place.set(place_of(call, &files)).unwrap();
                 if let Call::Write(file, bytes) = call {
                     files.write(file, &bytes[..bytes.len() / 2])?;
                 }
@@ -188,7 +188,7 @@ fn where_any_change_fails_every_later_one_says_so_reads_go_on_and_nothing_is_los
         let first = result.unwrap_err();
         assert_eq!(first.kind, ErrorKind::Io);
         assert_eq!(Some(&(first.file, first.offset)), place.get(), "{first}");
-        assert_eq!(kind_of_source(&first), io::ErrorKind::StorageFull);
+        assert_eq!(source_of(&first), io::ErrorKind::StorageFull);
         assert_every_change_fails(&engine, &first);
         assert_reads_go_on(&engine, come.written, failing);
         assert_eq!(
@@ -215,8 +215,8 @@ fn a_batch_lasts_where_the_file_behind_it_cant_be_begun() {
         }
     });
     let engine = Engine::with_files(hooked, Options::new().target_file_size(1)).unwrap();
-    engine.write(&mut numbered_batch(1), true).unwrap();
-    let e = engine.write(&mut numbered_batch(2), true).unwrap_err();
+    engine.write(&mut batch(1), true).unwrap();
+    let e = engine.write(&mut batch(2), true).unwrap_err();
     let place = (Some(FileId::new(Queue::Append, 2)), Some(0));
     assert_eq!((e.kind, (e.file, e.offset)), (ErrorKind::Failed, place));
     assert_eq!(since.load(SeqCst), 0, "something was asked of failed files");
@@ -230,7 +230,7 @@ fn an_opening_that_fails_can_be_made_again() {
     let files = MemoryFiles::new();
     let engine = Engine::with_files(files.clone(), Options::new()).unwrap();
     make_all_changes(&engine).1.unwrap();
-    engine.write(&mut numbered_batch(8), false).unwrap();
+    engine.write(&mut batch(8), false).unwrap();
     let append = files.files(Queue::Append);
     let mut torn = append.clone();
     torn.last_mut()
@@ -252,7 +252,7 @@ fn an_opening_that_fails_can_be_made_again() {
             assert_eq!(found.asked(), expected);
         }
         let opened = Engine::with_files(found, Options::new()).unwrap();
-        assert_eq!(read_region(&opened, 7).unwrap().entries.len(), 7);
+        assert_eq!(region_of(&opened, 7).unwrap().entries.len(), 7);
     }
 }
 
@@ -267,7 +267,7 @@ fn a_file_that_cant_be_read_is_named_and_the_engine_goes_on() {
         _ => Ok(()),
     });
     let engine = Engine::with_files(Arc::new(hooked), Options::new()).unwrap();
-    engine.write(&mut numbered_batch(1), false).unwrap();
+    engine.write(&mut batch(1), false).unwrap();
     is_broken.store(true, SeqCst);
     for e in [engine.entry(7, 1).map(drop), engine.rewrite(1)] {
         let e = e.unwrap_err();
@@ -282,7 +282,7 @@ fn a_file_that_cant_be_read_is_named_and_the_engine_goes_on() {
     assert_eq!((e.kind, (e.file, e.offset)), (ErrorKind::Io, place));
     is_broken.store(false, SeqCst);
     assert_eq!(engine.entry(7, 1).unwrap().unwrap(), b"1");
-    engine.write(&mut numbered_batch(2), true).unwrap();
+    engine.write(&mut batch(2), true).unwrap();
 }
 
 #[test]
@@ -304,7 +304,7 @@ fn who_waits_for_a_turn_is_told_why_the_engine_failed() {
         while !entered.load(SeqCst) {
             thread::yield_now();
         }
-        let writing = scope.spawn(|| engine.write(&mut numbered_batch(1), true));
+        let writing = scope.spawn(|| engine.write(&mut batch(1), true));
         thread::sleep(Duration::from_millis(200));
         is_over.store(true, SeqCst);
         let first = rotating.join().unwrap().unwrap_err();
@@ -334,7 +334,7 @@ fn files_that_panic_leave_a_failed_engine_and_nobody_waits_for_ever() {
     let engine = Engine::with_files(hooked, Options::new()).unwrap();
     thread::scope(|scope| {
         // while the first thread syncs the others hand in their batches, of which one of them then writes all
-        let first = scope.spawn(|| engine.write(&mut numbered_batch(1), true));
+        let first = scope.spawn(|| engine.write(&mut batch(1), true));
         while !entered.load(SeqCst) {
             thread::yield_now();
         }

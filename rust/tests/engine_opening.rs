@@ -4,14 +4,14 @@ mod common;
 
 use common::engines::write;
 use common::hooked::{Call, Hooked};
-use common::model::read_region;
+use common::model::region_of;
 use raft_recover::{Engine, ErrorKind, FileId, MemoryFiles, Options, Queue};
 use std::collections::BTreeSet;
 use std::sync::{Condvar, Mutex};
 use std::time::Duration;
 
 /// Returns the files of an engine, five of each queue: region 7 has an entry in each of them.
-fn five_files_of_each_queue() -> MemoryFiles {
+fn five_files() -> MemoryFiles {
     let files = MemoryFiles::new();
     let options = Options::new().target_file_size(1);
     let engine = Engine::with_files(files.clone(), options).unwrap();
@@ -37,7 +37,7 @@ fn without_file(files: &MemoryFiles, missing: FileId) -> MemoryFiles {
 
 #[test]
 fn a_file_that_is_missing_between_two_others_is_refused_and_named() {
-    let files = five_files_of_each_queue();
+    let files = five_files();
     for queue in [Queue::Append, Queue::Rewrite] {
         let seqs: Vec<_> = files.files(queue).iter().map(|(seq, _)| *seq).collect();
         assert_eq!(seqs, [1, 2, 3, 4, 5]);
@@ -68,7 +68,7 @@ fn of_several_missing_files_the_first_one_is_named() {
 
 #[test]
 fn several_threads_read_whole_files_at_once() {
-    let files = five_files_of_each_queue();
+    let files = five_files();
     for threads in [2, 3] {
         let (reading, is_met) = (Mutex::new(BTreeSet::new()), Condvar::new());
         let hooked = Hooked::new(&files, |call: Call<'_>| {
@@ -92,7 +92,7 @@ fn several_threads_read_whole_files_at_once() {
 
 /// Returns how many bytes both queues have at most while an engine does steady work: ten regions keep their last 200 entries of a
 /// hundred bytes. The engine is opened `lives` times, and does so many `rounds` each time.
-fn greatest_bytes_at_work(lives: u64, rounds: u64) -> u64 {
+fn most_bytes(lives: u64, rounds: u64) -> u64 {
     let options = Options::new()
         .target_file_size(64 << 10)
         .purge_above(256 << 10);
@@ -113,7 +113,7 @@ fn greatest_bytes_at_work(lives: u64, rounds: u64) -> u64 {
             most = most.max(stats.append.bytes + stats.rewrite.bytes);
         }
         for region in 0..10 {
-            let kept = read_region(&engine, region).unwrap().entries;
+            let kept = region_of(&engine, region).unwrap().entries;
             let expected = (20 * round).saturating_sub(200) + 1..=20 * round;
             assert!(kept.keys().copied().eq(expected));
         }
@@ -126,15 +126,12 @@ fn greatest_bytes_at_work(lives: u64, rounds: u64) -> u64 {
 
 #[test]
 fn files_grow_no_more_where_an_engine_is_often_opened_again() {
-    let (once, often) = (
-        greatest_bytes_at_work(1, 300),
-        greatest_bytes_at_work(60, 5),
-    );
+    let (once, often) = (most_bytes(1, 300), most_bytes(60, 5));
     assert!(often < 2 * once, "{often} in 60 lives, {once} in one");
 }
 
 /// Returns files with ten regions, whose entry of a thousand bytes, or else value, is in the rewrite queue.
-fn files_with_ten_moved_regions(is_entry: bool) -> MemoryFiles {
+fn ten_moved_regions(is_entry: bool) -> MemoryFiles {
     let files = MemoryFiles::new();
     let engine = Engine::with_files(files.clone(), Options::new()).unwrap();
     for region in 0..10 {
@@ -153,7 +150,7 @@ fn files_with_ten_moved_regions(is_entry: bool) -> MemoryFiles {
 fn what_was_found_moves_again_where_half_of_it_isnt_needed() {
     for is_entry in [true, false] {
         for (cleaned, moves) in [(0, 0), (3, 0), (6, 1)] {
-            let files = files_with_ten_moved_regions(is_entry);
+            let files = ten_moved_regions(is_entry);
             let options = Options::new().purge_above(1000);
             let engine = Engine::with_files(files, options).unwrap();
             for region in 0..cleaned {

@@ -55,7 +55,7 @@ struct Sizes {
 
 impl Sizes {
     /// Returns the sizes in the history of a seed.
-    fn of_seed(seed: u64) -> Sizes {
+    fn of(seed: u64) -> Sizes {
         match seed % 4 {
             0 => Sizes {
                 page: 4096,
@@ -83,7 +83,7 @@ fn options(seed: u64) -> Options {
     } else {
         Version::V2
     };
-    let file = Sizes::of_seed(seed).file;
+    let file = Sizes::of(seed).file;
     Options::new()
         .version(version)
         .target_file_size(file)
@@ -112,45 +112,45 @@ impl History {
             states: vec![State::default()],
         };
         for _ in 0..STEPS {
-            history.take_step(&engine).unwrap();
+            history.step(&engine).unwrap();
         }
         history
     }
 
     /// Takes a random step.
-    fn take_step(&mut self, engine: &Engine<MemoryFiles>) -> Result<()> {
-        match self.draw.draw_below(20) {
+    fn step(&mut self, engine: &Engine<MemoryFiles>) -> Result<()> {
+        match self.draw.below(20) {
             0 => engine.rotate(),
             1 | 2 => {
                 let last = engine.stats().append.last_file;
-                engine.rewrite(last - self.draw.draw_below(2) as u64)
+                engine.rewrite(last - self.draw.below(2) as u64)
             }
             3 => engine.rewrite_again(),
             4 | 5 => engine.purge().map(drop),
             6 => engine.sync(),
-            _ => self.write_random_batch(engine),
+            _ => self.write(engine),
         }
     }
 
     /// Writes a batch of random changes, and notes what the engine has to have after it.
-    fn write_random_batch(&mut self, engine: &Engine<MemoryFiles>) -> Result<()> {
+    fn write(&mut self, engine: &Engine<MemoryFiles>) -> Result<()> {
         let number = self.states.len();
         let mut state = self.states[number - 1].clone();
         let mut batch = LogBatch::new()?;
         batch.put(0, COUNT, &(number as u64).to_le_bytes())?;
-        for _ in 0..1 + self.draw.draw_below(3) {
-            let i = self.draw.draw_below(REGIONS);
+        for _ in 0..1 + self.draw.below(3) {
+            let i = self.draw.below(REGIONS);
             let mut change = Change::draw(&mut self.draw, &state.regions[i]);
             if let Change::Entries(_, strings) = &mut change {
                 for string in strings {
-                    let len = self.draw.draw_below(Sizes::of_seed(self.seed).entry);
+                    let len = self.draw.below(Sizes::of(self.seed).entry);
                     string.resize(string.len().max(len), 1 + number as u8 % 255);
                 }
             }
             state.apply(i, &change, number);
             change.add(1 + i as u64, &mut batch)?;
         }
-        engine.write(&mut batch, self.draw.draw_one_in(4))?;
+        engine.write(&mut batch, self.draw.once_in(4))?;
         self.states.push(state);
         Ok(())
     }
@@ -200,20 +200,20 @@ struct Left {
 
 impl Left {
     /// Draws a crash behind the first `asks` asks.
-    fn draw_crash(history: &History, asks: usize, draw: &mut Draw) -> Left {
+    fn draw(history: &History, asks: usize, draw: &mut Draw) -> Left {
         let most = QUEUES.map(|queue| history.files.unsynced(asks, queue));
         let drawn = most.map(|most| Unsynced {
-            steps: if draw.draw_one_in(2) {
+            steps: if draw.once_in(2) {
                 most.steps
             } else {
-                draw.draw_below(most.steps + 1)
+                draw.below(most.steps + 1)
             },
-            deletions: draw.draw_below(most.deletions + 1),
+            deletions: draw.below(most.deletions + 1),
         });
         let none = Unsynced::default();
         let safe = history.files.left(asks, none, none);
         let all = history.files.left(asks, drawn[0], drawn[1]);
-        let page = Sizes::of_seed(history.seed).page;
+        let page = Sizes::of(history.seed).page;
         let mut left = Left {
             lasts: Vec::new(),
             files: QUEUES.map(|queue| all.files(queue)),
@@ -286,17 +286,17 @@ impl Left {
 fn lose_pages(bytes: &mut Vec<u8>, synced: usize, page: usize, draw: &mut Draw) {
     let (first, last) = (synced / page, bytes.len() / page);
     let only = draw
-        .draw_one_in(2)
-        .then(|| first + draw.draw_below(last - first + 1));
+        .once_in(2)
+        .then(|| first + draw.below(last - first + 1));
     for number in first..=last {
-        let is_lost = only.map_or_else(|| draw.draw_one_in(3), |only| only == number);
+        let is_lost = only.map_or_else(|| draw.once_in(3), |only| only == number);
         if is_lost {
             let end = bytes.len().min((number + 1) * page);
             bytes[synced.max(number * page).min(end)..end].fill(0);
         }
     }
-    if draw.draw_one_in(3) {
-        bytes.truncate(synced + draw.draw_below(bytes.len() - synced + 1));
+    if draw.once_in(3) {
+        bytes.truncate(synced + draw.below(bytes.len() - synced + 1));
     }
 }
 
@@ -393,7 +393,7 @@ struct Counts {
 }
 
 /// Crashes the machine four times behind each ask of a history, and opens and tests what is left.
-fn crash_everywhere(history: &History, counts: &Counts) {
+fn stop_everywhere(history: &History, counts: &Counts) {
     let asks = history.files.asks();
     let places = asks_of_batches(&asks, options(history.seed).version);
     assert_eq!(places.len() + 1, history.states.len());
@@ -404,7 +404,7 @@ fn crash_everywhere(history: &History, counts: &Counts) {
             .rposition(|ask| *ask == Ask::Sync(Queue::Append));
         let synced = places.iter().filter(|place| Some(**place) < sync).count();
         for _ in 0..4 {
-            let left = Left::draw_crash(history, asked, &mut draw);
+            let left = Left::draw(history, asked, &mut draw);
             let (files, opened) = left.open(history.seed);
             let engine = match opened {
                 Ok(engine) => engine,
@@ -430,8 +430,8 @@ fn crash_everywhere(history: &History, counts: &Counts) {
             let unread = check_records(&engine, state, synced);
             counts.opened.fetch_add(1, Relaxed);
             counts.unread.fetch_add(!unread.is_empty() as u64, Relaxed);
-            if draw.draw_one_in(4) {
-                move_purge_and_reopen(history, engine, files, state, unread);
+            if draw.once_in(4) {
+                go_on(history, engine, files, state, unread);
             }
         }
     }
@@ -439,7 +439,7 @@ fn crash_everywhere(history: &History, counts: &Counts) {
 
 /// Moves records and deletes files in an engine that was opened after a crash, opens its files again, and tests that they have
 /// the same records, and that what could be read still can.
-fn move_purge_and_reopen(
+fn go_on(
     history: &History,
     engine: Engine<MemoryFiles>,
     files: MemoryFiles,
@@ -478,7 +478,7 @@ fn nothing_that_was_synced_is_lost_on_a_disk_that_writes_pages_in_any_order() {
     let (first, histories) = (number("SEED", 1), number("HISTORIES", 40));
     let counts = Counts::default();
     run_each(first, histories, |seed| {
-        crash_everywhere(&History::new(seed), &counts)
+        stop_everywhere(&History::new(seed), &counts)
     });
     let [opened, refused, unread] =
         [counts.opened, counts.refused, counts.unread].map(AtomicU64::into_inner);

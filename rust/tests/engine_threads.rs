@@ -34,12 +34,12 @@ impl Gate {
     }
 
     /// Comes to the gate, and waits until it is open.
-    fn wait_until_open(&self) {
-        self.wait_and_tell_if_closed();
+    fn pass(&self) {
+        self.has_waited();
     }
 
     /// Comes to the gate, waits until it is open, and returns whether it was closed.
-    fn wait_and_tell_if_closed(&self) -> bool {
+    fn has_waited(&self) -> bool {
         let mut state = self.state.lock().unwrap();
         let was_closed = state.0;
         if was_closed {
@@ -53,7 +53,7 @@ impl Gate {
     }
 
     /// Comes to the open gate, and returns whether it is the first call to come.
-    fn is_first_call(&self) -> bool {
+    fn is_new(&self) -> bool {
         let mut state = self.state.lock().unwrap();
         state.1 += 1;
         self.changed.notify_all();
@@ -61,7 +61,7 @@ impl Gate {
     }
 
     /// Waits until `count` calls have come to the gate, which they are to do soon.
-    fn wait_for_calls(&self, count: usize) {
+    fn wait_for(&self, count: usize) {
         let state = self.state.lock().unwrap();
         let long = Duration::from_secs(60);
         let waited = self
@@ -74,7 +74,7 @@ impl Gate {
 }
 
 /// Makes a batch with one entry.
-fn batch_with_entry(region: u64, index: u64) -> LogBatch {
+fn batch(region: u64, index: u64) -> LogBatch {
     let mut batch = LogBatch::new().unwrap();
     batch
         .add_entries(region, index, &[index.to_string()])
@@ -99,9 +99,7 @@ fn threads_that_write_at_the_same_time_share_syncs() {
             let engine = &engine;
             scope.spawn(move || {
                 for index in 1..=writes {
-                    engine
-                        .write(&mut batch_with_entry(region, index), true)
-                        .unwrap();
+                    engine.write(&mut batch(region, index), true).unwrap();
                     assert_eq!(engine.last_index(region).unwrap(), Some(index));
                 }
             });
@@ -126,7 +124,7 @@ fn nobody_goes_on_before_the_sync_and_all_who_wait_go_on_after_one() {
     let gate = Arc::new(Gate::default());
     let hooked = Hooked::new(&MemoryFiles::new(), |call: Call<'_>| {
         if matches!(call, Call::Sync(_)) {
-            gate.wait_until_open();
+            gate.pass();
         }
         Ok(())
     });
@@ -138,13 +136,11 @@ fn nobody_goes_on_before_the_sync_and_all_who_wait_go_on_after_one() {
         for region in 0..4 {
             let (engine, gone_on) = (&engine, &gone_on);
             scope.spawn(move || {
-                engine
-                    .write(&mut batch_with_entry(region, 1), true)
-                    .unwrap();
+                engine.write(&mut batch(region, 1), true).unwrap();
                 gone_on.fetch_add(1, SeqCst);
             });
         }
-        gate.wait_for_calls(1);
+        gate.wait_for(1);
         thread::sleep(Duration::from_millis(200));
         assert_eq!(gone_on.load(SeqCst), 0);
         drop(closed);
@@ -159,7 +155,7 @@ fn count_syncs_of_four() -> u64 {
     let gate = Gate::default();
     let hooked = Hooked::new(&MemoryFiles::new(), |call: Call<'_>| {
         if matches!(call, Call::Rotate(_)) {
-            gate.wait_until_open();
+            gate.pass();
         }
         Ok(())
     });
@@ -168,14 +164,10 @@ fn count_syncs_of_four() -> u64 {
     thread::scope(|scope| {
         let closed = gate.close();
         scope.spawn(|| engine.rotate().unwrap());
-        gate.wait_for_calls(1);
+        gate.wait_for(1);
         for region in 0..4 {
             let engine = &engine;
-            scope.spawn(move || {
-                engine
-                    .write(&mut batch_with_entry(region, 1), true)
-                    .unwrap()
-            });
+            scope.spawn(move || engine.write(&mut batch(region, 1), true).unwrap());
             thread::sleep(Duration::from_millis(50));
         }
         drop(closed);
@@ -196,7 +188,7 @@ fn count_going_on_before_sync() -> usize {
     let (gates, is_first_over) = ([Gate::default(), Gate::default()], AtomicBool::new(false));
     let hooked = Hooked::new(&MemoryFiles::new(), |call: Call<'_>| {
         match call {
-            Call::Sync(_) => gates[usize::from(is_first_over.load(SeqCst))].wait_until_open(),
+            Call::Sync(_) => gates[usize::from(is_first_over.load(SeqCst))].pass(),
             // those that were woken in vain wait again by then
             Call::Write(..) => thread::sleep(Duration::from_millis(100)),
             _ => {}
@@ -208,20 +200,18 @@ fn count_going_on_before_sync() -> usize {
     thread::scope(|scope| {
         let [first, second] = gates.each_ref().map(Gate::close);
         scope.spawn(|| engine.sync().unwrap());
-        gates[0].wait_for_calls(1);
+        gates[0].wait_for(1);
         for region in 0..8 {
             let (engine, gone_on) = (&engine, &gone_on);
             scope.spawn(move || {
-                engine
-                    .write(&mut batch_with_entry(region, 1), region == 0)
-                    .unwrap();
+                engine.write(&mut batch(region, 1), region == 0).unwrap();
                 gone_on.fetch_add(1, SeqCst);
             });
         }
         thread::sleep(Duration::from_millis(200));
         is_first_over.store(true, SeqCst);
         drop(first);
-        gates[1].wait_for_calls(1);
+        gates[1].wait_for(1);
         let begun = Instant::now();
         while gone_on.load(SeqCst) < 7 && begun.elapsed() < Duration::from_secs(2) {
             thread::yield_now();
@@ -249,12 +239,10 @@ fn is_sync_handed_on(fails: bool, write: impl FnOnce(Write<'_>) -> bool + Send) 
     let [rotating, syncing] = [Gate::default(), Gate::default()];
     let hooked = Hooked::new(&MemoryFiles::new(), |call: Call<'_>| match call {
         Call::Rotate(_) => {
-            rotating.wait_until_open();
+            rotating.pass();
             Ok(())
         }
-        Call::Sync(_) if syncing.wait_and_tell_if_closed() && fails => {
-            Err(io::ErrorKind::TimedOut.into())
-        }
+        Call::Sync(_) if syncing.has_waited() && fails => Err(io::ErrorKind::TimedOut.into()),
         _ => Ok(()),
     });
     let engine = Engine::with_files(hooked, Options::new()).unwrap();
@@ -262,14 +250,14 @@ fn is_sync_handed_on(fails: bool, write: impl FnOnce(Write<'_>) -> bool + Send) 
         let engine = &engine;
         let first_closed = rotating.close();
         scope.spawn(|| engine.rotate().unwrap());
-        rotating.wait_for_calls(1);
+        rotating.wait_for(1);
         let writing = scope.spawn(move || write(&|batch, sync| engine.write(batch, sync)));
         thread::sleep(Duration::from_millis(50));
         let second_closed = syncing.close();
-        let other = scope.spawn(|| engine.write(&mut batch_with_entry(8, 1), true));
+        let other = scope.spawn(|| engine.write(&mut batch(8, 1), true));
         thread::sleep(Duration::from_millis(50));
         drop(first_closed);
-        syncing.wait_for_calls(1);
+        syncing.wait_for(1);
         let begun = Instant::now();
         while !writing.is_finished() && begun.elapsed() < Duration::from_secs(2) {
             thread::yield_now();
@@ -293,11 +281,7 @@ fn is_sync_handed_on(fails: bool, write: impl FnOnce(Write<'_>) -> bool + Send) 
 #[test]
 fn who_writes_for_others_makes_no_sync_that_it_doesnt_want() {
     for fails in [false, true] {
-        let goes_on = || {
-            is_sync_handed_on(fails, |write| {
-                write(&mut batch_with_entry(7, 1), false).is_ok()
-            })
-        };
+        let goes_on = || is_sync_handed_on(fails, |write| write(&mut batch(7, 1), false).is_ok());
         // a thread that comes late waits for the other one's sync
         assert!((0..10).any(|_| goes_on()));
     }
@@ -308,7 +292,7 @@ fn whose_batch_is_refused_makes_no_sync_for_others() {
     for fails in [false, true] {
         let goes_on = || {
             is_sync_handed_on(fails, |write| {
-                let mut hole = batch_with_entry(7, 1);
+                let mut hole = batch(7, 1);
                 hole.add_entries(7, 5, &["behind a hole"]).unwrap();
                 write(&mut hole, true).unwrap_err().item == Some(1)
             })
@@ -322,16 +306,16 @@ fn reading_waits_for_no_sync() {
     let gate = Arc::new(Gate::default());
     let hooked = Hooked::new(&MemoryFiles::new(), |call: Call<'_>| {
         if matches!(call, Call::Sync(_)) {
-            gate.wait_until_open();
+            gate.pass();
         }
         Ok(())
     });
     let engine = Engine::with_files(hooked, Options::new()).unwrap();
-    engine.write(&mut batch_with_entry(7, 1), false).unwrap();
+    engine.write(&mut batch(7, 1), false).unwrap();
     thread::scope(|scope| {
         let closed = gate.close();
-        scope.spawn(|| engine.write(&mut batch_with_entry(7, 2), true).unwrap());
-        gate.wait_for_calls(1);
+        scope.spawn(|| engine.write(&mut batch(7, 2), true).unwrap());
+        gate.wait_for(1);
         assert_eq!(engine.entry(7, 1).unwrap().unwrap(), b"1");
         assert_eq!(engine.entry(7, 2).unwrap().unwrap(), b"2");
         assert_eq!(engine.entries(7, ..).unwrap().len(), 2);
@@ -348,8 +332,8 @@ fn gated_engine(
 ) -> Engine<Hooked<impl Fn(Call<'_>) -> io::Result<()> + Send + Sync>> {
     let hooked = Hooked::new(&MemoryFiles::new(), |call: Call<'_>| {
         match call {
-            Call::Write(..) => writes.wait_until_open(),
-            Call::Sync(_) => syncs.wait_until_open(),
+            Call::Write(..) => writes.pass(),
+            Call::Sync(_) => syncs.pass(),
             _ => {}
         }
         Ok(())
@@ -371,11 +355,11 @@ fn the_newest_entry_is_read_while_its_bytes_are_on_their_way() {
         for index in 1..=3 {
             let (written, synced) = (writes.close(), syncs.close());
             let engine = &engine;
-            scope.spawn(move || engine.write(&mut batch_with_entry(7, index), true).unwrap());
-            writes.wait_for_calls(index as usize);
+            scope.spawn(move || engine.write(&mut batch(7, index), true).unwrap());
+            writes.wait_for(index as usize);
             read(index); // its bytes aren't in the file
             drop(written);
-            syncs.wait_for_calls(index as usize);
+            syncs.wait_for(index as usize);
             read(index); // they are, and are synced just now
             drop(synced);
             engine.sync().unwrap();
@@ -392,9 +376,7 @@ fn what_is_written_is_read_from_its_file() {
     });
     let engine = Engine::with_files(hooked, Options::new().target_file_size(100)).unwrap();
     for index in 1..=9 {
-        engine
-            .write(&mut batch_with_entry(7, index), index % 2 == 0)
-            .unwrap();
+        engine.write(&mut batch(7, index), index % 2 == 0).unwrap();
         assert_eq!(
             engine.entry(7, index).unwrap(),
             Some(index.to_string().into())
@@ -408,15 +390,13 @@ fn an_entry_is_read_while_its_bytes_move() {
     let [writes, syncs] = [Gate::default(), Gate::default()];
     let engine = gated_engine(&writes, &syncs);
     for index in 1..=3 {
-        engine
-            .write(&mut batch_with_entry(7, index), false)
-            .unwrap();
+        engine.write(&mut batch(7, index), false).unwrap();
     }
     engine.rotate().unwrap();
     thread::scope(|scope| {
         let closed = writes.close();
         scope.spawn(|| engine.rewrite(1).unwrap());
-        writes.wait_for_calls(1);
+        writes.wait_for(1);
         let texts: Vec<_> = engine.entries(7, ..).unwrap().collect();
         assert_eq!(texts, [b"1", b"2", b"3"]);
         drop(closed);
@@ -433,18 +413,18 @@ fn an_entry_that_moves_while_it_is_read_is_found() {
     let is_held = AtomicBool::new(false);
     let hooked = Hooked::new(&MemoryFiles::new(), |call: Call<'_>| {
         if is_reader(call) && is_held.swap(false, SeqCst) {
-            gate.wait_until_open();
+            gate.pass();
         }
         Ok(())
     });
     let engine = Engine::with_files(hooked, Options::new()).unwrap();
-    engine.write(&mut batch_with_entry(7, 1), false).unwrap();
+    engine.write(&mut batch(7, 1), false).unwrap();
     engine.rotate().unwrap();
     is_held.store(true, SeqCst);
     thread::scope(|scope| {
         let closed = gate.close();
         let reading = scope.spawn(|| engine.entries(7, 1..2));
-        gate.wait_for_calls(1);
+        gate.wait_for(1);
         engine.rewrite(1).unwrap();
         assert_eq!(engine.purge().unwrap().append_files, 1);
         drop(closed);
@@ -462,8 +442,8 @@ fn an_entry_that_moves_twice_while_it_is_read_is_found() {
             return Ok(());
         };
         if file.queue == Queue::Append && is_held.swap(false, SeqCst) {
-            gate.wait_until_open();
-        } else if file == FileId::new(Queue::Rewrite, 1) && looked_again.is_first_call() {
+            gate.pass();
+        } else if file == FileId::new(Queue::Rewrite, 1) && looked_again.is_new() {
             // it is read once more, and the other thread tries to move it
             let begun = Instant::now();
             while !is_moved.load(SeqCst) && begun.elapsed() < Duration::from_millis(300) {
@@ -473,17 +453,17 @@ fn an_entry_that_moves_twice_while_it_is_read_is_found() {
         Ok(())
     });
     let engine = Engine::with_files(hooked, Options::new()).unwrap();
-    engine.write(&mut batch_with_entry(7, 1), false).unwrap();
+    engine.write(&mut batch(7, 1), false).unwrap();
     engine.rotate().unwrap();
     is_held.store(true, SeqCst);
     thread::scope(|scope| {
         let closed = gate.close();
         let reading = scope.spawn(|| engine.entries(7, 1..2));
-        gate.wait_for_calls(1);
+        gate.wait_for(1);
         engine.rewrite(1).unwrap();
         assert_eq!(engine.purge().unwrap().append_files, 1);
         drop(closed);
-        looked_again.wait_for_calls(1);
+        looked_again.wait_for(1);
         engine.rewrite_again().unwrap();
         assert_eq!(engine.purge().unwrap().rewrite_files, 1);
         is_moved.store(true, SeqCst);
@@ -514,7 +494,7 @@ fn changes_come_one_after_another() {
             scope.spawn(move || {
                 for index in 1..=200 {
                     engine
-                        .write(&mut batch_with_entry(region, index), index % 10 == 0)
+                        .write(&mut batch(region, index), index % 10 == 0)
                         .unwrap();
                     let mut entries = engine.entries(region, ..).unwrap();
                     assert_eq!(entries.len() as u64, index);
@@ -536,20 +516,20 @@ fn a_batch_that_is_refused_costs_the_others_nothing() {
     let gate = Arc::new(Gate::default());
     let hooked = Hooked::new(&MemoryFiles::new(), |call: Call<'_>| {
         if matches!(call, Call::Sync(_)) {
-            gate.wait_until_open();
+            gate.pass();
         }
         Ok(())
     });
     let engine = Engine::with_files(hooked, Options::new()).unwrap();
-    engine.write(&mut batch_with_entry(7, 1), false).unwrap();
+    engine.write(&mut batch(7, 1), false).unwrap();
     thread::scope(|scope| {
         let closed = gate.close();
         scope.spawn(|| engine.sync().unwrap());
-        gate.wait_for_calls(1);
+        gate.wait_for(1);
         let rows = [(7, 3, true), (8, 1, true), (7, 9, false), (9, 1, false)];
         let writing = rows.map(|(region, index, sync)| {
             let engine = &engine;
-            scope.spawn(move || engine.write(&mut batch_with_entry(region, index), sync))
+            scope.spawn(move || engine.write(&mut batch(region, index), sync))
         });
         drop(closed);
         let are_written = writing.map(|writing| writing.join().unwrap().is_ok());

@@ -20,7 +20,7 @@ const SECOND: FileId = FileId::new(Queue::Append, 2);
 const REWRITTEN: FileId = FileId::new(Queue::Rewrite, 1);
 
 /// Returns the names in a folder, in order.
-fn names_in(folder: &TempFolder) -> Vec<String> {
+fn names(folder: &TempFolder) -> Vec<String> {
     let entries = fs::read_dir(folder.path()).unwrap();
     let mut names: Vec<_> = entries
         .map(|entry| entry.unwrap().file_name().into_string().unwrap())
@@ -30,7 +30,7 @@ fn names_in(folder: &TempFolder) -> Vec<String> {
 }
 
 /// Reads `len` bytes of a file from `offset` on.
-fn read_bytes(files: &FolderFiles, file: FileId, offset: u64, len: usize) -> io::Result<Vec<u8>> {
+fn read(files: &FolderFiles, file: FileId, offset: u64, len: usize) -> io::Result<Vec<u8>> {
     let mut bytes = vec![0; len];
     files.read(file, offset, &mut bytes)?;
     Ok(bytes)
@@ -65,7 +65,7 @@ fn files_have_the_names_of_raft_engine() {
         "0000000000000002.raftlog",
         "LOCK",
     ];
-    assert_eq!(names_in(&room), expected);
+    assert_eq!(names(&room), expected);
     assert_eq!(files.path_of(SECOND), room.path().join(expected[2]));
     assert_eq!(files.list(Queue::Append).unwrap(), [(1, 0), (2, 0)]);
     assert_eq!(files.list(Queue::Rewrite).unwrap(), [(1, 0)]);
@@ -152,16 +152,16 @@ fn bytes_are_written_at_the_end_and_read_anywhere() {
     files.write(FIRST, b"one").unwrap();
     files.write(FIRST, b" and two").unwrap();
     files.sync(Queue::Append).unwrap();
-    assert_eq!(read_bytes(&files, FIRST, 4, 7).unwrap(), b"and two");
-    let e = read_bytes(&files, FIRST, 4, 8).unwrap_err();
+    assert_eq!(read(&files, FIRST, 4, 7).unwrap(), b"and two");
+    let e = read(&files, FIRST, 4, 8).unwrap_err();
     assert_eq!(e.kind(), io::ErrorKind::UnexpectedEof);
-    let e = read_bytes(&files, REWRITTEN, 0, 1).unwrap_err();
+    let e = read(&files, REWRITTEN, 0, 1).unwrap_err();
     assert_eq!(e.kind(), io::ErrorKind::NotFound);
     files.truncate(FIRST, 20).unwrap();
     assert_eq!(files.list(Queue::Append).unwrap(), [(1, 11)]);
     files.truncate(FIRST, 7).unwrap();
     files.write(FIRST, b"..").unwrap();
-    assert_eq!(read_bytes(&files, FIRST, 0, 9).unwrap(), b"one and..");
+    assert_eq!(read(&files, FIRST, 0, 9).unwrap(), b"one and..");
 }
 
 #[test]
@@ -173,14 +173,14 @@ fn what_is_there_is_found() {
         files.write(file, bytes.as_bytes()).unwrap();
     }
     files.delete(FIRST).unwrap();
-    assert!(read_bytes(&files, FIRST, 0, 1).is_err());
+    assert!(read(&files, FIRST, 0, 1).is_err());
     drop(files);
     let files = FolderFiles::open(room.path()).unwrap();
     assert_eq!(files.list(Queue::Append).unwrap(), [(2, 3)]);
     assert_eq!(files.list(Queue::Rewrite).unwrap(), [(1, 5)]);
-    assert_eq!(read_bytes(&files, SECOND, 0, 3).unwrap(), b"new");
+    assert_eq!(read(&files, SECOND, 0, 3).unwrap(), b"new");
     files.write(SECOND, b"er").unwrap();
-    assert_eq!(read_bytes(&files, SECOND, 0, 5).unwrap(), b"newer");
+    assert_eq!(read(&files, SECOND, 0, 5).unwrap(), b"newer");
 }
 
 #[test]
@@ -193,7 +193,7 @@ fn files_of_any_number_and_length_are_found() {
     let files = FolderFiles::open(room.path()).unwrap();
     for (queue, seq) in [(Queue::Append, 0), (Queue::Rewrite, u64::MAX)] {
         assert_eq!(files.list(queue).unwrap(), [(seq, bytes.len() as u64)]);
-        let found = read_bytes(&files, FileId::new(queue, seq), 0, bytes.len());
+        let found = read(&files, FileId::new(queue, seq), 0, bytes.len());
         assert!(found.unwrap() == bytes);
     }
 }
@@ -284,7 +284,7 @@ fn after_a_change_that_failed_none_is_made_and_files_can_be_read() {
             let e = change(&files).unwrap_err();
             assert_eq!(e.to_string(), "an earlier change failed", "{what}");
         }
-        assert_eq!(read_bytes(&files, FIRST, 0, 3).unwrap(), b"one");
+        assert_eq!(read(&files, FIRST, 0, 3).unwrap(), b"one");
         drop(files);
         let files = FolderFiles::open(room.path()).unwrap();
         assert_eq!(files.list(Queue::Append).unwrap(), [(1, 3)], "{what}");
@@ -313,7 +313,7 @@ fn a_deleted_file_is_closed_once_its_room_is_asked_back_or_the_next_file_begins(
     }
     files.delete(FIRST).unwrap();
     assert_eq!(
-        names_in(&room),
+        names(&room),
         [
             "0000000000000002.raftlog",
             "0000000000000003.raftlog",

@@ -4,7 +4,7 @@
 mod common;
 
 use common::TempFolder;
-use common::model::{Region, read_region};
+use common::model::{Region, region_of};
 use raft_recover::{Engine, LogBatch, Options};
 use std::cell::Cell;
 use std::collections::{BTreeMap, BTreeSet};
@@ -21,7 +21,7 @@ const CALLS: &str = "openat,flock,mkdir,write,fsync,fdatasync,ftruncate,unlink";
 
 /// Fills the batch of a run that has this number: what it puts into region 7. Each eighth batch compacts entries, some of which
 /// have moved before.
-fn fill_batch(number: u64, batch: &mut LogBatch) {
+fn fill(number: u64, batch: &mut LogBatch) {
     if number.is_multiple_of(8) {
         batch.compact(7, number - 3).unwrap();
     }
@@ -30,7 +30,7 @@ fn fill_batch(number: u64, batch: &mut LogBatch) {
 }
 
 /// Returns what region 7 has after the first `count` batches.
-fn expected_records(count: u64) -> Region {
+fn expected(count: u64) -> Region {
     let first = if count < 8 { 1 } else { count / 8 * 8 - 3 };
     let entries = (first..=count).map(|number| (number, number.to_string().into_bytes()));
     let key = (count > 0).then(|| (b"a".to_vec(), count.to_le_bytes().to_vec()));
@@ -54,7 +54,7 @@ fn run() {
         let write = |sync| {
             number.set(number.get() + 1);
             let mut batch = LogBatch::new().unwrap();
-            fill_batch(number.get(), &mut batch);
+            fill(number.get(), &mut batch);
             engine.write(&mut batch, sync).unwrap();
             if sync {
                 println!("lasts {}", number.get());
@@ -269,7 +269,7 @@ struct Call {
 }
 
 /// Returns the strings in a line of `strace`, which shows them as `\x61\x62`.
-fn strings_in_line(line: &str) -> Vec<Vec<u8>> {
+fn strings(line: &str) -> Vec<Vec<u8>> {
     let quoted = line
         .split(['"', '<', '>'])
         .filter(|text| text.starts_with("\\x"));
@@ -292,7 +292,7 @@ fn read_line(line: &str, folder: &Path) -> Option<Result<Call, u64>> {
     if result.trim_start().starts_with("= -1") {
         return None;
     }
-    let strings = strings_in_line(rest);
+    let strings = strings(rest);
     if what == "write" && words.starts_with('1') {
         let said = String::from_utf8_lossy(strings.last()?).into_owned();
         let lasts = said
@@ -332,10 +332,9 @@ fn trace_run(room: &TempFolder, folder: &Path) -> Option<String> {
 }
 
 /// Returns the position of the first line with a call `what` on a path.
-fn position_of_call(log: &str, what: &str, path: &Path) -> Option<usize> {
+fn line_of(log: &str, what: &str, path: &Path) -> Option<usize> {
     let path = path.to_str().unwrap().as_bytes();
-    let is_it =
-        |line: &str| line.contains(what) && strings_in_line(line).iter().any(|text| text == path);
+    let is_it = |line: &str| line.contains(what) && strings(line).iter().any(|text| text == path);
     log.lines().position(is_it)
 }
 
@@ -348,8 +347,8 @@ fn each_folder_that_a_stop_may_leave_has_what_was_synced() {
     };
     // the name of the folder itself is on the disk before anything lasts
     let (made, synced) = (
-        position_of_call(&log, "mkdir(", &folder),
-        position_of_call(&log, "fsync(", room.path()),
+        line_of(&log, "mkdir(", &folder),
+        line_of(&log, "fsync(", room.path()),
     );
     let lasts = log
         .lines()
@@ -377,7 +376,7 @@ fn each_folder_that_a_stop_may_leave_has_what_was_synced() {
                 count >= certain,
                 "{count} of {certain} behind change {stops}: {left:?}"
             );
-            assert_eq!(read_region(&engine, 7).unwrap(), expected_records(count));
+            assert_eq!(region_of(&engine, 7).unwrap(), expected(count));
             opened += 1;
         }
     }

@@ -4,7 +4,7 @@
 mod common;
 
 use common::TempFolder;
-use common::engines::{words_of_asks_since, write};
+use common::engines::{asked_since, write};
 use common::hooked::{Call, Hooked};
 use raft_recover::{
     Engine, Error, ErrorKind, FileId, Files, FolderFiles, LogBatch, MemoryFiles, Options, Queue,
@@ -49,7 +49,7 @@ impl SmallDisk {
     }
 
     /// Makes a file of 64 KiB on the disk.
-    fn fill_up(&self) {
+    fn fill(&self) {
         fs::write(self.0.path().join("other"), vec![7; 64 << 10]).unwrap();
     }
 
@@ -122,7 +122,7 @@ fn a_full_disk_is_read_and_goes_on_once_there_is_room() {
     let Some(disk) = SmallDisk::mount() else {
         return;
     };
-    disk.fill_up();
+    disk.fill();
     let engine = Engine::open(disk.path(), Options::new()).unwrap();
     let (written, e) = write_until_full(&engine);
     assert_full(&e);
@@ -214,7 +214,7 @@ fn an_engine_that_found_no_room_in_the_midst_of_a_write_goes_on_once_there_is_so
     let Some(disk) = SmallDisk::mount() else {
         return;
     };
-    disk.fill_up();
+    disk.fill();
     let engine = Engine::open(disk.path(), Options::new()).unwrap();
     let (written, e) = write_until_full(&engine);
     assert_full(&e);
@@ -260,7 +260,7 @@ fn a_tail_that_finds_no_room_beside_its_file_stays_uncut() {
     let Some(disk) = SmallDisk::mount() else {
         return;
     };
-    disk.fill_up();
+    disk.fill();
     let engine = Engine::open(disk.path(), Options::new()).unwrap();
     let (written, _) = write_until_full(&engine);
     let whole = engine.stats().append.bytes;
@@ -328,7 +328,7 @@ fn a_purge_deletes_what_it_can_before_records_move() -> Result<()> {
     write(&engine, |batch| batch.clean(8)); // no record has to move out of the first eight files
     let before = files.asked();
     assert_full(&engine.purge().unwrap_err());
-    let deleted = words_of_asks_since(&files, before);
+    let deleted = asked_since(&files, before);
     let deleted = deleted.iter().filter(|ask| ask.starts_with("delete"));
     let expected = (1..=8).map(|seq| format!("delete append file {seq}"));
     assert!(deleted.eq(&expected.collect::<Vec<_>>()));

@@ -23,41 +23,41 @@ struct Noting {
 
 impl Noting {
     /// Notes a call.
-    fn note_call(&self, text: String) {
+    fn note(&self, text: String) {
         self.told.lock().unwrap().push(text);
     }
 
     /// Returns the calls that were noted since the last call of this.
-    fn take_notes(&self) -> Vec<String> {
+    fn take(&self) -> Vec<String> {
         std::mem::take(&mut self.told.lock().unwrap())
     }
 }
 
 impl Listener for Noting {
     fn on_begin(&self, file: FileId) {
-        self.note_call(format!("begin {file}"));
+        self.note(format!("begin {file}"));
     }
 
     fn on_sync(&self, file: FileId, took: Duration) {
         *self.sync_time.lock().unwrap() += took;
-        self.note_call(format!("sync {}", file.queue));
+        self.note(format!("sync {}", file.queue));
     }
 
     fn on_delete(&self, file: FileId) {
-        self.note_call(format!("delete {file}"));
+        self.note(format!("delete {file}"));
     }
 
     fn on_move(&self, from: Queue, records: usize) {
-        self.note_call(format!("move {records} {from}"));
+        self.note(format!("move {records} {from}"));
     }
 
     fn on_cut(&self, cut: &CutTail) {
-        self.note_call(format!("cut {} to {}", cut.file, cut.offset));
+        self.note(format!("cut {} to {}", cut.file, cut.offset));
     }
 }
 
 /// Returns what was asked of files, as words, without writes.
-fn asks_as_words(files: &MemoryFiles) -> Vec<String> {
+fn asked(files: &MemoryFiles) -> Vec<String> {
     let asks = files.asks().into_iter();
     let shown = asks.filter_map(|ask| match ask {
         Ask::Write(..) => None,
@@ -70,7 +70,7 @@ fn asks_as_words(files: &MemoryFiles) -> Vec<String> {
     shown.collect()
 }
 
-fn options_with_small_files() -> Options {
+fn small() -> Options {
     Options::new().target_file_size(400).purge_above(1500)
 }
 
@@ -78,8 +78,7 @@ fn options_with_small_files() -> Options {
 fn all_that_is_done_to_files_is_told_in_order() {
     let told = Arc::new(Noting::default());
     let found = MemoryFiles::found(vec![(4, b"torn".to_vec())], vec![]);
-    let engine =
-        Engine::with_files_and_listener(found, options_with_small_files(), told.clone()).unwrap();
+    let engine = Engine::with_files_and_listener(found, small(), told.clone()).unwrap();
     write(&engine, |batch| batch.put(8, b"key", b"it stays"));
     for index in 1..=60 {
         write(&engine, |batch| {
@@ -93,11 +92,11 @@ fn all_that_is_done_to_files_is_told_in_order() {
     }
     engine.rewrite_again().unwrap();
     engine.purge().unwrap();
-    let told_all = told.take_notes();
+    let told_all = told.take();
     let (moves, told_files): (Vec<_>, Vec<_>) = told_all
         .into_iter()
         .partition(|text| text.starts_with("move "));
-    assert_eq!(told_files, asks_as_words(engine.files()));
+    assert_eq!(told_files, asked(engine.files()));
     for word in [
         "begin append",
         "begin rewrite",
@@ -125,7 +124,7 @@ fn records_that_move_are_counted() {
     let files = MemoryFiles::new();
     let engine = Engine::with_files_and_listener(files, Options::new(), told.clone()).unwrap();
     let moves = || -> Vec<_> {
-        let told = told.take_notes().into_iter();
+        let told = told.take().into_iter();
         told.filter(|text| text.starts_with("move ")).collect()
     };
     write(&engine, |batch| batch.add_entries(7, 1, &["1", "2", "3"]));
@@ -218,11 +217,7 @@ impl Listener for Calling {
 #[test]
 fn a_listener_makes_calls_of_the_engine_and_so_do_other_threads_meanwhile() {
     let calling = Arc::new(Calling::default());
-    let engine = Engine::with_files_and_listener(
-        MemoryFiles::new(),
-        options_with_small_files(),
-        calling.clone(),
-    );
+    let engine = Engine::with_files_and_listener(MemoryFiles::new(), small(), calling.clone());
     let engine = Arc::new(engine.unwrap());
     let at_opening = calling.told.load(SeqCst);
     calling.engine.set(Arc::downgrade(&engine)).unwrap();
@@ -280,17 +275,17 @@ fn a_refused_change_tells_nothing_and_what_came_before_a_failure_is_told() {
     let told = Arc::new(Noting::default());
     let files = MemoryFiles::new();
     let engine = Engine::with_files_and_listener(files, Options::new(), told.clone()).unwrap();
-    told.take_notes();
+    told.take();
     let mut batch = LogBatch::new().unwrap();
     batch.add_entries(7, 1, &["an entry"]).unwrap();
     batch.add_entries(7, 9, &["behind a hole"]).unwrap();
     engine.write(&mut batch, false).unwrap_err();
-    assert_eq!(told.take_notes(), [""; 0]);
+    assert_eq!(told.take(), [""; 0]);
     // somebody else deletes the last file: the next change of it fails
     engine.rotate().unwrap();
-    assert_eq!(told.take_notes(), ["sync append", "begin append file 2"]);
+    assert_eq!(told.take(), ["sync append", "begin append file 2"]);
     let last = FileId::new(Queue::Append, 3);
     engine.files().rotate(last).unwrap();
     engine.rotate().unwrap_err();
-    assert_eq!(told.take_notes(), ["sync append"]);
+    assert_eq!(told.take(), ["sync append"]);
 }

@@ -62,7 +62,7 @@ impl Model {
     /// Draws the next step of a node.
     fn draw(&self, draw: &mut Draw) -> Step {
         let (first, last, commit) = (self.snapshot.index + 1, self.last(), self.commit());
-        let mut below = |end: u64| draw.draw_below(end as usize) as u64;
+        let mut below = |end: u64| draw.below(end as usize) as u64;
         match below(10) {
             0 | 1 => Step::SetHardState(HardState {
                 term: self.hard_state.term + below(2),
@@ -128,7 +128,7 @@ impl Model {
 }
 
 /// Takes a step by the calls of a log.
-fn take_step<F: Files>(log: &mut RaftStorage<F>, step: Step) -> Result<()> {
+fn take<F: Files>(log: &mut RaftStorage<F>, step: Step) -> Result<()> {
     match step {
         Step::Append(entries) => log.append(&entries),
         Step::SetHardState(hard_state) => log.set_hard_state(hard_state),
@@ -138,7 +138,7 @@ fn take_step<F: Files>(log: &mut RaftStorage<F>, step: Step) -> Result<()> {
 }
 
 /// Tests, by the six calls of a log, whether it has what it has to have.
-fn assert_has_all<F: Files>(log: &RaftStorage<F>, model: &Model) -> bool {
+fn has_all<F: Files>(log: &RaftStorage<F>, model: &Model) -> bool {
     let (first, last) = (model.snapshot.index + 1, model.last());
     if (log.first_index().unwrap(), log.last_index().unwrap()) != (first, last) {
         return false;
@@ -209,12 +209,12 @@ fn options() -> Options {
 }
 
 /// Returns the files that a random crash leaves behind the first `asks` asks.
-fn draw_files_left(files: &MemoryFiles, asks: usize, draw: &mut Draw) -> MemoryFiles {
+fn draw_left(files: &MemoryFiles, asks: usize, draw: &mut Draw) -> MemoryFiles {
     let [append, rewrite] = [Queue::Append, Queue::Rewrite].map(|queue| {
         let Unsynced { steps, deletions } = files.unsynced(asks, queue);
         Unsynced {
-            steps: draw.draw_below(steps + 1),
-            deletions: draw.draw_below(deletions + 1),
+            steps: draw.below(steps + 1),
+            deletions: draw.below(deletions + 1),
         }
     });
     files.left(asks, append, rewrite)
@@ -228,31 +228,28 @@ fn a_log_has_what_was_acknowledged_wherever_the_machine_stops() {
         for _life in 0..8 {
             let engine = Arc::new(Engine::with_files(files.clone(), options()).unwrap());
             let mut log = RaftStorage::open(engine.clone(), REGION).unwrap();
-            assert!(assert_has_all(&log, &model));
+            assert!(has_all(&log, &model));
             let (mut before, mut asked) = (model.clone(), files.asked());
             let mut acknowledged = asked;
-            for _ in 0..1 + draw.draw_below(30) {
+            for _ in 0..1 + draw.below(30) {
                 (before, asked) = (model.clone(), files.asked());
                 let step = model.draw(&mut draw);
                 model.apply(&step);
-                take_step(&mut log, step).unwrap();
+                take(&mut log, step).unwrap();
                 acknowledged = files.asked();
-                assert!(assert_has_all(&log, &model));
+                assert!(has_all(&log, &model));
                 assert_refuses(&mut log);
-                if draw.draw_one_in(10) {
+                if draw.once_in(10) {
                     engine.purge().unwrap();
                 }
             }
             // the machine stops in the midst of the last step, or behind it
-            let asks = asked + draw.draw_below(files.asked() - asked + 1);
-            files = draw_files_left(&files, asks, &mut draw);
+            let asks = asked + draw.below(files.asked() - asked + 1);
+            files = draw_left(&files, asks, &mut draw);
             let engine = Arc::new(Engine::with_files(files.clone(), options()).unwrap());
             let log = RaftStorage::open(engine, REGION).unwrap();
-            if !assert_has_all(&log, &model) {
-                assert!(
-                    asks < acknowledged && assert_has_all(&log, &before),
-                    "seed {seed}"
-                );
+            if !has_all(&log, &model) {
+                assert!(asks < acknowledged && has_all(&log, &before), "seed {seed}");
                 model = before;
             }
         }
@@ -324,7 +321,7 @@ fn writes_until_it_is_killed() {
     for number in 1_u64.. {
         let step = history.next();
         if number > taken {
-            take_step(&mut log, step).unwrap();
+            take(&mut log, step).unwrap();
             println!("took {number}.");
             if number.is_multiple_of(10) {
                 engine.purge().unwrap();
@@ -349,8 +346,8 @@ fn write_until_killed(folder: &TempFolder, seed: u64, taken: u64, draw: &mut Dra
         let (_, number) = line.split_once("took ")?;
         number.strip_suffix('.')?.parse::<u64>().ok()
     });
-    let heard = numbers.by_ref().take(1 + draw.draw_below(100)).last();
-    thread::sleep(Duration::from_micros(draw.draw_below(2000) as u64));
+    let heard = numbers.by_ref().take(1 + draw.below(100)).last();
+    thread::sleep(Duration::from_micros(draw.below(2000) as u64));
     child.kill().unwrap();
     child.wait().unwrap();
     numbers.last().or(heard).unwrap()
@@ -378,14 +375,11 @@ fn a_log_has_what_was_acknowledged_whenever_its_process_is_killed() {
             }
             let engine = Arc::new(Engine::open(room.path(), options()).unwrap());
             let log = RaftStorage::open(engine, REGION).unwrap();
-            if !assert_has_all(&log, &history.model) {
+            if !has_all(&log, &history.model) {
                 // the step that it was taking when it was killed may be there
                 history.next();
                 taken += 1;
-                assert!(
-                    assert_has_all(&log, &history.model),
-                    "seed {seed}, step {said}"
-                );
+                assert!(has_all(&log, &history.model), "seed {seed}, step {said}");
             }
         }
         steps += taken;

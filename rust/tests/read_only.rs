@@ -5,7 +5,7 @@ mod common;
 use common::TempFolder;
 use common::engines::write;
 use common::hooked::{Call, Hooked};
-use common::model::{Region, read_region};
+use common::model::{Region, region_of};
 use raft_recover::{
     Engine, ErrorKind, FileId, Files, FolderFiles, LogBatch, MemoryFiles, Options, Queue,
 };
@@ -61,7 +61,7 @@ fn torn_files() -> MemoryFiles {
 }
 
 /// Returns what region 7 of these files has.
-fn expected_records() -> Region {
+fn expected() -> Region {
     let entries = (1..=6).map(|index: u64| (index, index.to_string().into_bytes()));
     let keys = [(b"a".to_vec(), 6u64.to_le_bytes().to_vec())];
     Region {
@@ -84,14 +84,14 @@ fn nothing_is_asked_but_to_read_and_every_change_is_refused_by_name() {
     });
     let engine = Engine::with_files_read_only(hooked, Options::new()).unwrap();
     assert!(engine.is_read_only());
-    assert_eq!(read_region(&engine, 7).unwrap(), expected_records());
+    assert_eq!(region_of(&engine, 7).unwrap(), expected());
     assert_eq!(engine.regions().unwrap(), [7]);
     for (name, e) in errors_of_changes(&engine) {
         assert_eq!(e.kind, ErrorKind::InvalidArgument);
         let text = format!("Invalid Argument: {name}: the engine is open for reading alone");
         assert_eq!(e.text, text);
     }
-    assert_eq!(read_region(&engine, 7).unwrap(), expected_records());
+    assert_eq!(region_of(&engine, 7).unwrap(), expected());
     assert_eq!(files.asked(), 0);
     // the tails are cut in memory, and told of
     let stats = engine.stats();
@@ -154,7 +154,7 @@ fn a_folder_stays_as_it_is() {
     let before = files_in(room.path());
     assert_eq!(before.len(), 2);
     let engine = Engine::open_read_only(room.path(), Options::new()).unwrap();
-    assert_eq!(read_region(&engine, 7).unwrap(), expected_records());
+    assert_eq!(region_of(&engine, 7).unwrap(), expected());
     assert_eq!(
         errors_of_changes(&engine)[0].1.kind,
         ErrorKind::InvalidArgument
@@ -240,7 +240,7 @@ fn reads_a_folder_as_another_user() {
     assert_eq!(e.kind, ErrorKind::Io, "{e}");
     assert!(fs::write(folder.join("new"), "").is_err());
     let engine = Engine::open_read_only(folder, Options::new()).unwrap();
-    assert_eq!(read_region(&engine, 7).unwrap(), expected_records());
+    assert_eq!(region_of(&engine, 7).unwrap(), expected());
     println!("read");
 }
 

@@ -34,7 +34,7 @@ struct Tried {
 const HEAD: usize = 16;
 
 /// Returns the layout of a block of `n` bytes with the bytes before it.
-fn block_layout(n: usize) -> Layout {
+fn layout(n: usize) -> Layout {
     Layout::from_size_align(n + HEAD, HEAD).unwrap()
 }
 
@@ -42,7 +42,7 @@ fn block_layout(n: usize) -> Layout {
 /// refusal if `p` is null.
 fn answer_request(p: *mut u8, n: usize) -> Tried {
     if p.is_null() {
-        return refuse_request();
+        return refusal();
     }
     // SAFETY: the block has room for its size in front.
     unsafe {
@@ -58,7 +58,7 @@ fn answer_request(p: *mut u8, n: usize) -> Tried {
 static NOTHING: AtomicU64 = AtomicU64::new(0);
 
 /// Returns the answer that refuses a request.
-fn refuse_request() -> Tried {
+fn refusal() -> Tried {
     Tried {
         ok: false,
         p: NOTHING.as_ptr().cast(),
@@ -74,24 +74,24 @@ fn is_refused() -> bool {
 #[unsafe(no_mangle)]
 extern "C" fn rattle_alloc(n: usize, _a: usize) -> Tried {
     if is_refused() {
-        return refuse_request();
+        return refusal();
     }
     LIVE.fetch_add(1, SeqCst);
     // SAFETY: the layout isn't empty.
-    answer_request(unsafe { alloc(block_layout(n)) }, n)
+    answer_request(unsafe { alloc(layout(n)) }, n)
 }
 
 /// Gives a block of the library another size, unless the request is to be refused.
 #[unsafe(no_mangle)]
 unsafe extern "C" fn rattle_realloc(p: *mut u8, _kept: usize, n: usize, _a: usize) -> Tried {
     if is_refused() {
-        return refuse_request();
+        return refusal();
     }
     // SAFETY: the block came from `answer_request`.
     unsafe {
         let block = p.sub(HEAD);
         let old = block.cast::<usize>().read();
-        answer_request(realloc(block, block_layout(old), n + HEAD), n)
+        answer_request(realloc(block, layout(old), n + HEAD), n)
     }
 }
 
@@ -102,7 +102,7 @@ unsafe extern "C" fn rattle_dealloc(p: *mut u8) {
     // SAFETY: the block came from `answer_request`.
     unsafe {
         let block = p.sub(HEAD);
-        dealloc(block, block_layout(block.cast::<usize>().read()));
+        dealloc(block, layout(block.cast::<usize>().read()));
     }
 }
 
@@ -139,7 +139,7 @@ fn refuse_in_turn<T>(
 }
 
 /// Makes a batch with entries and a key.
-fn batch_with_entries_and_key() -> LogBatch {
+fn batch() -> LogBatch {
     let mut batch = LogBatch::new().unwrap();
     batch.add_entries(7, 10, &["one", "three"]).unwrap();
     batch.put(7, b"key", b"value").unwrap();
@@ -147,7 +147,7 @@ fn batch_with_entries_and_key() -> LogBatch {
 }
 
 /// Makes tables with entries of a region in a queue.
-fn tables_with_entries(queue: Queue) -> Tables {
+fn tables(queue: Queue) -> Tables {
     let mut tables = Tables::new().unwrap();
     tables.append(7, &run(Queue::Append, 1, 1..9)).unwrap();
     if queue == Queue::Rewrite {
@@ -159,18 +159,16 @@ fn tables_with_entries(queue: Queue) -> Tables {
 
 /// Makes batches and items, and drops them at each stage.
 fn batches_and_items() {
-    drop(batch_with_entries_and_key());
-    let mut encoded = batch_with_entries_and_key();
+    drop(batch());
+    let mut encoded = batch();
     encoded.finish().unwrap();
     drop(encoded);
-    let mut merged = batch_with_entries_and_key();
-    merged.merge(&mut batch_with_entries_and_key()).unwrap();
+    let mut merged = batch();
+    merged.merge(&mut batch()).unwrap();
     let bytes = batch_bytes(file(1), |more| merged.merge(more).unwrap());
     assert_eq!(bytes, b"");
     drop(merged.into_items().unwrap());
-    let bytes = batch_bytes(file(1), |more| {
-        more.merge(&mut batch_with_entries_and_key()).unwrap()
-    });
+    let bytes = batch_bytes(file(1), |more| more.merge(&mut batch()).unwrap());
     let part = parts(std::slice::from_ref(&bytes))[0];
     assert_eq!(Batches::new(part).unwrap().count(), 1);
     let items = Batches::new(part).unwrap().next().unwrap().unwrap();
@@ -179,17 +177,11 @@ fn batches_and_items() {
 
 /// Makes tables, slots and contexts, and merges them.
 fn tables_and_contexts() {
-    let mut older = tables_with_entries(Queue::Append);
-    older
-        .merge_newer(tables_with_entries(Queue::Append))
-        .unwrap();
-    let mut rewritten = tables_with_entries(Queue::Rewrite);
-    rewritten
-        .merge_append(tables_with_entries(Queue::Append))
-        .unwrap();
-    rewritten
-        .merge_append(tables_with_entries(Queue::Append))
-        .unwrap_err();
+    let mut older = tables(Queue::Append);
+    older.merge_newer(tables(Queue::Append)).unwrap();
+    let mut rewritten = tables(Queue::Rewrite);
+    rewritten.merge_append(tables(Queue::Append)).unwrap();
+    rewritten.merge_append(tables(Queue::Append)).unwrap_err();
     older.remove(7, true).unwrap();
     drop(older.take_cleaned_logs().unwrap());
     let mut slot = Slot::new(slot_of(7)).unwrap();
@@ -318,9 +310,7 @@ fn engine_run(files: &MemoryFiles, granted: i64, written: &mut u64) -> Result<bo
 #[test]
 fn a_torn_tail_that_is_found_without_memory_is_cut_where_it_begins() {
     let _turn = TURN.lock();
-    let sound = batch_bytes(file(1), |more| {
-        more.merge(&mut batch_with_entries_and_key()).unwrap()
-    });
+    let sound = batch_bytes(file(1), |more| more.merge(&mut batch()).unwrap());
     let torn = [&sound[..], &sound[..], &sound[..20]].concat();
     for granted in 0.. {
         let files = MemoryFiles::found(vec![(1, torn.clone())], vec![(1, vec![])]);
@@ -344,9 +334,7 @@ fn a_torn_tail_that_is_found_without_memory_is_cut_where_it_begins() {
 #[test]
 fn damaged_batches_that_are_found_without_memory_are_all_named_or_nothing_is_opened() {
     let _turn = TURN.lock();
-    let mut one = batch_bytes(file(1), |more| {
-        more.merge(&mut batch_with_entries_and_key()).unwrap()
-    });
+    let mut one = batch_bytes(file(1), |more| more.merge(&mut batch()).unwrap());
     one[16] ^= 1; // the first byte of its entries
     let damaged = one.repeat(3);
     let places = [0, one.len(), 2 * one.len()].map(|at| at as u64);

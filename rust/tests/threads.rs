@@ -31,7 +31,7 @@ unsafe impl GlobalAlloc for Counting {
 static COUNTING: Counting = Counting;
 
 /// Recovers parts, and returns how many requests this thread made meanwhile.
-fn count_requests(parts: &[FilePart<'_>], workers: usize) -> usize {
+fn requests(parts: &[FilePart<'_>], workers: usize) -> usize {
     let before = REQUESTS.get();
     let tables = recover(parts, Queue::Append, workers).unwrap();
     let requests = REQUESTS.get() - before;
@@ -43,8 +43,8 @@ fn count_requests(parts: &[FilePart<'_>], workers: usize) -> usize {
 fn threads_are_started_for_workers_and_not_for_parts() {
     let file = LogFile::new(Queue::Append, 1, Version::V2);
     let parts = vec![FilePart::new(file, &[]); 2_000];
-    let of_few = [0, 1, 2, 8].map(|workers| count_requests(&parts[..8], workers));
-    let of_many = [0, 1, 2, 8].map(|workers| count_requests(&parts, workers));
+    let of_few = [0, 1, 2, 8].map(|workers| requests(&parts[..8], workers));
+    let of_many = [0, 1, 2, 8].map(|workers| requests(&parts, workers));
     assert_eq!(of_few, of_many);
     assert_eq!(of_few[0], of_few[1]);
     assert!(of_few[1] < of_few[2] && of_few[2] < of_few[3], "{of_few:?}");

@@ -10,7 +10,7 @@ use std::thread;
 use std::time::Duration;
 
 /// Returns a batch with an entry of `len` bytes.
-fn batch_with_entry(region: u64, index: u64, len: usize) -> LogBatch {
+fn batch(region: u64, index: u64, len: usize) -> LogBatch {
     let mut batch = LogBatch::new().unwrap();
     batch.add_entries(region, index, &[vec![7; len]]).unwrap();
     batch
@@ -32,7 +32,7 @@ fn writers_get_in_between_while_records_move() {
     let engine = Engine::with_files(hooked, Options::new()).unwrap();
     for region in 0..16 {
         engine
-            .write(&mut batch_with_entry(region, 1, 300 << 10), false)
+            .write(&mut batch(region, 1, 300 << 10), false)
             .unwrap();
     }
     engine.rotate().unwrap();
@@ -45,9 +45,7 @@ fn writers_get_in_between_while_records_move() {
         let mut written = 0;
         while !rewriting.is_finished() {
             written += 1;
-            engine
-                .write(&mut batch_with_entry(100, written, 10), false)
-                .unwrap();
+            engine.write(&mut batch(100, written, 10), false).unwrap();
         }
         written
     });
@@ -77,9 +75,7 @@ fn writers_get_in_between_while_one_region_moves() {
     });
     let engine = Engine::with_files(hooked, Options::new()).unwrap();
     for index in 1..=2048 {
-        engine
-            .write(&mut batch_with_entry(7, index, 1 << 10), false)
-            .unwrap();
+        engine.write(&mut batch(7, index, 1 << 10), false).unwrap();
     }
     engine.rotate().unwrap();
     calls.lock().unwrap().clear();
@@ -98,7 +94,7 @@ fn writers_get_in_between_while_one_region_moves() {
 fn a_batch_moves_that_needs_more_blocks_than_move_in_a_turn() {
     let engine = Engine::with_files(MemoryFiles::new(), Options::new()).unwrap();
     for index in 1..=40 {
-        let mut both = batch_with_entry(7, index, 10);
+        let mut both = batch(7, index, 10);
         both.add_entries(8, index, &[vec![8; 60 << 10]]).unwrap();
         engine.write(&mut both, false).unwrap();
     }
@@ -118,7 +114,7 @@ fn a_reader_of_a_region_that_moves_reads_on() {
     let engine = Engine::with_files(MemoryFiles::new(), Options::new()).unwrap();
     for region in 0..8 {
         engine
-            .write(&mut batch_with_entry(region, 1, 200 << 10), false)
+            .write(&mut batch(region, 1, 200 << 10), false)
             .unwrap();
     }
     engine.rotate().unwrap();

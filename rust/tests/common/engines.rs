@@ -17,7 +17,7 @@ pub fn write<F: Files>(engine: &Engine<F>, fill: impl FnOnce(&mut LogBatch) -> R
 }
 
 /// Returns what was asked of files behind the first `before` asks, as words, without the bytes.
-pub fn words_of_asks_since(files: &MemoryFiles, before: usize) -> Vec<String> {
+pub fn asked_since(files: &MemoryFiles, before: usize) -> Vec<String> {
     let asks = files.asks();
     let shown = asks[before..].iter().map(|ask| match ask {
         Ask::Write(file, _) => format!("write {file}"),

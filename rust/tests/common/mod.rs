@@ -91,7 +91,7 @@ pub fn batch_bytes(file: LogFile, add: impl FnOnce(&mut LogBatch)) -> Vec<u8> {
 
 /// Makes a group marker of the key `__\x02` in a batch: returns its bytes with the key `__\x01` instead. Its last four bytes are
 /// the CRC-32 of its items, combined with the signature by exclusive or; so they change by as much as the CRC-32 does.
-pub fn bytes_with_group_marker(mut bytes: Vec<u8>) -> Vec<u8> {
+pub fn with_group_marker(mut bytes: Vec<u8>) -> Vec<u8> {
     let items = u64::from_be_bytes(bytes[8..16].try_into().unwrap()) as usize;
     let end = bytes.len() - 4;
     let before = crc32(&bytes[items..end]);

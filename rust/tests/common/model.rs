@@ -21,7 +21,7 @@ impl Draw {
     }
 
     /// Draws any number of 64 bits.
-    fn draw_u64(&mut self) -> u64 {
+    fn next(&mut self) -> u64 {
         self.0 = self.0.wrapping_add(0x9e37_79b9_7f4a_7c15);
         let mut z = self.0;
         z = (z ^ (z >> 30)).wrapping_mul(0xbf58_476d_1ce4_e5b9);
@@ -30,19 +30,19 @@ impl Draw {
     }
 
     /// Draws a number below `end`.
-    pub fn draw_below(&mut self, end: usize) -> usize {
-        (self.draw_u64() % end as u64) as usize
+    pub fn below(&mut self, end: usize) -> usize {
+        (self.next() % end as u64) as usize
     }
 
     /// Draws whether to do something: true once in `n` times on average.
-    pub fn draw_one_in(&mut self, n: usize) -> bool {
-        self.draw_below(n) == 0
+    pub fn once_in(&mut self, n: usize) -> bool {
+        self.below(n) == 0
     }
 
     /// Draws up to 23 bytes.
-    pub fn draw_bytes(&mut self) -> Vec<u8> {
-        let len = self.draw_below(24);
-        let word = self.draw_u64().to_le_bytes();
+    pub fn bytes(&mut self) -> Vec<u8> {
+        let len = self.below(24);
+        let word = self.next().to_le_bytes();
         word.into_iter().cycle().take(len).collect()
     }
 }
@@ -70,29 +70,27 @@ impl Change {
     pub fn draw(draw: &mut Draw, region: &Region) -> Change {
         let first = region.entries.keys().next().copied();
         let last = region.entries.keys().next_back().copied();
-        let key = |draw: &mut Draw| KEYS[draw.draw_below(KEYS.len())].to_vec();
+        let key = |draw: &mut Draw| KEYS[draw.below(KEYS.len())].to_vec();
         let within = |draw: &mut Draw, more: u64| match (first, last) {
-            (Some(first), Some(last)) => {
-                first + draw.draw_below((last - first + more) as usize) as u64
-            }
-            _ => 1 + draw.draw_below(20) as u64,
+            (Some(first), Some(last)) => first + draw.below((last - first + more) as usize) as u64,
+            _ => 1 + draw.below(20) as u64,
         };
-        match draw.draw_below(12) {
+        match draw.below(12) {
             0..=4 => {
                 let at_end = last.map_or(5, |last| last + 1);
-                let first = if draw.draw_one_in(3) {
+                let first = if draw.once_in(3) {
                     within(draw, 2)
                 } else {
                     at_end
                 };
-                let count = 1 + draw.draw_below(3);
-                Change::Entries(first, (0..count).map(|_| draw.draw_bytes()).collect())
+                let count = 1 + draw.below(3);
+                Change::Entries(first, (0..count).map(|_| draw.bytes()).collect())
             }
             5 | 6 => Change::Compact(within(draw, 3)),
             7 => Change::Truncate(within(draw, 2)),
-            8 if draw.draw_one_in(2) => Change::Clean,
+            8 if draw.once_in(2) => Change::Clean,
             9 => Change::Delete(key(draw)),
-            _ => Change::Put(key(draw), draw.draw_bytes()),
+            _ => Change::Put(key(draw), draw.bytes()),
         }
     }
 
@@ -127,7 +125,7 @@ impl Change {
 }
 
 /// Reads all that an engine has of a region.
-pub fn read_region<F: Files>(engine: &Engine<F>, id: u64) -> Result<Region> {
+pub fn region_of<F: Files>(engine: &Engine<F>, id: u64) -> Result<Region> {
     let read = engine.entries(id, ..)?;
     let entries = (read.index().unwrap_or(0)..).zip(read).collect();
     let mut keys = BTreeMap::new();

@@ -22,7 +22,7 @@ pub fn other(region: u64) -> u64 {
 
 /// Makes tables of 600 regions with entries and a key. Each seventh was cleaned before, and each second has entries in the
 /// rewrite queue. Region 700 is listed as cleaned twice.
-pub fn new_many_tables() -> Tables {
+pub fn many_tables() -> Tables {
     let mut tables = Tables::new().unwrap();
     for region in 0..600 {
         if region % 7 == 0 {

@@ -181,22 +181,22 @@ fn a_written_batch_has_no_items_and_those_that_come_are_counted_anew() {
 
 /// Draws changes of regions, some of which don't fit.
 fn draw_changes(draw: &mut Draw) -> Vec<(u64, Change)> {
-    let count = 1 + draw.draw_below(8);
+    let count = 1 + draw.below(8);
     let change = |draw: &mut Draw| {
         let mut region = Region::default();
-        if draw.draw_one_in(2) {
-            let first = 1 + draw.draw_below(6) as u64;
+        if draw.once_in(2) {
+            let first = 1 + draw.below(6) as u64;
             region
                 .entries
                 .extend((first..first + 4).map(|i| (i, vec![])));
         }
-        (REGIONS[draw.draw_below(3)], Change::draw(draw, &region))
+        (REGIONS[draw.below(3)], Change::draw(draw, &region))
     };
     (0..count).map(|_| change(draw)).collect()
 }
 
 /// Returns a batch with changes of regions.
-fn batch_with_changes(changes: &[(u64, Change)]) -> LogBatch {
+fn batch_of(changes: &[(u64, Change)]) -> LogBatch {
     let mut batch = LogBatch::new().unwrap();
     for (region, change) in changes {
         change.add(*region, &mut batch).unwrap();
@@ -211,14 +211,14 @@ fn all_items_before_the_named_one_fit_and_it_doesnt() {
     for _ in 0..3000 {
         let mut tables = Tables::new().unwrap();
         for region in REGIONS {
-            if draw.draw_one_in(2) {
-                let first = 1 + draw.draw_below(5) as u64;
+            if draw.once_in(2) {
+                let first = 1 + draw.below(5) as u64;
                 let entries = run(Queue::Append, 1, first..first + 4);
                 tables.append(region, &entries).unwrap();
             }
         }
         let changes = draw_changes(&mut draw);
-        let batch = batch_with_changes(&changes);
+        let batch = batch_of(&changes);
         assert_eq!(batch.len(), changes.len());
         let Err(e) = tables.check_append(&batch) else {
             continue;
@@ -230,10 +230,8 @@ fn all_items_before_the_named_one_fit_and_it_doesnt() {
             panic!("item {item} has no entries: {e}")
         };
         assert_eq!((e.region, e.index), (Some(*region), Some(*first)));
-        tables
-            .check_append(&batch_with_changes(&changes[..item]))
-            .unwrap();
-        let same = tables.check_append(&batch_with_changes(&changes[..=item]));
+        tables.check_append(&batch_of(&changes[..item])).unwrap();
+        let same = tables.check_append(&batch_of(&changes[..=item]));
         assert_eq!(same, Err(e));
     }
     assert!(refused > 300, "{refused}");

@@ -13,7 +13,7 @@ const APPEND_3: FileId = FileId {
 };
 
 /// Makes an open batch with an item of each kind.
-fn batch_of_each_kind() -> LogBatch {
+fn batch() -> LogBatch {
     let mut batch = LogBatch::new().unwrap();
     batch.add_entries(7, 10, &["one", "", "three"]).unwrap();
     batch.put(7, b"key", b"value").unwrap();
@@ -25,7 +25,7 @@ fn batch_of_each_kind() -> LogBatch {
 }
 
 /// Returns the items that this batch has once it is in file 3 of the append queue, with its entry block at `offset`.
-fn items_in_file_3(offset: u64) -> Vec<Item> {
+fn items(offset: u64) -> Vec<Item> {
     let entry = |index, entry_offset, len| Entry {
         index,
         block: Block {
@@ -57,7 +57,7 @@ fn items_in_file_3(offset: u64) -> Vec<Item> {
 }
 
 /// Makes the bytes of a batch, signs them for that file, and returns them.
-fn seal_for_file_3(batch: &mut LogBatch) -> Vec<u8> {
+fn seal(batch: &mut LogBatch) -> Vec<u8> {
     batch.finish().unwrap();
     batch.sign(file(3)).unwrap();
     batch.bytes().unwrap()
@@ -65,7 +65,7 @@ fn seal_for_file_3(batch: &mut LogBatch) -> Vec<u8> {
 
 #[test]
 fn what_is_written_is_read_again() {
-    let mut batch = batch_of_each_kind();
+    let mut batch = batch();
     assert!(batch.approximate_size() > 0);
     let len = batch.finish().unwrap();
     batch.sign(file(3)).unwrap();
@@ -79,17 +79,17 @@ fn what_is_written_is_read_again() {
     };
     let read: Vec<_> = Batches::new(part).unwrap().map(Result::unwrap).collect();
     assert_eq!(read.len(), 1);
-    assert_eq!(read[0].iter().collect::<Vec<_>>(), items_in_file_3(100));
+    assert_eq!(read[0].iter().collect::<Vec<_>>(), items(100));
     batch.written(APPEND_3, 100).unwrap();
     let written = batch.into_items().unwrap();
-    assert_eq!(written.iter().collect::<Vec<_>>(), items_in_file_3(100));
+    assert_eq!(written.iter().collect::<Vec<_>>(), items(100));
 }
 
 #[test]
 fn the_bytes_of_entries_stand_at_their_places() {
-    let mut batch = batch_of_each_kind();
+    let mut batch = batch();
     let mut file = vec![0; 100];
-    file.extend(seal_for_file_3(&mut batch));
+    file.extend(seal(&mut batch));
     batch.written(APPEND_3, 100).unwrap();
     let Content::Entries(entries) = batch.into_items().unwrap().get(0).unwrap().content else {
         panic!("the first item has entries");
@@ -109,8 +109,8 @@ fn the_bytes_of_entries_stand_at_their_places() {
 #[test]
 fn places_are_in_the_queue_that_a_batch_is_written_to() {
     for queue in [Queue::Append, Queue::Rewrite] {
-        let mut batch = batch_of_each_kind();
-        seal_for_file_3(&mut batch);
+        let mut batch = batch();
+        seal(&mut batch);
         batch.sign(LogFile { queue, ..file(3) }).unwrap();
         batch.written(FileId { queue, seq: 3 }, 0).unwrap();
         let items = batch.into_items().unwrap();
@@ -123,8 +123,8 @@ fn places_are_in_the_queue_that_a_batch_is_written_to() {
 
 #[test]
 fn a_batch_is_signed_for_one_file_after_another() {
-    let mut batch = batch_of_each_kind();
-    let bytes = seal_for_file_3(&mut batch);
+    let mut batch = batch();
+    let bytes = seal(&mut batch);
     batch.sign(file(4)).unwrap();
     let others = batch.bytes().unwrap();
     assert_eq!(bytes.len(), others.len());
@@ -142,8 +142,8 @@ fn a_batch_is_signed_for_one_file_after_another() {
 
 #[test]
 fn a_batch_is_written_to_the_file_that_it_is_signed_for() {
-    let mut batch = batch_of_each_kind();
-    seal_for_file_3(&mut batch);
+    let mut batch = batch();
+    seal(&mut batch);
     let rewrite_3 = FileId::new(Queue::Rewrite, 3);
     let append_4 = FileId::new(Queue::Append, 4);
     for other in [rewrite_3, append_4] {
@@ -164,7 +164,7 @@ fn a_batch_is_written_to_the_file_that_it_is_signed_for() {
 fn entries_without_bytes_have_a_block_without_bytes() {
     let mut batch = LogBatch::new().unwrap();
     batch.add_entries(7, 1, &["", ""]).unwrap();
-    seal_for_file_3(&mut batch);
+    seal(&mut batch);
     batch.written(APPEND_3, 100).unwrap();
     let Content::Entries(entries) = batch.into_items().unwrap().get(0).unwrap().content else {
         panic!("the first item has entries");
@@ -187,10 +187,10 @@ fn a_batch_without_items_has_no_bytes() {
 
 #[test]
 fn batches_are_merged() {
-    let (mut first, mut more) = (batch_of_each_kind(), batch_of_each_kind());
+    let (mut first, mut more) = (batch(), batch());
     first.merge(&mut more).unwrap();
     assert!(more.into_items().unwrap().is_empty());
-    seal_for_file_3(&mut first);
+    seal(&mut first);
     first.written(APPEND_3, 0).unwrap();
     let items = first.into_items().unwrap();
     assert_eq!(items.len(), 12);
@@ -205,7 +205,7 @@ fn batches_are_merged() {
 
 #[test]
 fn nothing_is_added_once_the_bytes_are_made() {
-    let mut batch = batch_of_each_kind();
+    let mut batch = batch();
     assert_eq!(batch.stage(), Stage::Open);
     batch.finish().unwrap();
     assert_eq!(batch.stage(), Stage::Encoded);
@@ -231,7 +231,7 @@ fn nothing_is_added_once_the_bytes_are_made() {
 
 #[test]
 fn bytes_are_signed_before_they_are_written() {
-    let mut batch = batch_of_each_kind();
+    let mut batch = batch();
     let invalid = ErrorKind::InvalidArgument;
     assert_eq!(batch.sign(file(3)).unwrap_err().kind, invalid);
     batch.finish().unwrap();
@@ -261,9 +261,9 @@ fn the_last_index_is_kept_free_and_group_markers_are_no_keys() {
 #[test]
 fn written_batches_are_checked_and_applied() {
     let mut tables = Tables::new().unwrap();
-    let mut batch = batch_of_each_kind();
+    let mut batch = batch();
     tables.check_append(&batch).unwrap();
-    seal_for_file_3(&mut batch);
+    seal(&mut batch);
     batch.written(APPEND_3, 0).unwrap();
     tables.check_append(&batch).unwrap();
     tables.apply_append(batch.into_items().unwrap()).unwrap();
@@ -328,9 +328,9 @@ fn all_keys_of_a_region_are_walked() {
 
 #[test]
 fn a_batch_moves_to_another_thread() {
-    let mut batch = batch_of_each_kind();
+    let mut batch = batch();
     let batch = thread::spawn(move || {
-        seal_for_file_3(&mut batch);
+        seal(&mut batch);
         batch
     });
     assert_eq!(batch.join().unwrap().stage(), Stage::Signed);

@@ -3,7 +3,7 @@
 //! its last batch.
 
 use crate::common::engines::write;
-use crate::common::model::{Region, read_region};
+use crate::common::model::{Region, region_of};
 use raft_recover::{
     Engine, Error, ErrorKind, FileId, LogBatch, MemoryFiles, Options, Queue, Result,
 };
@@ -11,7 +11,7 @@ use raft_recover::{
 const FIRST: FileId = FileId::new(Queue::Append, 1);
 
 /// Returns the files of an engine as ones that are found, with one change.
-fn files_with_change(
+fn with_change(
     files: &MemoryFiles,
     change: impl FnOnce(&mut [Vec<(u64, Vec<u8>)>; 2]),
 ) -> MemoryFiles {
@@ -50,7 +50,7 @@ fn assert_refused(found: MemoryFiles, file: FileId, offset: u64, reason: &str) {
 fn a_changed_bit_among_3_050_synced_entries_is_refused_by_its_place() {
     let files = file_of_entries(3050);
     let with_bit =
-        |at: usize, bit: u8| files_with_change(&files, |[append, _]| append[0].1[at] ^= 1 << bit);
+        |at: usize, bit: u8| with_change(&files, |[append, _]| append[0].1[at] ^= 1 << bit);
     let reason =
         |at: u64| format!("no batch can be read there, but one stands behind it, at offset {at}");
     // of the first batch, which has 37 bytes, the length
@@ -61,7 +61,7 @@ fn a_changed_bit_among_3_050_synced_entries_is_refused_by_its_place() {
 
 #[test]
 fn a_file_of_3_050_synced_entries_that_gets_another_number_is_refused() {
-    let found = files_with_change(&file_of_entries(3050), |[append, _]| append[0].0 = 2);
+    let found = with_change(&file_of_entries(3050), |[append, _]| append[0].0 = 2);
     let reason = "no batch can be read there, but at offset 0 one stands that is signed for file 1";
     assert_refused(found, FileId::new(Queue::Append, 2), 0, reason);
 }
@@ -83,7 +83,7 @@ fn seven_files() -> MemoryFiles {
 
 #[test]
 fn of_seven_files_two_that_are_gone_are_missed() {
-    let found = files_with_change(&seven_files(), |[append, _]| {
+    let found = with_change(&seven_files(), |[append, _]| {
         append.retain(|(seq, _)| ![3, 6].contains(seq))
     });
     let third = FileId::new(Queue::Append, 3);
@@ -92,21 +92,21 @@ fn of_seven_files_two_that_are_gone_are_missed() {
 
 #[test]
 fn that_the_last_files_of_a_queue_are_gone_cant_be_seen() -> Result<()> {
-    let found = files_with_change(&seven_files(), |[append, _]| append.truncate(5));
+    let found = with_change(&seven_files(), |[append, _]| append.truncate(5));
     let engine = Engine::with_files(found, Options::new())?;
     assert_eq!(engine.recovered().cuts().count(), 0);
     assert_eq!(engine.last_index(7)?, Some(5));
     assert_eq!(engine.get(7, b"vote")?.unwrap(), 5_u64.to_le_bytes());
     // and of the rewrite queue
     let files = moved_files()?;
-    let found = files_with_change(&files, |[_, rewrite]| rewrite.clear());
+    let found = with_change(&files, |[_, rewrite]| rewrite.clear());
     let engine = Engine::with_files(found, Options::new())?;
     assert_eq!(engine.recovered().cuts().count(), 0);
-    let left = records_of_three_regions(&engine)?;
+    let left = records(&engine)?;
     assert_eq!(left[..2], [Region::default(), Region::default()]);
     assert_eq!(
         left[2],
-        records_of_three_regions(&Engine::with_files(files, Options::new())?)?[2]
+        records(&Engine::with_files(files, Options::new())?)?[2]
     );
     Ok(())
 }
@@ -131,8 +131,8 @@ fn moved_files() -> Result<MemoryFiles> {
 }
 
 /// Returns what an engine has of the regions 1 to 3.
-fn records_of_three_regions(engine: &Engine<MemoryFiles>) -> Result<Vec<Region>> {
-    (1..=3).map(|id| read_region(engine, id)).collect()
+fn records(engine: &Engine<MemoryFiles>) -> Result<Vec<Region>> {
+    (1..=3).map(|id| region_of(engine, id)).collect()
 }
 
 #[test]
@@ -144,18 +144,18 @@ fn each_bit_of_the_last_rewrite_file_is_refused_or_told() -> Result<()> {
     };
     let (file, last) = (FileId::new(Queue::Rewrite, *seq), last_batch_start(bytes));
     assert!(0 < last);
-    let cut = files_with_change(&files, |[_, rewrite]| rewrite[0].1.truncate(last));
-    let before_last = records_of_three_regions(&Engine::with_files(cut, Options::new())?)?;
+    let cut = with_change(&files, |[_, rewrite]| rewrite[0].1.truncate(last));
+    let before_last = records(&Engine::with_files(cut, Options::new())?)?;
     let mut outcomes = [0; 2];
     for at in 0..bytes.len() {
         for bit in 0..8 {
-            let found = files_with_change(&files, |[_, rewrite]| rewrite[0].1[at] ^= 1 << bit);
+            let found = with_change(&files, |[_, rewrite]| rewrite[0].1[at] ^= 1 << bit);
             match Engine::with_files(found, Options::new()) {
                 Ok(engine) => {
                     let cut = engine.recovered().rewrite.as_ref().unwrap();
                     let len = (bytes.len() - last) as u64;
                     assert_eq!((cut.file, cut.offset, cut.len), (file, last as u64, len));
-                    assert_eq!(records_of_three_regions(&engine)?, before_last);
+                    assert_eq!(records(&engine)?, before_last);
                     assert!(at >= last, "byte {at}");
                     outcomes[1] += 1;
                 }
@@ -190,10 +190,10 @@ fn three_hundred_restarts_with_a_write_each_grow_by_these_writes() -> Result<()>
         batch.add_entries(7, index, &[[7; 100]])?;
         engine.write(&mut batch, true)?;
         written = engine.stats().append.bytes;
-        let entries = read_region(&engine, 7)?.entries;
+        let entries = region_of(&engine, 7)?.entries;
         assert!(entries.keys().copied().eq(1..=index));
         drop(engine);
-        found = files_with_change(&found, |_| ());
+        found = with_change(&found, |_| ());
     }
     let held = [Queue::Append, Queue::Rewrite].map(|queue| found.files(queue));
     let bytes = held.map(|held| held.iter().map(|(_, bytes)| bytes.len()).sum::<usize>());

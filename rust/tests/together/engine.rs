@@ -1,8 +1,8 @@
 //! Tests what an engine over files in memory and in a folder writes, reads and refuses.
 
 use crate::common::TempFolder;
-use crate::common::engines::{engine, words_of_asks_since, write};
-use crate::common::model::read_region;
+use crate::common::engines::{asked_since, engine, write};
+use crate::common::model::region_of;
 use raft_recover::{
     Engine, Entries, Error, ErrorKind, FileId, LogBatch, MemoryFiles, Options, Queue, Result,
     Version, batch_len,
@@ -12,7 +12,7 @@ use std::ops::Bound;
 const FIRST: FileId = FileId::new(Queue::Append, 1);
 
 /// Returns entries as texts.
-fn entries_as_texts(entries: Result<Entries>) -> Vec<String> {
+fn texts(entries: Result<Entries>) -> Vec<String> {
     let texts = entries.unwrap().map(String::from_utf8);
     texts.collect::<std::result::Result<_, _>>().unwrap()
 }
@@ -33,7 +33,7 @@ fn what_is_written_is_found_again() {
         write(&engine, |batch| batch.compact(7, 2));
         drop(engine);
         let engine = open(version).unwrap();
-        assert_eq!(entries_as_texts(engine.entries(7, ..)), ["", "three"]);
+        assert_eq!(texts(engine.entries(7, ..)), ["", "three"]);
         assert_eq!(engine.entry(8, 5).unwrap().unwrap(), b"five");
         assert_eq!(engine.entry(8, 6).unwrap(), None);
         assert_eq!(engine.get(7, b"key").unwrap().unwrap(), b"value");
@@ -87,14 +87,10 @@ fn entries_are_read_by_ranges() {
         ((Bound::Excluded(u64::MAX), Bound::Included(u64::MAX)), &[]),
     ];
     for (range, expected) in rows {
-        assert_eq!(
-            entries_as_texts(engine.entries(7, range)),
-            expected,
-            "{range:?}"
-        );
+        assert_eq!(texts(engine.entries(7, range)), expected, "{range:?}");
     }
-    assert_eq!(entries_as_texts(engine.entries(9, ..)), [""; 0]);
-    assert_eq!(entries_as_texts(engine.entries(9, 4..)), [""; 0]);
+    assert_eq!(texts(engine.entries(9, ..)), [""; 0]);
+    assert_eq!(texts(engine.entries(9, 4..)), [""; 0]);
 }
 
 #[test]
@@ -142,8 +138,8 @@ fn an_entry_of_index_0_is_the_first_and_the_last_one() {
     write(&engine, |batch| batch.add_entries(7, 0, &["none before"]));
     assert_eq!(engine.first_index(7).unwrap(), Some(0));
     assert_eq!(engine.last_index(7).unwrap(), Some(0));
-    assert_eq!(entries_as_texts(engine.entries(7, ..)), ["none before"]);
-    assert_eq!(entries_as_texts(engine.entries(7, 0..=0)), ["none before"]);
+    assert_eq!(texts(engine.entries(7, ..)), ["none before"]);
+    assert_eq!(texts(engine.entries(7, 0..=0)), ["none before"]);
 }
 
 #[test]
@@ -154,9 +150,9 @@ fn blocks_at_the_same_offset_of_several_files_are_told_apart() {
         engine.rotate().unwrap();
         assert_eq!(engine.entries(7, ..).unwrap().len() as u64, index);
     }
-    assert_eq!(entries_as_texts(engine.entries(7, ..)), ["a", "b", "c"]);
+    assert_eq!(texts(engine.entries(7, ..)), ["a", "b", "c"]);
     engine.rewrite(1).unwrap();
-    assert_eq!(entries_as_texts(engine.entries(7, ..)), ["a", "b", "c"]);
+    assert_eq!(texts(engine.entries(7, ..)), ["a", "b", "c"]);
 }
 
 #[test]
@@ -168,7 +164,7 @@ fn read_entries_are_an_iterator_from_both_ends() {
     let mut entries = engine.entries(7, 2..).unwrap();
     assert_eq!((entries.len(), entries.index()), (3, Some(2)));
     assert_eq!(entries.next_back().unwrap(), b"4");
-    assert_eq!(entries_as_texts(Ok(entries.clone())), ["2", "3"]);
+    assert_eq!(texts(Ok(entries.clone())), ["2", "3"]);
     assert_eq!(entries.nth(1).unwrap(), b"3");
     assert_eq!(
         (entries.next(), entries.next_back(), entries.index()),
@@ -197,10 +193,7 @@ fn a_refused_batch_stays_as_it_was_and_the_engine_goes_on() {
     assert_eq!(engine.files().asked(), asked);
     write(&engine, |batch| batch.add_entries(7, 3, &["3"]));
     engine.write(&mut batch, true).unwrap();
-    assert_eq!(
-        entries_as_texts(engine.entries(7, ..)),
-        ["1", "2", "3", "4"]
-    );
+    assert_eq!(texts(engine.entries(7, ..)), ["1", "2", "3", "4"]);
     assert_eq!(engine.get(8, b"key").unwrap().unwrap(), b"value");
     assert_eq!(engine.stats().batches, 3);
 
@@ -236,7 +229,7 @@ fn a_sync_is_asked_where_it_is_wanted() {
             batch.put(7, b"key", b"value").unwrap();
         }
         engine.write(&mut batch, sync).unwrap();
-        words_of_asks_since(engine.files(), before)
+        asked_since(engine.files(), before)
     };
     assert_eq!(asked(false, 1), ["write append file 1"]);
     assert_eq!(asked(true, 1), ["write append file 1", "sync append"]);
@@ -244,7 +237,7 @@ fn a_sync_is_asked_where_it_is_wanted() {
     assert_eq!(asked(true, 0), ["sync append"]);
     let before = engine.files().asked();
     engine.sync().unwrap();
-    assert_eq!(words_of_asks_since(engine.files(), before), ["sync append"]);
+    assert_eq!(asked_since(engine.files(), before), ["sync append"]);
 }
 
 #[test]
@@ -294,7 +287,7 @@ fn files_are_begun_where_the_last_one_is_long_enough() {
     engine.rotate().unwrap();
     let begun = format!("begin append file {}", last.0 + 1);
     assert_eq!(
-        words_of_asks_since(engine.files(), before),
+        asked_since(engine.files(), before),
         ["sync append".to_owned(), begun]
     );
 }
@@ -397,7 +390,7 @@ fn damaged_bytes_that_are_to_move_again_are_told_by_file_and_offset() {
     assert_eq!((unmoved.file, unmoved.offset), (told.file, told.offset));
     write(&engine, |batch| batch.clean(8));
     write(&engine, |batch| batch.add_entries(7, 2, &["sound too"]));
-    assert_eq!(entries_as_texts(engine.entries(7, 2..)), ["sound too"]);
+    assert_eq!(texts(engine.entries(7, 2..)), ["sound too"]);
 }
 
 #[test]
@@ -472,7 +465,7 @@ fn a_torn_tail_is_cut_wherever_it_was_torn() {
         assert_eq!(engine.get(7, b"key").unwrap().unwrap(), b"value");
         assert_eq!(engine.entries(7, ..).unwrap().len(), 0);
         write(&engine, |batch| batch.add_entries(7, 5, &["behind"]));
-        assert_eq!(entries_as_texts(engine.entries(7, ..)), ["behind"]);
+        assert_eq!(texts(engine.entries(7, ..)), ["behind"]);
     }
 }
 
@@ -492,7 +485,7 @@ fn recovery_gives_the_same_on_each_number_of_threads() {
     let files = |queue| engine.files().files(queue);
     let all = |engine: &Engine<MemoryFiles>| {
         let regions = engine.regions().unwrap();
-        let read = |id: &u64| read_region(engine, *id).unwrap();
+        let read = |id: &u64| region_of(engine, *id).unwrap();
         regions.iter().map(read).collect::<Vec<_>>()
     };
     for threads in [0, 1, 2, 3, 8, 64] {

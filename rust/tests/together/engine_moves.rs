@@ -1,7 +1,7 @@
 //! Tests how an engine moves records and deletes files.
 
-use crate::common::engines::{engine, words_of_asks_since, write};
-use crate::common::model::read_region;
+use crate::common::engines::{asked_since, engine, write};
+use crate::common::model::region_of;
 use crate::common::{batch_bytes, file};
 use raft_recover::{Ask, Engine, MemoryFiles, Options, Queue};
 
@@ -18,10 +18,10 @@ fn records_move_and_files_go() {
         });
     }
     write(&engine, |batch| batch.compact(7, 11));
-    let expected = [7, 8].map(|region| read_region(&engine, region).unwrap());
+    let expected = [7, 8].map(|region| region_of(&engine, region).unwrap());
     let same = |engine: &Engine<MemoryFiles>| {
         assert_eq!(
-            [7, 8].map(|region| read_region(engine, region).unwrap()),
+            [7, 8].map(|region| region_of(engine, region).unwrap()),
             expected
         );
     };
@@ -59,9 +59,9 @@ fn a_large_region_moves_again_in_a_group_of_batches() {
         write(&engine, |batch| batch.add_entries(7, index, &[entry]));
     }
     write(&engine, |batch| batch.put(7, b"a", b"value"));
-    let expected = read_region(&engine, 7).unwrap();
+    let expected = region_of(&engine, 7).unwrap();
     let same = |engine: &Engine<MemoryFiles>| {
-        assert_eq!(read_region(engine, 7).unwrap(), expected);
+        assert_eq!(region_of(engine, 7).unwrap(), expected);
         assert_eq!(engine.stats().rewrite.records, 6);
     };
     engine.rotate().unwrap();
@@ -128,10 +128,10 @@ fn a_gate_behind_the_last_file_is_that_file() {
         engine.rotate().unwrap();
         assert_eq!(engine.purge().unwrap().append_files, 1);
     }
-    let expected = read_region(&engine, 7).unwrap();
+    let expected = region_of(&engine, 7).unwrap();
     let left = files.left(files.asked(), Default::default(), Default::default());
     let opened = Engine::with_files(left, Options::new()).unwrap();
-    assert_eq!(read_region(&opened, 7).unwrap(), expected);
+    assert_eq!(region_of(&opened, 7).unwrap(), expected);
 }
 
 #[test]
@@ -143,7 +143,7 @@ fn small_regions_move_all_at_once() {
     engine.rotate().unwrap();
     let before = engine.files().asked();
     engine.rewrite(1).unwrap();
-    let asked = words_of_asks_since(engine.files(), before);
+    let asked = asked_since(engine.files(), before);
     assert_eq!(asked, ["sync append", "write rewrite file 1"]);
 }
 

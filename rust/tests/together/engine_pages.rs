@@ -8,7 +8,7 @@ use raft_recover::{Ask, Engine, ErrorKind, FileId, MemoryFiles, Options, Queue, 
 use std::fs;
 
 /// Returns the bytes of the entry of a region: `len` bytes, none of which is 0.
-fn entry_bytes(region: u64, len: usize) -> Vec<u8> {
+fn entry(region: u64, len: usize) -> Vec<u8> {
     vec![region as u8; len]
 }
 
@@ -19,7 +19,7 @@ fn moved_engine(regions: u64, entries: usize, len: usize) -> Engine<MemoryFiles>
     let engine = Engine::with_files(MemoryFiles::new(), options).unwrap();
     for region in 1..=regions {
         write(&engine, |batch| {
-            batch.add_entries(region, 1, &vec![entry_bytes(region, len); entries])
+            batch.add_entries(region, 1, &vec![entry(region, len); entries])
         });
     }
     engine.sync().unwrap();
@@ -32,7 +32,7 @@ fn moved_engine(regions: u64, entries: usize, len: usize) -> Engine<MemoryFiles>
 /// Has a purge move records once more, and returns the files that a crash leaves once all of these records are written and before
 /// they are synced. In the last rewrite file the pages of one block are zeros: those of the first block of a batch, if
 /// `is_first`, else those of its last one. All other bytes are there.
-fn files_left_in_purge(engine: &Engine<MemoryFiles>, is_first: bool) -> MemoryFiles {
+fn left_in_purge(engine: &Engine<MemoryFiles>, is_first: bool) -> MemoryFiles {
     let files = engine.files();
     engine.purge().unwrap();
     let asks = files.asks();
@@ -54,7 +54,7 @@ fn files_left_in_purge(engine: &Engine<MemoryFiles>, is_first: bool) -> MemoryFi
         last.len() + 1,
         "the file was begun since the last sync"
     );
-    let blocks = entry_blocks(last);
+    let blocks = blocks_of(last);
     let lost = if is_first {
         blocks[0].clone()
     } else {
@@ -66,7 +66,7 @@ fn files_left_in_purge(engine: &Engine<MemoryFiles>, is_first: bool) -> MemoryFi
 
 /// Returns where the entries stand in the batches of a file: behind the 16 bytes of the header, up to the checksum before the
 /// items. The first seven bytes of the header are the length of the batch, the last eight the offset of its items.
-fn entry_blocks(bytes: &[u8]) -> Vec<std::ops::Range<usize>> {
+fn blocks_of(bytes: &[u8]) -> Vec<std::ops::Range<usize>> {
     let (mut blocks, mut at) = (Vec::new(), 0);
     while at < bytes.len() {
         let number = |from: usize| u64::from_be_bytes(bytes[from..from + 8].try_into().unwrap());
@@ -81,7 +81,7 @@ fn entry_blocks(bytes: &[u8]) -> Vec<std::ops::Range<usize>> {
 
 /// Tests that an opening of files that a crash left refuses them with a place, or finds all entries; and that these are there
 /// after the next purge.
-fn assert_refused_or_kept(left: MemoryFiles, regions: u64, entries: u64, len: usize) {
+fn assert_kept(left: MemoryFiles, regions: u64, entries: u64, len: usize) {
     let opened = match Engine::with_files(left, Options::new()) {
         Ok(opened) => opened,
         Err(e) => return assert!(e.file.is_some() && e.offset.is_some(), "{e}"),
@@ -94,7 +94,7 @@ fn assert_refused_or_kept(left: MemoryFiles, regions: u64, entries: u64, len: us
             for index in 1..=entries {
                 let read = opened.entry(region, index);
                 let read = read.map_err(|e| panic!("region {region}, entry {index}: {e}"));
-                assert_eq!(read.unwrap().unwrap(), entry_bytes(region, len));
+                assert_eq!(read.unwrap().unwrap(), entry(region, len));
             }
         }
     }
@@ -102,61 +102,34 @@ fn assert_refused_or_kept(left: MemoryFiles, regions: u64, entries: u64, len: us
 
 #[test]
 fn an_entry_stays_that_was_moving_again_when_the_machine_stopped() {
-    assert_refused_or_kept(
-        files_left_in_purge(&moved_engine(1, 1, 100), true),
-        1,
-        1,
-        100,
-    );
+    assert_kept(left_in_purge(&moved_engine(1, 1, 100), true), 1, 1, 100);
 }
 
 #[test]
-fn an_entry_stays_where_another_region_moved_behind_it() {
-    assert_refused_or_kept(
-        files_left_in_purge(&moved_engine(2, 1, 100), true),
-        2,
-        1,
-        100,
-    );
-    assert_refused_or_kept(
-        files_left_in_purge(&moved_engine(2, 1, 100), false),
-        2,
-        1,
-        100,
-    );
+fn so_it_does_where_another_region_moved_behind_it() {
+    assert_kept(left_in_purge(&moved_engine(2, 1, 100), true), 2, 1, 100);
+    assert_kept(left_in_purge(&moved_engine(2, 1, 100), false), 2, 1, 100);
 }
 
 #[test]
-fn an_entry_stays_where_its_region_moved_in_a_group() {
+fn so_it_does_where_a_region_moved_in_a_group() {
     const LEN: usize = 100 << 10;
-    assert_refused_or_kept(
-        files_left_in_purge(&moved_engine(1, 3, LEN), true),
-        1,
-        3,
-        LEN,
-    );
-    assert_refused_or_kept(
-        files_left_in_purge(&moved_engine(1, 3, LEN), false),
-        1,
-        3,
-        LEN,
-    );
+    assert_kept(left_in_purge(&moved_engine(1, 3, LEN), true), 1, 3, LEN);
+    assert_kept(left_in_purge(&moved_engine(1, 3, LEN), false), 1, 3, LEN);
 }
 
 #[test]
 fn an_entry_of_the_append_queue_stays_where_its_moved_copy_is_lost() {
     let engine = engine();
-    write(&engine, |batch| {
-        batch.add_entries(1, 1, &[entry_bytes(1, 100)])
-    });
+    write(&engine, |batch| batch.add_entries(1, 1, &[entry(1, 100)]));
     engine.rotate().unwrap();
     engine.rewrite(1).unwrap();
     let files = engine.files();
     let mut rewrite = files.files(Queue::Rewrite);
-    let block = entry_blocks(&rewrite[0].1).remove(0);
+    let block = blocks_of(&rewrite[0].1).remove(0);
     rewrite[0].1[block].fill(0);
     let left = MemoryFiles::found(files.files(Queue::Append), rewrite);
-    assert_refused_or_kept(left, 1, 1, 100);
+    assert_kept(left, 1, 1, 100);
 }
 
 #[test]
@@ -167,14 +140,14 @@ fn a_page_of_zeros_among_the_entries_of_the_last_append_file_is_named_by_its_bat
     let engine = Engine::open(&path, Options::new()).unwrap();
     for index in 1..=5 {
         write(&engine, |batch| {
-            batch.add_entries(7, index, &[entry_bytes(7, 3 * PAGE)])?;
+            batch.add_entries(7, index, &[entry(7, 3 * PAGE)])?;
             batch.put(7, b"key", &[index as u8])
         });
     }
     let last = engine.files().path_of(FileId::new(Queue::Append, 1));
     drop(engine);
     let mut bytes = fs::read(&last).unwrap();
-    let third = entry_blocks(&bytes)[2].clone();
+    let third = blocks_of(&bytes)[2].clone();
     let page = third.start.next_multiple_of(PAGE);
     assert!(page + PAGE <= third.end);
     bytes[page..page + PAGE].fill(0);
@@ -206,7 +179,7 @@ fn a_page_of_zeros_among_the_entries_of_the_last_append_file_is_named_by_its_bat
             let e = read.unwrap_err();
             assert_eq!((e.file, e.offset), (Some(named.file), Some(offset + 16)));
         } else {
-            assert_eq!(read.unwrap().unwrap(), entry_bytes(7, 3 * PAGE));
+            assert_eq!(read.unwrap().unwrap(), entry(7, 3 * PAGE));
         }
     }
     assert_eq!(engine.get(7, b"key").unwrap().unwrap(), [5]);

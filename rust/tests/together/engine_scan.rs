@@ -20,7 +20,7 @@ const KEYS: [&[u8]; 9] = [
 ];
 
 /// Gives each of these keys of region 7 a value, and then begins a new file.
-fn put_keys(engine: &Engine<MemoryFiles>, model: &mut Model, keys: &[&[u8]], value: &[u8]) {
+fn put(engine: &Engine<MemoryFiles>, model: &mut Model, keys: &[&[u8]], value: &[u8]) {
     let mut batch = LogBatch::new().unwrap();
     for key in keys {
         batch.put(7, key, value).unwrap();
@@ -31,18 +31,18 @@ fn put_keys(engine: &Engine<MemoryFiles>, model: &mut Model, keys: &[&[u8]], val
 }
 
 /// Opens an engine with keys in both queues, and returns it with what it has to have.
-fn engine_with_keys() -> (Engine<MemoryFiles>, Model) {
+fn engine() -> (Engine<MemoryFiles>, Model) {
     let engine = Engine::with_files(MemoryFiles::new(), Options::new()).unwrap();
     let mut model = Model::new();
-    put_keys(&engine, &mut model, &KEYS, b"old");
-    put_keys(
+    put(&engine, &mut model, &KEYS, b"old");
+    put(
         &engine,
         &mut model,
         &[KEYS[4], KEYS[7]],
         b"older than the gate",
     );
     engine.rewrite(2).unwrap();
-    put_keys(&engine, &mut model, &[KEYS[5], KEYS[0], KEYS[3]], b"new");
+    put(&engine, &mut model, &[KEYS[5], KEYS[0], KEYS[3]], b"new");
     let mut batch = LogBatch::new().unwrap();
     batch.delete(7, KEYS[6]).unwrap();
     batch.put(8, b"of another region", b"").unwrap();
@@ -53,7 +53,7 @@ fn engine_with_keys() -> (Engine<MemoryFiles>, Model) {
 
 #[test]
 fn keys_of_a_range_come_in_order_from_both_queues() {
-    let (engine, model) = engine_with_keys();
+    let (engine, model) = engine();
     let bounds: Vec<Bound<&[u8]>> = KEYS
         .iter()
         .flat_map(|key| [Bound::Included(*key), Bound::Excluded(*key)])
@@ -91,7 +91,7 @@ fn keys_of_a_range_come_in_order_from_both_queues() {
 
 #[test]
 fn a_region_without_keys_has_none() {
-    let (engine, _) = engine_with_keys();
+    let (engine, _) = engine();
     assert_eq!(engine.scan(9, ..).unwrap().next(), None);
     let mut batch = LogBatch::new().unwrap();
     batch.add_entries(10, 1, &["an entry"]).unwrap();
@@ -102,7 +102,7 @@ fn a_region_without_keys_has_none() {
 
 #[test]
 fn what_was_scanned_stays_as_it_was() {
-    let (engine, model) = engine_with_keys();
+    let (engine, model) = engine();
     let scanned = engine.scan(7, ..).unwrap();
     let mut batch = LogBatch::new().unwrap();
     batch.clean(7).unwrap();

@@ -20,7 +20,7 @@ fn run_counting(test: impl FnOnce(&Engine<Arc<dyn Files>>, &dyn Fn() -> usize)) 
 }
 
 /// Returns the texts of the entries of a block: a hundred from an index on.
-fn texts_of_block(first: u64) -> Vec<String> {
+fn texts(first: u64) -> Vec<String> {
     (first..first + 100)
         .map(|index| index.to_string())
         .collect()
@@ -30,9 +30,7 @@ fn texts_of_block(first: u64) -> Vec<String> {
 fn the_entries_of_a_block_cost_one_read() {
     run_counting(|engine, reads| {
         for first in [1, 101, 201] {
-            write(engine, |batch| {
-                batch.add_entries(7, first, &texts_of_block(first))
-            });
+            write(engine, |batch| batch.add_entries(7, first, &texts(first)));
         }
         for index in 1..=300 {
             let text = index.to_string().into_bytes();
@@ -51,9 +49,7 @@ fn the_entries_of_a_block_cost_one_read() {
 fn ranges_that_follow_one_another_read_each_block_once() {
     run_counting(|engine, reads| {
         for first in (1..=2901).step_by(100) {
-            write(engine, |batch| {
-                batch.add_entries(7, first, &texts_of_block(first))
-            });
+            write(engine, |batch| batch.add_entries(7, first, &texts(first)));
         }
         let mut read = Vec::new();
         for first in (1..=2990).step_by(30) {
@@ -73,9 +69,7 @@ fn ranges_that_follow_one_another_read_each_block_once() {
 fn so_many_blocks_and_bytes_are_kept_and_no_more() {
     run_counting(|engine, reads| {
         for region in 0..20 {
-            write(engine, |batch| {
-                batch.add_entries(region, 1, &texts_of_block(1))
-            });
+            write(engine, |batch| batch.add_entries(region, 1, &texts(1)));
         }
         let read_all = |regions: std::ops::Range<u64>| {
             regions.for_each(|region| drop(engine.entry(region, 1).unwrap().unwrap()));
@@ -126,7 +120,7 @@ fn so_many_blocks_and_bytes_are_kept_and_no_more() {
 #[test]
 fn an_entry_that_moved_is_read_at_its_place() {
     run_counting(|engine, reads| {
-        write(engine, |batch| batch.add_entries(7, 1, &texts_of_block(1)));
+        write(engine, |batch| batch.add_entries(7, 1, &texts(1)));
         assert_eq!(engine.entry(7, 1).unwrap().unwrap(), b"1");
         engine.rotate().unwrap();
         engine.rewrite(1).unwrap();

@@ -1,6 +1,6 @@
 //! Tests the files of an engine in memory, and what a crash of the machine leaves of them.
 
-use crate::common::model::{Region, read_region};
+use crate::common::model::{Region, region_of};
 use raft_recover::{Ask, Engine, FileId, Files, LogBatch, MemoryFiles, Options, Queue, Unsynced};
 use std::io;
 use std::sync::Arc;
@@ -33,7 +33,7 @@ fn files_after_asks(asks: &[Ask]) -> MemoryFiles {
 }
 
 /// Returns the ask to append bytes to a file.
-fn ask_to_append(file: FileId, bytes: &str) -> Ask {
+fn write(file: FileId, bytes: &str) -> Ask {
     Ask::Write(file, bytes.as_bytes().to_vec())
 }
 
@@ -54,42 +54,28 @@ fn left_after_each_step(files: &MemoryFiles, all_deleted: bool) -> Vec<String> {
 }
 
 #[test]
-fn a_prefix_of_what_was_not_synced_is_left() {
+fn a_front_of_what_was_not_synced_is_left() {
     let begun = [Ask::Begin(FIRST), Ask::Sync(Queue::Append)];
     let rows: [(&[Ask], &[&str]); 7] = [
         (&[], &["1:"]),
-        (&[ask_to_append(FIRST, "ab")], &["1:", "1:a", "1:ab"]),
-        (
-            &[ask_to_append(FIRST, "ab"), Ask::Sync(Queue::Append)],
-            &["1:ab"],
-        ),
+        (&[write(FIRST, "ab")], &["1:", "1:a", "1:ab"]),
+        (&[write(FIRST, "ab"), Ask::Sync(Queue::Append)], &["1:ab"]),
         (
             &[
-                ask_to_append(FIRST, "a"),
+                write(FIRST, "a"),
                 Ask::Sync(Queue::Append),
-                ask_to_append(FIRST, "bc"),
-                ask_to_append(FIRST, "d"),
+                write(FIRST, "bc"),
+                write(FIRST, "d"),
             ],
             &["1:a", "1:ab", "1:abc", "1:abcd"],
         ),
         (
-            &[
-                ask_to_append(FIRST, "abc"),
-                Ask::Cut(FIRST, 1),
-                ask_to_append(FIRST, "d"),
-            ],
+            &[write(FIRST, "abc"), Ask::Cut(FIRST, 1), write(FIRST, "d")],
             &["1:", "1:a", "1:ab", "1:abc", "1:a", "1:ad"],
         ),
+        (&[write(FIRST, "a"), Ask::Begin(SECOND)], &["1:a", "1:a 2:"]),
         (
-            &[ask_to_append(FIRST, "a"), Ask::Begin(SECOND)],
-            &["1:a", "1:a 2:"],
-        ),
-        (
-            &[
-                ask_to_append(FIRST, "a"),
-                Ask::Begin(SECOND),
-                ask_to_append(SECOND, "b"),
-            ],
+            &[write(FIRST, "a"), Ask::Begin(SECOND), write(SECOND, "b")],
             &["1:a", "1:a 2:", "1:a 2:b"],
         ),
     ];
@@ -112,10 +98,10 @@ fn a_first_file_may_not_be_there() {
 fn deletions_that_were_not_synced_may_not_be_done() {
     let asks = [
         Ask::Begin(FIRST),
-        ask_to_append(FIRST, "a"),
+        write(FIRST, "a"),
         Ask::Begin(SECOND),
         Ask::Delete(FIRST),
-        ask_to_append(SECOND, "b"),
+        write(SECOND, "b"),
     ];
     let files = files_after_asks(&asks);
     assert_eq!(left_after_each_step(&files, true), ["", "2:", "2:b"]);
@@ -149,7 +135,7 @@ fn deletions_add_up_and_a_new_file_syncs_none_of_them() {
 
 #[test]
 fn bytes_are_read_where_all_of_them_are_there() {
-    let files = files_after_asks(&[Ask::Begin(FIRST), ask_to_append(FIRST, "abc")]);
+    let files = files_after_asks(&[Ask::Begin(FIRST), write(FIRST, "abc")]);
     let read = |offset, len| {
         let mut bytes = vec![0; len];
         files.read(FIRST, offset, &mut bytes).map(|()| bytes)
@@ -169,8 +155,8 @@ fn one_queue_says_nothing_of_the_other() {
     let files = files_after_asks(&[
         Ask::Begin(FIRST),
         Ask::Begin(REWRITTEN),
-        ask_to_append(FIRST, "a"),
-        ask_to_append(REWRITTEN, "b"),
+        write(FIRST, "a"),
+        write(REWRITTEN, "b"),
         Ask::Sync(Queue::Append),
     ]);
     let steps = [Queue::Append, Queue::Rewrite].map(|queue| files.unsynced(5, queue).steps);
@@ -227,7 +213,7 @@ fn a_clone_is_a_handle_of_the_same_files() {
 }
 
 /// Makes each kind of change of an engine over files, and returns what its region 7 has then.
-fn make_each_change<F: Files>(files: F) -> Region {
+fn history<F: Files>(files: F) -> Region {
     let options = Options::new().target_file_size(300).purge_above(600);
     let engine = Engine::with_files(files, options).unwrap();
     for index in 1..=20 {
@@ -243,18 +229,18 @@ fn make_each_change<F: Files>(files: F) -> Region {
     }
     engine.purge().unwrap();
     engine.sync().unwrap();
-    read_region(&engine, 7).unwrap()
+    region_of(&engine, 7).unwrap()
 }
 
 #[test]
 fn files_behind_an_arc_are_asked_the_same() {
     let found = || MemoryFiles::found(vec![(1, b"torn".to_vec())], vec![]);
     let (alone, shared) = (found(), Arc::new(found()));
-    let expected = make_each_change(alone.clone());
+    let expected = history(alone.clone());
     assert_eq!(expected.entries.len(), 6);
-    assert_eq!(make_each_change(Arc::clone(&shared)), expected);
+    assert_eq!(history(Arc::clone(&shared)), expected);
     let behind_dyn: Arc<dyn Files> = Arc::new(found());
-    assert_eq!(make_each_change(behind_dyn), expected);
+    assert_eq!(history(behind_dyn), expected);
     let asks = shared.asks();
     assert_eq!(asks, alone.asks());
     for queue in [Queue::Append, Queue::Rewrite] {
@@ -267,7 +253,7 @@ fn files_behind_an_arc_are_asked_the_same() {
     // all of it is synced, so that whatever stops the machine leaves it
     let left = shared.left(asks.len(), NONE, NONE);
     let opened = Engine::with_files(left, Options::new()).unwrap();
-    assert_eq!(read_region(&opened, 7).unwrap(), expected);
+    assert_eq!(region_of(&opened, 7).unwrap(), expected);
 }
 
 #[test]

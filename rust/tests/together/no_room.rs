@@ -1,7 +1,7 @@
 //! Tests changes that find no room and leave the files as they were: what was left undone is done before the next change, and
 //! meanwhile all can be read.
 
-use crate::common::model::{Change, Draw, Region, read_region};
+use crate::common::model::{Change, Draw, Region, region_of};
 use raft_recover::{
     Engine, Error, ErrorKind, FileId, Files, LogBatch, MemoryFiles, Options, Queue, Result,
     Unsynced,
@@ -66,7 +66,7 @@ impl Files for Crowded {
 }
 
 /// Returns options with files so small that there are soon many of them.
-fn options_with_small_files() -> Options {
+fn options() -> Options {
     Options::new().target_file_size(300).purge_above(1500)
 }
 
@@ -78,7 +78,7 @@ fn assert_full(e: &Error) {
 }
 
 /// Makes a change again and again until there is room for it. Returns how often there was none.
-fn retry_until_there_is_room(mut change: impl FnMut() -> Result<()>) -> usize {
+fn until_there_is_room(mut change: impl FnMut() -> Result<()>) -> usize {
     let mut refused = 0;
     while let Err(e) = change() {
         assert_full(&e);
@@ -99,7 +99,7 @@ impl History {
     /// Begins the history of a seed with an engine over new files.
     fn new(seed: u64) -> History {
         History {
-            engine: Engine::with_files(Crowded::default(), options_with_small_files()).unwrap(),
+            engine: Engine::with_files(Crowded::default(), options()).unwrap(),
             model: BTreeMap::new(),
             draw: Draw::new(seed),
             refused: 0,
@@ -108,7 +108,7 @@ impl History {
 
     /// Writes a random change of a random region, again and again until there is room for it.
     fn write(&mut self, sync: bool) {
-        let id = self.draw.draw_below(4) as u64;
+        let id = self.draw.below(4) as u64;
         let region = self.model.entry(id).or_default();
         let before = region.clone();
         let change = Change::draw(&mut self.draw, region);
@@ -120,26 +120,26 @@ impl History {
             self.refused += 1;
             // it is kept, and read already, or as it was
             let expected = if batch.is_empty() { &*region } else { &before };
-            assert_eq!(&read_region(&self.engine, id).unwrap(), expected);
+            assert_eq!(&region_of(&self.engine, id).unwrap(), expected);
         }
         assert!(batch.is_empty());
     }
 
     /// Takes a random step, again and again until there is room for it.
     fn step(&mut self) {
-        if self.draw.draw_one_in(4) {
-            let refused = 1 + self.draw.draw_below(3);
+        if self.draw.once_in(4) {
+            let refused = 1 + self.draw.below(3);
             self.engine.files().refused.store(refused, SeqCst);
         }
         let engine = &self.engine;
-        self.refused += match self.draw.draw_below(12) {
-            0 => retry_until_there_is_room(|| engine.purge().map(drop)),
-            1 => retry_until_there_is_room(|| engine.rotate()),
-            2 => retry_until_there_is_room(|| engine.rewrite(engine.stats().append.first_file)),
-            3 => retry_until_there_is_room(|| engine.rewrite_again()),
-            4 => retry_until_there_is_room(|| engine.sync()),
+        self.refused += match self.draw.below(12) {
+            0 => until_there_is_room(|| engine.purge().map(drop)),
+            1 => until_there_is_room(|| engine.rotate()),
+            2 => until_there_is_room(|| engine.rewrite(engine.stats().append.first_file)),
+            3 => until_there_is_room(|| engine.rewrite_again()),
+            4 => until_there_is_room(|| engine.sync()),
             _ => {
-                let sync = self.draw.draw_one_in(3);
+                let sync = self.draw.once_in(3);
                 self.write(sync);
                 if sync {
                     self.assert_synced();
@@ -158,10 +158,10 @@ impl History {
 
     /// Tests that both an engine over files and the engine of the history have what the model has.
     fn assert_has(&self, files: MemoryFiles) {
-        let engine = Engine::with_files(files, options_with_small_files()).unwrap();
+        let engine = Engine::with_files(files, options()).unwrap();
         for (id, region) in &self.model {
-            assert_eq!(&read_region(&engine, *id).unwrap(), region);
-            assert_eq!(&read_region(&self.engine, *id).unwrap(), region);
+            assert_eq!(&region_of(&engine, *id).unwrap(), region);
+            assert_eq!(&region_of(&self.engine, *id).unwrap(), region);
         }
     }
 }
@@ -173,7 +173,7 @@ fn what_found_no_room_is_done_before_the_next_change() {
         let mut history = History::new(seed);
         (0..80).for_each(|_| history.step());
         history.engine.files().refused.store(0, SeqCst);
-        retry_until_there_is_room(|| history.engine.sync());
+        until_there_is_room(|| history.engine.sync());
         history.assert_synced();
         refused += history.refused;
     }
@@ -186,7 +186,7 @@ fn what_is_left_undone_when_an_engine_is_dropped_was_never_written() {
         let mut history = History::new(seed);
         (0..30).for_each(|_| history.step());
         history.engine.files().refused.store(0, SeqCst);
-        retry_until_there_is_room(|| history.engine.sync());
+        until_there_is_room(|| history.engine.sync());
         history.engine.files().refused.store(usize::MAX, SeqCst);
         let mut batch = LogBatch::new().unwrap();
         batch.put(9, b"a", b"found no room").unwrap();
@@ -197,11 +197,7 @@ fn what_is_left_undone_when_an_engine_is_dropped_was_never_written() {
         let found =
             [Queue::Append, Queue::Rewrite].map(|queue| history.engine.files().files.files(queue));
         let [append, rewrite] = found;
-        let opened = Engine::with_files(
-            MemoryFiles::found(append, rewrite),
-            options_with_small_files(),
-        )
-        .unwrap();
+        let opened = Engine::with_files(MemoryFiles::found(append, rewrite), options()).unwrap();
         assert_eq!(opened.get(9, b"a").unwrap(), None);
         history.assert_synced();
     }
@@ -211,7 +207,7 @@ fn what_is_left_undone_when_an_engine_is_dropped_was_never_written() {
 fn threads_that_find_no_room_go_on_and_each_batch_is_there_once() {
     let crowded = Arc::new(Crowded::default());
     let files: Arc<dyn Files> = crowded.clone();
-    let engine = Engine::with_files(files, options_with_small_files()).unwrap();
+    let engine = Engine::with_files(files, options()).unwrap();
     let (writes, refused) = (60, AtomicU64::new(0));
     thread::scope(|scope| {
         for region in 0..4 {
@@ -225,7 +221,7 @@ fn threads_that_find_no_room_go_on_and_each_batch_is_there_once() {
                         crowded.refused.fetch_add(2, SeqCst);
                     }
                     let found_none =
-                        retry_until_there_is_room(|| engine.write(&mut batch, index % 2 == 0));
+                        until_there_is_room(|| engine.write(&mut batch, index % 2 == 0));
                     refused.fetch_add(found_none as u64, SeqCst);
                     assert_eq!(engine.last_index(region).unwrap(), Some(index));
                 }
@@ -234,10 +230,10 @@ fn threads_that_find_no_room_go_on_and_each_batch_is_there_once() {
     });
     assert!(refused.load(SeqCst) >= 30, "{refused:?}");
     assert_eq!(engine.stats().batches, 4 * writes);
-    retry_until_there_is_room(|| engine.sync());
+    until_there_is_room(|| engine.sync());
     let files = &crowded.files;
     let left = files.left(files.asked(), Unsynced::default(), Unsynced::default());
-    let opened = Engine::with_files(left, options_with_small_files()).unwrap();
+    let opened = Engine::with_files(left, options()).unwrap();
     for region in 0..4 {
         let entries = opened.entries(region, ..).unwrap();
         assert_eq!(entries.len() as u64, writes);

@@ -2,8 +2,8 @@
 //! of threads find the same. What they have to find follows from the batches of which the files are made.
 
 use crate::common::hooked::{Call, Hooked};
-use crate::common::model::{Region, read_region};
-use crate::common::{batch_bytes, bytes_with_group_marker};
+use crate::common::model::{Region, region_of};
+use crate::common::{batch_bytes, with_group_marker};
 use raft_recover::{
     Engine, Error, ErrorKind, FileId, Files, LogFile, MemoryFiles, Options, Queue, RecoveryMode,
     Version,
@@ -31,14 +31,14 @@ struct File {
 
 /// Makes a file of batches, the first of which has the number `first`. Each has an entry of so many bytes, and a key with its
 /// number. They go to three regions in turn, each with entries from index 1 on.
-fn file_of_batches(queue: Queue, seq: u64, first: u64, sizes: &[usize]) -> File {
+fn file_of(queue: Queue, seq: u64, first: u64, sizes: &[usize]) -> File {
     let (mut bytes, mut places) = (Vec::new(), vec![0]);
     for (number, size) in (first..).zip(sizes) {
-        let (region, index) = place_of_batch(queue, number);
+        let (region, index) = place_of(queue, number);
         bytes.extend(batch_bytes(
             LogFile::new(queue, seq, Version::V2),
             |batch| {
-                let entries = [entry_of_batch(number, *size)];
+                let entries = [entry(number, *size)];
                 batch.add_entries(region, index, &entries).unwrap();
                 batch.put(region, b"a", &number.to_le_bytes()).unwrap();
             },
@@ -50,7 +50,7 @@ fn file_of_batches(queue: Queue, seq: u64, first: u64, sizes: &[usize]) -> File 
 }
 
 /// Returns the region of a batch, and the index of its entry.
-fn place_of_batch(queue: Queue, number: u64) -> (u64, u64) {
+fn place_of(queue: Queue, number: u64) -> (u64, u64) {
     let region = match queue {
         Queue::Append => 1 + number % 3,
         Queue::Rewrite => 11 + number % 3,
@@ -59,16 +59,16 @@ fn place_of_batch(queue: Queue, number: u64) -> (u64, u64) {
 }
 
 /// Returns the bytes of the entry of a batch.
-fn entry_of_batch(number: u64, size: usize) -> Vec<u8> {
+fn entry(number: u64, size: usize) -> Vec<u8> {
     vec![number as u8 + 1; size]
 }
 
 /// Adds to `regions` what batches with entries of these sizes put into them. The first batch has the number `first`.
 fn add_batches(regions: &mut Regions, queue: Queue, first: u64, sizes: &[usize]) {
     for (number, size) in (first..).zip(sizes) {
-        let (region, index) = place_of_batch(queue, number);
+        let (region, index) = place_of(queue, number);
         let region = regions.entry(region).or_default();
-        region.entries.insert(index, entry_of_batch(number, *size));
+        region.entries.insert(index, entry(number, *size));
         let value = number.to_le_bytes().to_vec();
         region.keys.insert(b"a".to_vec(), value);
     }
@@ -86,17 +86,16 @@ fn found_files(files: &[&File]) -> MemoryFiles {
 }
 
 /// Returns all that an engine has.
-fn read_all_regions<F: Files>(engine: &Engine<F>) -> Regions {
+fn regions_of<F: Files>(engine: &Engine<F>) -> Regions {
     let ids = engine.regions().unwrap().into_iter();
-    ids.map(|id| (id, read_region(engine, id).unwrap()))
-        .collect()
+    ids.map(|id| (id, region_of(engine, id).unwrap())).collect()
 }
 
 /// The reads of each file: the offset of each, and how many bytes it has.
 type Reads = BTreeMap<FileId, Vec<(u64, usize)>>;
 
 /// Opens files by so many threads, tests that the engine has what is expected, and returns the reads meanwhile.
-fn open_and_check(files: &MemoryFiles, threads: usize, expected: &Regions) -> Reads {
+fn open(files: &MemoryFiles, threads: usize, expected: &Regions) -> Reads {
     let reads = Mutex::new(Reads::new());
     let hooked = Hooked::new(files, |call: Call<'_>| {
         if let Call::Read(file, offset, len) = call {
@@ -107,12 +106,12 @@ fn open_and_check(files: &MemoryFiles, threads: usize, expected: &Regions) -> Re
     });
     let engine = Engine::with_files(hooked, Options::new().recovery_threads(threads)).unwrap();
     let read = reads.lock().unwrap().clone();
-    assert!(read_all_regions(&engine) == *expected, "{threads} threads");
+    assert!(regions_of(&engine) == *expected, "{threads} threads");
     read
 }
 
 /// Returns the error of an opening of files by so many threads, which has to fail.
-fn error_of_opening<F: Files>(files: F, threads: usize) -> Error {
+fn refusal<F: Files>(files: F, threads: usize) -> Error {
     let options = Options::new().recovery_threads(threads);
     Engine::with_files(files, options).map(drop).unwrap_err()
 }
@@ -124,13 +123,13 @@ fn files_of_several_pieces_are_read_in_pieces_and_no_byte_twice() {
     let mut files = Vec::new();
     for queue in [Queue::Append, Queue::Rewrite] {
         for (seq, first, count) in [(1, 0, 20), (2, 20, 3), (3, 23, 15)] {
-            files.push(file_of_batches(queue, seq, first, &sizes[..count]));
+            files.push(file_of(queue, seq, first, &sizes[..count]));
             add_batches(&mut expected, queue, first, &sizes[..count]);
         }
     }
     let held = found_files(&files.iter().collect::<Vec<_>>());
     for threads in THREADS {
-        let reads = open_and_check(&held, threads, &expected);
+        let reads = open(&held, threads, &expected);
         assert_eq!(reads.len(), files.len());
         for file in &files {
             let mut next = 0;
@@ -153,10 +152,10 @@ fn a_batch_that_is_longer_than_a_piece_is_read_whole() {
     ] {
         let mut expected = Regions::new();
         add_batches(&mut expected, Queue::Append, 0, &sizes);
-        let file = file_of_batches(Queue::Append, 1, 0, &sizes);
+        let file = file_of(Queue::Append, 1, 0, &sizes);
         let held = found_files(&[&file]);
         for threads in THREADS {
-            let reads = &open_and_check(&held, threads, &expected)[&file.id];
+            let reads = &open(&held, threads, &expected)[&file.id];
             let all: usize = reads.iter().map(|(_, len)| *len).sum();
             assert_eq!(all, file.bytes.len());
             assert!(
@@ -168,11 +167,11 @@ fn a_batch_that_is_longer_than_a_piece_is_read_whole() {
         }
     }
     // the first batch lacks all but a piece of its bytes, which are read at once; then come those behind it
-    let file = file_of_batches(Queue::Append, 1, 0, &[3 * PIECE, 10]);
+    let file = file_of(Queue::Append, 1, 0, &[3 * PIECE, 10]);
     let mut expected = Regions::new();
     add_batches(&mut expected, Queue::Append, 0, &[3 * PIECE, 10]);
     let [long, all] = [file.places[1], file.places[2]];
-    let reads = &open_and_check(&found_files(&[&file]), 4, &expected)[&file.id];
+    let reads = &open(&found_files(&[&file]), 4, &expected)[&file.id];
     assert_eq!(
         reads[..],
         [
@@ -191,7 +190,7 @@ fn a_torn_tail_is_cut_whatever_piece_it_stands_in() {
         let mut expected = Regions::new();
         let torn = [Queue::Append, Queue::Rewrite].map(|queue| {
             add_batches(&mut expected, queue, 0, &sizes[..8]);
-            let mut file = file_of_batches(queue, 1, 0, &sizes);
+            let mut file = file_of(queue, 1, 0, &sizes);
             file.bytes.truncate(file.places[8] + len);
             file
         });
@@ -206,7 +205,7 @@ fn a_torn_tail_is_cut_whatever_piece_it_stands_in() {
                 let told = engine.recovered().cuts();
                 let told: Vec<_> = told.map(|cut| (cut.file, cut.offset, cut.len)).collect();
                 assert_eq!(told, cuts);
-                assert!(read_all_regions(&engine) == expected);
+                assert!(regions_of(&engine) == expected);
             }
         }
     }
@@ -215,7 +214,7 @@ fn a_torn_tail_is_cut_whatever_piece_it_stands_in() {
 /// Makes the first file of a queue, with as many batches as three pieces have. In the items of the batch at position `at` one bit
 /// is changed.
 fn damaged_file(queue: Queue, at: usize) -> File {
-    let mut file = file_of_batches(queue, 1, 0, &[ENTRY; 19]);
+    let mut file = file_of(queue, 1, 0, &[ENTRY; 19]);
     let end = file.places[at + 1];
     file.bytes[end - 5] ^= 1; // in front of the checksum of the items
     file
@@ -234,7 +233,7 @@ fn damage_with_sound_batches_behind_is_refused_by_every_number_of_threads() {
             );
             for threads in THREADS {
                 let held = found_files(&[&file]);
-                let e = error_of_opening(held.clone(), threads);
+                let e = refusal(held.clone(), threads);
                 assert_eq!(
                     (e.kind, e.text.as_str()),
                     (ErrorKind::Corruption, text.as_str())
@@ -249,10 +248,10 @@ fn damage_with_sound_batches_behind_is_refused_by_every_number_of_threads() {
 #[test]
 fn damaged_entries_of_the_last_append_file_are_named_whatever_piece_they_stand_in() {
     // of the older file they aren't looked at; more than six batches are a piece
-    let older = file_of_batches(Queue::Append, 1, 0, &[ENTRY; 2]);
+    let older = file_of(Queue::Append, 1, 0, &[ENTRY; 2]);
     for damaged in [&[][..], &[0], &[5, 6], &[0, 1, 6, 7, 12, 18], &[18]] {
         let mut files = [older.bytes.clone(), Vec::new()];
-        let mut last = file_of_batches(Queue::Append, 2, 2, &[ENTRY; 19]);
+        let mut last = file_of(Queue::Append, 2, 2, &[ENTRY; 19]);
         for at in damaged {
             last.bytes[last.places[*at] + 16 + ENTRY / 2] ^= 1;
         }
@@ -268,7 +267,7 @@ fn damaged_entries_of_the_last_append_file_are_named_whatever_piece_they_stand_i
             let named: Vec<_> = named.map(|batch| (batch.file, batch.offset)).collect();
             assert_eq!(named, expected, "by {threads} threads");
             for number in 0..21 {
-                let (region, index) = place_of_batch(Queue::Append, number);
+                let (region, index) = place_of(Queue::Append, number);
                 let is_damaged = number == 0 || damaged.iter().any(|at| *at as u64 + 2 == number);
                 let read = engine.entry(region, index);
                 assert_eq!(read.is_err(), is_damaged, "{number}");
@@ -288,14 +287,14 @@ fn damage_is_cut_where_it_is_tolerated_and_nowhere_but_in_the_last_file() {
             file.places[12] as u64,
             (file.bytes.len() - file.places[12]) as u64,
         );
-        let behind = file_of_batches(queue, 2, 19, &[10]);
+        let behind = file_of(queue, 2, 19, &[10]);
         for threads in THREADS {
             let options = options.clone().recovery_threads(threads);
             let engine = Engine::with_files(found_files(&[&file]), options.clone()).unwrap();
             let cuts = engine.recovered().cuts();
             let told: Vec<_> = cuts.map(|cut| (cut.offset, cut.len)).collect();
             assert_eq!(told, [cut]);
-            assert!(read_all_regions(&engine) == expected);
+            assert!(regions_of(&engine) == expected);
             let held = found_files(&[&file, &behind]);
             let e = Engine::with_files(held, options).map(drop).unwrap_err();
             let place = (Some(file.id), Some(file.places[12] as u64));
@@ -307,7 +306,7 @@ fn damage_is_cut_where_it_is_tolerated_and_nowhere_but_in_the_last_file() {
 #[test]
 fn a_read_that_fails_in_the_midst_is_refused_by_its_place() {
     let files = [Queue::Append, Queue::Rewrite]
-        .map(|queue| [1, 2].map(|seq| file_of_batches(queue, seq, 12 * (seq - 1), &[ENTRY; 12])));
+        .map(|queue| [1, 2].map(|seq| file_of(queue, seq, 12 * (seq - 1), &[ENTRY; 12])));
     let held = found_files(&files.iter().flatten().collect::<Vec<_>>());
     for failing in files.iter().flatten().map(|file| file.id) {
         for threads in THREADS {
@@ -317,7 +316,7 @@ fn a_read_that_fails_in_the_midst_is_refused_by_its_place() {
                 }
                 _ => Ok(()),
             });
-            let e = error_of_opening(hooked, threads);
+            let e = refusal(hooked, threads);
             let place = (Some(failing), Some(PIECE as u64));
             assert_eq!((e.kind, (e.file, e.offset)), (ErrorKind::Io, place));
             assert_eq!(e.io_kind(), Some(io::ErrorKind::TimedOut));
@@ -328,14 +327,14 @@ fn a_read_that_fails_in_the_midst_is_refused_by_its_place() {
 #[test]
 fn a_file_that_gets_shorter_meanwhile_is_refused_by_the_place_of_the_read() {
     for queue in [Queue::Append, Queue::Rewrite] {
-        let file = file_of_batches(queue, 1, 0, &[ENTRY; 19]);
+        let file = file_of(queue, 1, 0, &[ENTRY; 19]);
         for threads in THREADS {
             let held = found_files(&[&file]);
             let hooked = Hooked::new(&held, |call: Call<'_>| match call {
                 Call::Read(file, 0, _) => held.truncate(file, PIECE as u64 + 1),
                 _ => Ok(()),
             });
-            let e = error_of_opening(hooked, threads);
+            let e = refusal(hooked, threads);
             let place = (Some(file.id), Some(PIECE as u64));
             assert_eq!((e.kind, (e.file, e.offset)), (ErrorKind::Io, place));
             assert_eq!(e.io_kind(), Some(io::ErrorKind::UnexpectedEof));
@@ -347,13 +346,13 @@ fn a_file_that_gets_shorter_meanwhile_is_refused_by_the_place_of_the_read() {
 fn of_two_refusals_the_first_one_in_order_is_told() {
     // the first file is damaged in its last piece, and the second one can't be read at all
     let first = damaged_file(Queue::Append, 17);
-    let held = found_files(&[&first, &file_of_batches(Queue::Append, 2, 19, &[10])]);
+    let held = found_files(&[&first, &file_of(Queue::Append, 2, 19, &[10])]);
     for threads in THREADS {
         let hooked = Hooked::new(&held, |call: Call<'_>| match call {
             Call::Read(file, ..) if file.seq == 2 => Err(io::ErrorKind::TimedOut.into()),
             _ => Ok(()),
         });
-        let e = error_of_opening(hooked, threads);
+        let e = refusal(hooked, threads);
         let place = (Some(first.id), Some(first.places[17] as u64));
         assert_eq!((e.kind, (e.file, e.offset)), (ErrorKind::Corruption, place));
     }
@@ -362,7 +361,7 @@ fn of_two_refusals_the_first_one_in_order_is_told() {
 #[test]
 fn entries_that_leave_a_hole_are_refused_alike_by_every_number_of_threads() {
     // the entries of region 1 in the last piece don't join those of the first one
-    let whole = file_of_batches(Queue::Append, 1, 0, &[ENTRY; 12]);
+    let whole = file_of(Queue::Append, 1, 0, &[ENTRY; 12]);
     let file = LogFile::new(Queue::Append, 1, Version::V2);
     let apart = batch_bytes(file, |batch| {
         batch.add_entries(1, 100, &["an entry"]).unwrap();
@@ -370,7 +369,7 @@ fn entries_that_leave_a_hole_are_refused_alike_by_every_number_of_threads() {
     let bytes = [&whole.bytes[..], &apart].concat();
     let refused = THREADS.map(|threads| {
         let held = MemoryFiles::found(vec![(1, bytes.clone())], vec![]);
-        let e = error_of_opening(held, threads);
+        let e = refusal(held, threads);
         let place = (Some(whole.id), Some(whole.bytes.len() as u64));
         assert_eq!((e.kind, (e.file, e.offset)), (ErrorKind::Corruption, place));
         e
@@ -385,19 +384,19 @@ fn group_batch(region: u64, status: u8) -> Vec<u8> {
         batch.put(region, b"__\x02", &[status]).unwrap();
         batch.put(region, b"a", &[status]).unwrap();
     });
-    bytes_with_group_marker(bytes)
+    with_group_marker(bytes)
 }
 
 #[test]
 fn a_group_stands_in_a_row_across_pieces_and_is_refused_out_of_it() {
-    let filled = file_of_batches(Queue::Rewrite, 1, 0, &[ENTRY; 12]);
+    let filled = file_of(Queue::Rewrite, 1, 0, &[ENTRY; 12]);
     // what is left of the first piece has room for one of the batches and not for the next one
     let more = PIECE - filled.places[6];
     let first = &filled.bytes[..filled.places[6]];
     let second = &filled.bytes[filled.places[6]..];
     assert!(more < ENTRY);
     let (begin, end) = (group_batch(30, 0), group_batch(30, 2));
-    let between = file_of_batches(Queue::Rewrite, 1, 12, &[10]);
+    let between = file_of(Queue::Rewrite, 1, 12, &[10]);
     let in_row = [first, &begin, &end, second].concat();
     let out_of_row = [first, &begin, &between.bytes, &end, second].concat();
     let over_pieces = [first, &begin, second, &end].concat();

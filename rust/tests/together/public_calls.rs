@@ -6,12 +6,12 @@ use std::fs;
 use std::path::Path;
 
 /// Returns the texts of all Rust sources in a folder and in those below it, without the one that `but` names.
-fn rust_sources(folder: &Path, but: &str) -> Vec<String> {
+fn sources(folder: &Path, but: &str) -> Vec<String> {
     let mut all = Vec::new();
     for entry in fs::read_dir(folder).unwrap() {
         let path = entry.unwrap().path();
         if path.is_dir() && !path.ends_with(but) {
-            all.extend(rust_sources(&path, but));
+            all.extend(sources(&path, but));
         } else if path.extension().is_some_and(|ending| ending == "rs") {
             all.push(fs::read_to_string(path).unwrap());
         }
@@ -20,7 +20,7 @@ fn rust_sources(folder: &Path, but: &str) -> Vec<String> {
 }
 
 /// Returns the type whose calls follow a line that begins an `impl` or a trait: the last word before a `{`, a `<` or ` for`.
-fn type_of_impl(line: &str) -> String {
+fn type_of(line: &str) -> String {
     let named = line.rsplit(" for ").next().unwrap();
     let named = named.trim_end_matches(" {");
     let mut depth = 0;
@@ -39,7 +39,7 @@ fn type_of_impl(line: &str) -> String {
 }
 
 /// Adds the public calls in a source to `calls`: each as a test makes it, and its type.
-fn collect_public_calls(text: &str, calls: &mut BTreeSet<(String, String)>) {
+fn calls(text: &str, calls: &mut BTreeSet<(String, String)>) {
     let (mut of, mut is_trait) = (String::new(), false);
     for line in text.lines() {
         if line.starts_with("impl") || line.starts_with("pub trait") {
@@ -49,7 +49,7 @@ fn collect_public_calls(text: &str, calls: &mut BTreeSet<(String, String)>) {
             } else {
                 line
             };
-            of = type_of_impl(head);
+            of = type_of(head);
         }
         let line_of = line.trim_start();
         let of_trait = line_of
@@ -75,13 +75,13 @@ fn collect_public_calls(text: &str, calls: &mut BTreeSet<(String, String)>) {
 fn each_public_call_is_made_by_a_test() {
     let rust = top().join("rust");
     let mut public = BTreeSet::new();
-    for text in rust_sources(&rust.join("src"), "sys") {
+    for text in sources(&rust.join("src"), "sys") {
         if !text.starts_with("//! What crosses to the library") {
-            collect_public_calls(&text, &mut public);
+            calls(&text, &mut public);
         }
     }
     assert!(public.len() > 120, "{}", public.len());
-    let tests = rust_sources(&rust.join("tests"), "target");
+    let tests = sources(&rust.join("tests"), "target");
     let both: Vec<_> = tests
         .iter()
         .filter(|text| !text.contains("#![cfg("))

@@ -1,14 +1,14 @@
 //! Tests what a purge says: which files it deleted, which regions need the oldest one, and whether there is something to do.
 
 use crate::common::engines::{engine, write};
-use crate::common::model::{Change, Draw, Region, read_region};
+use crate::common::model::{Change, Draw, Region, region_of};
 use raft_recover::{
     Engine, ErrorKind, FileId, Files, Holder, LogBatch, MemoryFiles, Options, Queue, QueueUsage,
 };
 use std::collections::BTreeMap;
 
 /// Returns append file `seq`.
-fn append_file(seq: u64) -> FileId {
+fn append(seq: u64) -> FileId {
     FileId::new(Queue::Append, seq)
 }
 
@@ -34,15 +34,12 @@ fn the_files_are_named_that_went() {
     assert_eq!((purged.files, purged.append_files), (vec![], 0));
     write(&engine, |batch| batch.compact(7, 4));
     let purged = engine.purge().unwrap();
-    assert_eq!(purged.files, [1, 2, 3].map(append_file));
+    assert_eq!(purged.files, [1, 2, 3].map(append));
     assert_eq!((purged.append_files, purged.rewrite_files), (3, 0));
     engine.rewrite(4).unwrap();
     engine.rewrite_again().unwrap();
     let purged = engine.purge().unwrap();
-    assert_eq!(
-        purged.files,
-        [append_file(4), FileId::new(Queue::Rewrite, 1)]
-    );
+    assert_eq!(purged.files, [append(4), FileId::new(Queue::Rewrite, 1)]);
     assert_eq!((purged.append_files, purged.rewrite_files), (1, 1));
 }
 
@@ -54,7 +51,7 @@ fn a_needless_file_of_either_queue_is_something_to_do() {
     assert!(!engine.needs_purge().unwrap());
     engine.rewrite(1).unwrap();
     assert!(engine.needs_purge().unwrap());
-    assert_eq!(engine.purge().unwrap().files, [append_file(1)]);
+    assert_eq!(engine.purge().unwrap().files, [append(1)]);
     assert!(!engine.needs_purge().unwrap());
     engine.rewrite_again().unwrap();
     assert!(engine.needs_purge().unwrap());
@@ -105,10 +102,7 @@ fn the_holders_of_the_oldest_file_are_named_with_what_they_have_there() {
     );
     write(&engine, |batch| batch.delete(11, b"key"));
     let purged = engine.purge().unwrap();
-    assert_eq!(
-        (purged.files, purged.holders),
-        (vec![append_file(1)], vec![])
-    );
+    assert_eq!((purged.files, purged.holders), (vec![append(1)], vec![]));
 }
 
 #[test]
@@ -121,7 +115,7 @@ fn what_moved_is_held_by_nobody() {
     write(&engine, |batch| batch.add_entries(7, 6, &["6"]));
     engine.rewrite(1).unwrap();
     let purged = engine.purge().unwrap();
-    assert_eq!(purged.files, [append_file(1)]);
+    assert_eq!(purged.files, [append(1)]);
     // those that moved go with the compaction, too
     assert_eq!(
         purged
@@ -138,9 +132,9 @@ fn what_moved_is_held_by_nobody() {
 /// Draws options with small files, some of which are deleted at once, and some only when their records have moved.
 fn draw_options(draw: &mut Draw) -> Options {
     Options::new()
-        .target_file_size(200 + draw.draw_below(400) as u64)
-        .purge_above(800 + draw.draw_below(3000) as u64)
-        .purge_garbage(20 + draw.draw_below(70) as u8)
+        .target_file_size(200 + draw.below(400) as u64)
+        .purge_above(800 + draw.below(3000) as u64)
+        .purge_garbage(20 + draw.below(70) as u8)
 }
 
 /// Makes a random change of a random region, in the engine and in the model.
@@ -149,7 +143,7 @@ fn make_random_change(
     model: &mut BTreeMap<u64, Region>,
     draw: &mut Draw,
 ) {
-    let id = draw.draw_below(4) as u64;
+    let id = draw.below(4) as u64;
     let region = model.entry(id).or_default();
     let change = Change::draw(draw, region);
     change.apply(region);
@@ -166,7 +160,7 @@ fn a_purge_asks_something_of_the_files_where_one_is_needed_and_else_nothing() {
         let mut model = BTreeMap::new();
         for step in 0..300 {
             make_random_change(&engine, &mut model, &mut draw);
-            if draw.draw_one_in(6) {
+            if draw.once_in(6) {
                 let (is_needed, before) = (engine.needs_purge().unwrap(), engine.files().asked());
                 engine.purge().unwrap();
                 let is_asked = engine.files().asked() > before;
@@ -179,7 +173,7 @@ fn a_purge_asks_something_of_the_files_where_one_is_needed_and_else_nothing() {
             }
         }
         for (id, region) in model {
-            assert_eq!(read_region(&engine, id).unwrap(), region, "seed {seed}");
+            assert_eq!(region_of(&engine, id).unwrap(), region, "seed {seed}");
         }
     }
     assert!(needed > 100 && needless > 100, "{needed} {needless}");
@@ -193,7 +187,7 @@ fn drawn_holders(seed: u64) -> (Engine<MemoryFiles>, Vec<Holder>) {
     let mut model = BTreeMap::new();
     for _ in 0..60 {
         make_random_change(&engine, &mut model, &mut draw);
-        if draw.draw_one_in(20) {
+        if draw.once_in(20) {
             let first = engine.stats().append.first_file;
             engine.rewrite(first).unwrap();
         }
@@ -203,7 +197,7 @@ fn drawn_holders(seed: u64) -> (Engine<MemoryFiles>, Vec<Holder>) {
 }
 
 /// Returns the regions of those holders that need a file.
-fn regions_of_holders<'a>(holders: impl IntoIterator<Item = &'a Holder>, file: FileId) -> Vec<u64> {
+fn regions<'a>(holders: impl IntoIterator<Item = &'a Holder>, file: FileId) -> Vec<u64> {
     let of_file = holders.into_iter().filter(|holder| holder.file == file);
     of_file.map(|holder| holder.region).collect()
 }
@@ -233,12 +227,8 @@ fn once_its_holders_let_go_the_oldest_file_goes_and_nothing_moves() {
         engine.write(&mut batch, false).unwrap();
         let left = engine.purge().unwrap().holders;
         let with_entries = holders.iter().filter(|holder| holder.compact_to.is_some());
-        let kept = regions_of_holders(with_entries.clone(), file);
-        assert_eq!(
-            regions_of_holders(&left, file),
-            kept,
-            "seed {seed}: {holders:?}"
-        );
+        let kept = regions(with_entries.clone(), file);
+        assert_eq!(regions(&left, file), kept, "seed {seed}: {holders:?}");
         for holder in with_entries {
             let index = holder.compact_to.unwrap();
             batch.compact(holder.region, index).unwrap();
@@ -352,7 +342,7 @@ fn a_failed_engine_says_what_it_needs_as_long_as_it_is_read() {
     let engine = engine();
     write(&engine, |batch| batch.add_entries(7, 1, &["an entry"]));
     engine.rotate().unwrap();
-    engine.files().rotate(append_file(3)).unwrap(); // behind the engine's back: its next file can't be begun
+    engine.files().rotate(append(3)).unwrap(); // behind the engine's back: its next file can't be begun
     engine.rotate().unwrap_err();
     assert_eq!(engine.purge().unwrap_err().kind, ErrorKind::Failed);
     assert_eq!(engine.usage().unwrap().append.live, 8);

@@ -1,6 +1,6 @@
 //! Tests recovery on several threads, of the files of demo/.
 
-use crate::common::{batch_bytes, bytes_with_group_marker, file, files, lines, parts};
+use crate::common::{batch_bytes, file, files, lines, parts, with_group_marker};
 use raft_recover::{
     Context, ErrorKind, FilePart, Kept, LogBatch, LogFile, Queue, Result, Tables, Version,
     batch_len, recover, recover_both,
@@ -183,7 +183,7 @@ fn the_numbers_of_a_context_are_told_apart() {
         }
     });
     let mut context = Context::new().unwrap();
-    for bytes in [&records, &bytes_with_group_marker(group)] {
+    for bytes in [&records, &with_group_marker(group)] {
         let part = FilePart {
             file,
             offset: 0,

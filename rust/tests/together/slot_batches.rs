@@ -1,6 +1,6 @@
 //! Tests batches that are applied to slots, and those that slots return.
 
-use crate::common::slots::{APPEND_9, new_many_tables, other, slot};
+use crate::common::slots::{APPEND_9, many_tables, other, slot};
 use crate::common::{file, run};
 use raft_recover::{
     Batch, Content, ErrorKind, Item, LogBatch, LogFile, Queue, SLOTS, Tables, slot_of,
@@ -30,7 +30,7 @@ fn cleaned_regions_are_handed_out_as_a_batch() {
 }
 
 /// Makes a batch with items of several regions, signed for file 9.
-fn signed_batch(regions: impl Iterator<Item = u64>) -> LogBatch {
+fn batch(regions: impl Iterator<Item = u64>) -> LogBatch {
     let mut batch = LogBatch::new().unwrap();
     for region in regions {
         let first = region + 4;
@@ -56,13 +56,13 @@ fn written_items(mut batch: LogBatch) -> Batch {
 
 #[test]
 fn a_batch_is_tested_against_slots_and_written_to_them() {
-    let mut slots = new_many_tables().into_slots().unwrap();
-    let mut tables = new_many_tables();
+    let mut slots = many_tables().into_slots().unwrap();
+    let mut tables = many_tables();
     let regions = || (0..100).chain([1000]);
     for slot in &slots {
-        slot.check_append(&signed_batch(regions())).unwrap();
+        slot.check_append(&batch(regions())).unwrap();
     }
-    let items = written_items(signed_batch(regions()));
+    let items = written_items(batch(regions()));
     let numbers = items.slots();
     assert!(numbers.is_sorted() && numbers.len() > 50 && numbers.len() < SLOTS);
     for slot in &mut slots {

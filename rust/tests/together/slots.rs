@@ -1,6 +1,6 @@
 //! Tests slots: the tables of a part of all regions.
 
-use crate::common::slots::{APPEND_9, new_many_tables, other, slot};
+use crate::common::slots::{APPEND_9, many_tables, other, slot};
 use crate::common::{entry, file, files, lines, parts, run};
 use raft_recover::{
     Batches, Content, ErrorKind, FileId, Item, LogBatch, Queue, SLOTS, Slot, Tables, slot_of,
@@ -267,9 +267,9 @@ fn a_new_put_in_a_rewrite_file_is_refused() {
 
 #[test]
 fn a_slot_lists_its_regions() {
-    let tables = new_many_tables();
+    let tables = many_tables();
     let mut regions = Vec::new();
-    for slot in new_many_tables().into_slots().unwrap() {
+    for slot in many_tables().into_slots().unwrap() {
         let own = slot.regions().unwrap();
         assert!(own.is_sorted());
         assert!(own.iter().all(|region| slot_of(*region) == slot.number()));
@@ -328,8 +328,8 @@ fn slots_under_locks_get_the_recovered_tables() {
 
 #[test]
 fn recovered_tables_are_divided_into_slots() {
-    let tables = new_many_tables();
-    let slots = new_many_tables().into_slots().unwrap().map(Mutex::new);
+    let tables = many_tables();
+    let slots = many_tables().into_slots().unwrap().map(Mutex::new);
     for queue in [Queue::Append, Queue::Rewrite] {
         let live = |slot: &Mutex<Slot>| slot.lock().unwrap().live(queue);
         assert_eq!(slots.iter().map(live).sum::<usize>(), tables.live(queue));

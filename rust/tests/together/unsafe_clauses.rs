@@ -6,7 +6,7 @@ use std::fs;
 use std::path::Path;
 
 /// Returns the names and the texts of the sources in a folder, those whose names have an ending.
-fn sources_in(folder: &Path, ending: &str) -> Vec<(String, String)> {
+fn sources(folder: &Path, ending: &str) -> Vec<(String, String)> {
     let read = |entry: std::io::Result<fs::DirEntry>| {
         let path = entry.unwrap().path();
         let name = path.to_string_lossy().into_owned();
@@ -19,7 +19,7 @@ fn sources_in(folder: &Path, ending: &str) -> Vec<(String, String)> {
 /// Returns for each exported function of the library the names of the clauses that bind its caller.
 fn required_clauses() -> BTreeMap<String, Vec<String>> {
     let mut asked = BTreeMap::new();
-    for (_, text) in sources_in(&top().join("crates/raft_ffi/src"), ".rt") {
+    for (_, text) in sources(&top().join("crates/raft_ffi/src"), ".rt") {
         for function in text.split("pub extern \"C\" fn ").skip(1) {
             let (name, rest) = function.split_once('(').unwrap();
             let (contract, _) = rest.split_once("\n{").unwrap();
@@ -34,7 +34,7 @@ fn required_clauses() -> BTreeMap<String, Vec<String>> {
 }
 
 /// Returns the calls of the library in a source, each with the comment above it that says why it is safe.
-fn calls_of_library(text: &str) -> Vec<(String, String)> {
+fn calls(text: &str) -> Vec<(String, String)> {
     let (mut calls, mut comment, mut is_comment) = (Vec::new(), String::new(), false);
     for line in text.lines().map(str::trim) {
         if let Some(words) = line.strip_prefix("// ") {
@@ -65,10 +65,10 @@ fn each_call_names_the_clauses_that_it_keeps() {
     let (asked, mut called) = (required_clauses(), BTreeMap::new());
     assert!(asked.len() > 80, "{}", asked.len());
     let src = top().join("rust/src");
-    let mut all = sources_in(&src.join("sys"), ".rs");
-    all.extend(sources_in(&src, "/sys.rs"));
+    let mut all = sources(&src.join("sys"), ".rs");
+    all.extend(sources(&src, "/sys.rs"));
     for (file, text) in all {
-        for (name, comment) in calls_of_library(&text) {
+        for (name, comment) in calls(&text) {
             let Some(clauses) = asked.get(&name) else {
                 panic!("{file}: the library has no {name}");
             };

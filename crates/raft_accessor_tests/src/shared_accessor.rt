@@ -8,7 +8,7 @@ mod slots;
 use crate::items::{NEW, new_run};
 use raft_memtable::{LogQueue, MemTable, Result, TableChange, slot_of};
 use raft_recover::SharedAccessor;
-use raft_trials::{again, is_reached};
+use raft_trials::{again, wait_until_reached};
 use std::alloc::Global;
 use std::sync::Wait;
 use std::sync::atomic::{AtomicU64, Ordering};
@@ -72,7 +72,7 @@ fn appends_of_four_threads_are_all_kept(rt: HostRuntime) {
 /// Raises the flag `own`, and returns whether the flag `other` is raised in time.
 fn is_other_raised<R: Clock>(rt: &R, own: &AtomicU64, other: &AtomicU64) -> bool {
     own.store(1, Ordering::SeqCst);
-    is_reached(rt, other, 1)
+    wait_until_reached(rt, other, 1)
 }
 
 /// Tests whether a closure that may change the table of region 1 sees that one on that of region 2 has begun.
@@ -163,7 +163,7 @@ fn walk_beside_reader<R: Wait + Clock>(
     begun: &AtomicU64,
     walked: &AtomicU64,
 ) -> Result<bool> {
-    let is_begun = is_reached(rt, begun, 1);
+    let is_begun = wait_until_reached(rt, begun, 1);
     let ids = shared.collect(rt, |_: &MemTable| true)?;
     let tables = shared.fold(rt, 0u64, |tables, _: &MemTable| tables.wrapping_add(1));
     let is_met = !shared.is_empty(rt) && shared.live_entries(rt, LogQueue::Append) == 0;

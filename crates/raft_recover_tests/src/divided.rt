@@ -23,13 +23,14 @@ static PARTS: [(usize, usize, usize, usize); 9] = [
 ];
 
 /// Returns the rows of workers and bytes.
-fn parts() -> &'static [(usize, usize, usize, usize)] {
+fn rows_of_workers() -> &'static [(usize, usize, usize, usize)] {
     &PARTS
 }
 
+/// Tests how many of the workers read the first of two queues, by the bytes of both.
 #[test]
 fn the_longer_queue_has_more_workers(rt: HostRuntime) {
-    for &(workers, first, second, part) in parts() {
+    for &(workers, first, second, part) in rows_of_workers() {
         assert!(rt;
             part_of_workers(workers.max(2), first, second) == part,
             "{workers} {first} {second}"
@@ -41,7 +42,7 @@ fn the_longer_queue_has_more_workers(rt: HostRuntime) {
 const FILES: u64 = 5_000;
 
 /// Returns the files.
-fn files_of(alloc: Global) -> Result<Vec<(FileSeq, Vec<u8>)>> {
+fn many_small_files(alloc: Global) -> Result<Vec<(FileSeq, Vec<u8>)>> {
     let mut files = Vec::new(alloc);
     for seq in 0..FILES {
         files.push((seq, vec![in alloc; 0xff, 0xff, 0xff]?))?;
@@ -50,8 +51,8 @@ fn files_of(alloc: Global) -> Result<Vec<(FileSeq, Vec<u8>)>> {
 }
 
 /// Tests whether the files are divided into four shares, each with a fourth of them, in order.
-fn are_divided(alloc: Global) -> Result<bool> {
-    let segments = file_segments(LogQueue::Append, Version::V1, files_of(alloc)?)?;
+fn are_files_divided(alloc: Global) -> Result<bool> {
+    let segments = file_segments(LogQueue::Append, Version::V1, many_small_files(alloc)?)?;
     let shares = equal_shares(alloc, segments.as_slice(), 4, 1)?;
     let mut seq = 0u64;
     for share in &shares {
@@ -68,7 +69,8 @@ fn are_divided(alloc: Global) -> Result<bool> {
     Ok(seq == FILES)
 }
 
+/// Tests that thousands of files are divided into four shares of as many files each.
 #[test]
-fn thousands_of_files_are_divided(rt: HostRuntime) {
-    assert!(rt; matches!(again!(are_divided(rt.alloc())), Ok(true)));
+fn thousands_of_files_are_divided_into_equal_shares(rt: HostRuntime) {
+    assert!(rt; matches!(again!(are_files_divided(rt.alloc())), Ok(true)));
 }

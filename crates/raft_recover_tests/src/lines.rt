@@ -18,7 +18,7 @@ live 2 1
 ";
 
 /// Returns an entry of 1 byte in a file of the append queue.
-fn entry(index: u64, seq: u64) -> EntryIndex {
+fn entry_in_append_file(index: u64, seq: u64) -> EntryIndex {
     EntryIndex {
         index,
         entries: Some(FileBlockHandle {
@@ -32,14 +32,14 @@ fn entry(index: u64, seq: u64) -> EntryIndex {
 }
 
 /// Appends two entries to a region.
-fn append(alloc: Global, accessor: &mut MemTableAccessor, region: u64) -> Result<()> {
-    let run = vec![in alloc; entry(10, 12), entry(11, 13)]?;
+fn append_two_entries(alloc: Global, accessor: &mut MemTableAccessor, region: u64) -> Result<()> {
+    let run = vec![in alloc; entry_in_append_file(10, 12), entry_in_append_file(11, 13)]?;
     accessor.change(region, TableChange::Append(run))?;
     Ok(())
 }
 
 /// Puts a key of a region.
-fn put(alloc: Global, accessor: &mut MemTableAccessor, region: u64) -> Result<()> {
+fn put_key(alloc: Global, accessor: &mut MemTableAccessor, region: u64) -> Result<()> {
     let put = TableChange::Put {
         key: vec![in alloc; 1]?,
         value: vec![in alloc; 2]?,
@@ -50,11 +50,11 @@ fn put(alloc: Global, accessor: &mut MemTableAccessor, region: u64) -> Result<()
 }
 
 /// Returns three tables: one with entries, an empty one, and one with a key.
-fn tables(alloc: Global) -> Result<MemTableAccessor> {
+fn new_three_tables(alloc: Global) -> Result<MemTableAccessor> {
     let mut accessor = MemTableAccessor::new(alloc)?;
-    put(alloc, &mut accessor, 300)?;
+    put_key(alloc, &mut accessor, 300)?;
     accessor.change(9, TableChange::Keep)?;
-    append(alloc, &mut accessor, 7)?;
+    append_two_entries(alloc, &mut accessor, 7)?;
     for &region in &[5, 3] {
         accessor.remove(region, true)?;
     }
@@ -71,6 +71,11 @@ struct Halting {
 }
 
 impl Write for Halting {
+    /// Takes at most seven bytes of `buf`. Returns how many it took.
+    ///
+    /// # Errors
+    ///
+    /// `Interrupted` at each second call; `BrokenPipe` after as many writes as this writer takes.
     fn write(&mut self, buf: &[u8]) -> io::Result<usize> {
         self.is_interrupted = !self.is_interrupted;
         if self.is_interrupted {
@@ -85,6 +90,7 @@ impl Write for Halting {
         Ok(taken.len())
     }
 
+    /// Does nothing.
     fn flush(&mut self) -> io::Result<()> {
         Ok(())
     }
@@ -92,7 +98,7 @@ impl Write for Halting {
 
 /// Prints the lines to a writer that fails after so many writes. Returns what is written, by how many writes, and
 /// whether the writer's error is passed on.
-fn printed(
+fn print_with_failures(
     alloc: Global,
     accessor: &MemTableAccessor,
     fails_behind: usize,
@@ -112,11 +118,11 @@ fn printed(
 
 /// Tests whether the lines are written, and, with a writer that fails after fewer writes, a prefix of them is, and its
 /// error is passed on.
-fn is_handed_on(alloc: Global) -> Result<bool> {
-    let accessor = tables(alloc)?;
+fn is_each_failure_returned(alloc: Global) -> Result<bool> {
+    let accessor = new_three_tables(alloc)?;
     let count = LINES.len().div_ceil(7);
     for fails_behind in 0..=count {
-        let (writer, is_refused) = printed(alloc, &accessor, fails_behind)?;
+        let (writer, is_refused) = print_with_failures(alloc, &accessor, fails_behind)?;
         let front = LINES.as_bytes().get(..writer.written.len());
         if is_refused != (fails_behind < count)
             || writer.writes != fails_behind
@@ -129,7 +135,8 @@ fn is_handed_on(alloc: Global) -> Result<bool> {
     Ok(true)
 }
 
+/// Tests that the lines of tables are written up to the write that fails, whose error is returned.
 #[test]
-fn each_failing_write_is_handed_on(rt: HostRuntime) {
-    assert!(rt; matches!(again!(is_handed_on(rt.alloc())), Ok(true)));
+fn each_failing_write_is_returned(rt: HostRuntime) {
+    assert!(rt; matches!(again!(is_each_failure_returned(rt.alloc())), Ok(true)));
 }

@@ -15,7 +15,7 @@ mod rows;
 mod shared;
 mod truncations;
 
-use histories::{histories, truncated, with_a_hole};
+use histories::{row_ending_with_hole, row_ending_with_truncation, rows_of_histories};
 use owed::Row;
 use raft_base::{Error, FileId, FileSeq, LogQueue, Result, Version};
 use raft_records::FilePart;
@@ -27,17 +27,22 @@ use raft_trials::again;
 use rows::rows;
 use std::alloc::Global;
 use std::thread::Threads;
-use truncations::truncations;
+use truncations::rows_of_truncations;
 
 /// Returns the bytes of digits in base 16.
-fn bytes_of(alloc: Global, digits: &str) -> Result<Vec<u8>> {
+fn bytes_of_digits(alloc: Global, digits: &str) -> Result<Vec<u8>> {
     hex::decode(alloc, digits).map_err(|_| Error::Memory)
 }
 
 /// Returns the bytes of a batch in file `seq` of a version. `digits` are its bytes in version 1, in base 16; in version
 /// 2 it is signed for the file, whose number has to be below 256.
-fn signed(alloc: Global, version: Version, seq: FileSeq, digits: &str) -> Result<Vec<u8>> {
-    let mut bytes = bytes_of(alloc, digits)?;
+fn signed_batch_bytes(
+    alloc: Global,
+    version: Version,
+    seq: FileSeq,
+    digits: &str,
+) -> Result<Vec<u8>> {
+    let mut bytes = bytes_of_digits(alloc, digits)?;
     let checksum = bytes.len().saturating_sub(4);
     if version == Version::V2
         && let Some(byte) = bytes.get_mut(checksum)
@@ -49,7 +54,7 @@ fn signed(alloc: Global, version: Version, seq: FileSeq, digits: &str) -> Result
 
 /// Returns batches as segments, with a part for each batch. A segment ends behind each batch whose bit in `cuts` is
 /// set.
-fn cut(
+fn cut_into_segments(
     alloc: Global,
     queue: LogQueue,
     version: Version,
@@ -62,7 +67,7 @@ fn cut(
         if *seq != file {
             (file, offset) = (*seq, 0);
         }
-        let bytes = signed(alloc, version, file, digits)?;
+        let bytes = signed_batch_bytes(alloc, version, file, digits)?;
         let part = FilePart::new(FileId::new(queue, file), version, offset, bytes)?;
         offset = offset.saturating_add(part.bytes().len() as u64);
         push_part(alloc, &mut segments, part, left % 2 == 1)?;
@@ -88,7 +93,7 @@ fn push_part(
 }
 
 /// Returns in how many ways so many batches can be cut into segments.
-fn cuttings(batches: usize) -> u64 {
+fn count_cuttings(batches: usize) -> u64 {
     let mut cuttings = 1u64;
     for _ in 1..batches {
         cuttings = cuttings.saturating_mul(2);
@@ -107,14 +112,14 @@ const READINGS: [(Version, usize); 5] = [
 
 /// Tests whether the batches of a row give what it expects, or are refused, at each cutting, and as equal shares, which
 /// are the same at all cuttings.
-fn at_each_cutting<R: Threads + Sync>(rt: &R, alloc: Global, row: &Row) -> Result<bool> {
-    for cuts in 0..cuttings(row.batches.len()) {
+fn is_row_met_at_each_cutting<R: Threads + Sync>(rt: &R, alloc: Global, row: &Row) -> Result<bool> {
+    for cuts in 0..count_cuttings(row.batches.len()) {
         for &(version, workers) in &READINGS {
-            let segments = cut(alloc, row.queue, version, row.batches, cuts)?;
+            let segments = cut_into_segments(alloc, row.queue, version, row.batches, cuts)?;
             let held = if cuts == 0 {
-                both_have(rt, alloc, row, segments.as_slice(), workers)?
+                do_segments_and_shares_give_row(rt, alloc, row, segments.as_slice(), workers)?
             } else {
-                have(rt, alloc, row, segments.as_slice(), workers)?
+                do_segments_give_row(rt, alloc, row, segments.as_slice(), workers)?
             };
             if !held {
                 return Ok(false);
@@ -125,7 +130,7 @@ fn at_each_cutting<R: Threads + Sync>(rt: &R, alloc: Global, row: &Row) -> Resul
 }
 
 /// Tests whether segments give what a row expects, or are refused, with so many workers.
-fn have<R: Threads + Sync>(
+fn do_segments_give_row<R: Threads + Sync>(
     rt: &R,
     alloc: Global,
     row: &Row,
@@ -141,7 +146,7 @@ fn have<R: Threads + Sync>(
 
 /// Tests whether segments give what a row expects, or are refused, with so many workers: read as they are, and as equal
 /// shares.
-fn both_have<R: Threads + Sync>(
+fn do_segments_and_shares_give_row<R: Threads + Sync>(
     rt: &R,
     alloc: Global,
     row: &Row,
@@ -150,29 +155,41 @@ fn both_have<R: Threads + Sync>(
 ) -> Result<bool> {
     let shares = equal_shares(alloc, segments, workers.max(1), 1)?;
     Ok(
-        have(rt, alloc, row, segments, workers)?
-            && have(rt, alloc, row, shares.as_slice(), workers)?,
+        do_segments_give_row(rt, alloc, row, segments, workers)?
+            && do_segments_give_row(rt, alloc, row, shares.as_slice(), workers)?,
     )
 }
 
+/// Tests that the batches of each row give the same tables at each cutting.
 #[test]
-fn no_cut_shows(rt: HostRuntime) {
-    for list in [rows(), truncations(), histories()] {
+fn no_cut_changes_the_tables(rt: HostRuntime) {
+    for list in [rows(), rows_of_truncations(), rows_of_histories()] {
         for row in list {
-            assert!(rt; matches!(again!(at_each_cutting(&rt, rt.alloc(), row)), Ok(true)));
+            assert!(rt;
+                matches!(
+                    again!(is_row_met_at_each_cutting(&rt, rt.alloc(), row)),
+                    Ok(true)
+                )
+            );
         }
     }
 }
 
+/// Tests the same with histories that end with a truncation and with a hole.
 #[test]
-fn no_cut_shows_in_front_of_one_more_batch(rt: HostRuntime) {
-    for row in [truncated(), with_a_hole()] {
-        assert!(rt; matches!(again!(at_each_cutting(&rt, rt.alloc(), row)), Ok(true)));
+fn no_cut_before_one_more_batch_changes_the_tables(rt: HostRuntime) {
+    for row in [row_ending_with_truncation(), row_ending_with_hole()] {
+        assert!(rt;
+            matches!(
+                again!(is_row_met_at_each_cutting(&rt, rt.alloc(), row)),
+                Ok(true)
+            )
+        );
     }
 }
 
 /// Returns the files of a version, each as its number and the bytes of all its batches.
-fn whole_files(
+fn files_of_batches(
     alloc: Global,
     version: Version,
     batches: &[(FileSeq, &str)],
@@ -184,7 +201,7 @@ fn whole_files(
             files.push((*seq, Vec::new(alloc)))?;
             last = Some(*seq);
         }
-        let mut batch = signed(alloc, version, *seq, digits)?;
+        let mut batch = signed_batch_bytes(alloc, version, *seq, digits)?;
         if let Some(file) = files.last_mut() {
             file.1.append(&mut batch)?;
         }
@@ -194,14 +211,14 @@ fn whole_files(
 
 /// Tests whether the lines of a row are printed for its files. Files as small as these are a single share, which one
 /// worker reads.
-fn prints<R: Threads + Sync>(
+fn are_lines_printed<R: Threads + Sync>(
     rt: &R,
     alloc: Global,
     row: &Row,
     version: Version,
     workers: usize,
 ) -> Result<bool> {
-    let files = whole_files(alloc, version, row.batches)?;
+    let files = files_of_batches(alloc, version, row.batches)?;
     let mut out = Vec::with_capacity(alloc, 512)?;
     let done = recover_bytes(rt, alloc, row.queue, version, workers, files, &mut out);
     match done {
@@ -216,18 +233,18 @@ fn prints<R: Threads + Sync>(
 
 /// Tests whether the files of a row, as a segment each and cut into up to `workers` shares, give what it expects with
 /// as many workers, and its lines are printed.
-fn files_have<R: Threads + Sync>(
+fn do_files_give_row<R: Threads + Sync>(
     rt: &R,
     alloc: Global,
     row: &Row,
     version: Version,
     workers: usize,
 ) -> Result<bool> {
-    let files = whole_files(alloc, version, row.batches)?;
+    let files = files_of_batches(alloc, version, row.batches)?;
     let segments = file_segments(row.queue, version, files)?;
     Ok(
-        both_have(rt, alloc, row, segments.as_slice(), workers)?
-            && prints(rt, alloc, row, version, workers)?,
+        do_segments_and_shares_give_row(rt, alloc, row, segments.as_slice(), workers)?
+            && are_lines_printed(rt, alloc, row, version, workers)?,
     )
 }
 
@@ -249,11 +266,11 @@ const FILE_READINGS: [(Version, usize); 12] = [
 
 /// Tests up to 256 shares, of which there are never more than batches: parts of both versions are cut within a file.
 #[test]
-fn files_have_their_tables(rt: HostRuntime) {
-    for list in [rows(), truncations(), histories()] {
+fn files_give_the_tables_of_their_rows(rt: HostRuntime) {
+    for list in [rows(), rows_of_truncations(), rows_of_histories()] {
         for row in list {
             for &(version, workers) in &FILE_READINGS {
-                let held = again!(files_have(&rt, rt.alloc(), row, version, workers));
+                let held = again!(do_files_give_row(&rt, rt.alloc(), row, version, workers));
                 assert!(rt; matches!(held, Ok(true)), "{workers} workers");
             }
         }

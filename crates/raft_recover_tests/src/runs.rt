@@ -149,7 +149,7 @@ struct Answer {
 impl Answer {
     /// Tests whether a run has ended with this status, has printed `out`, and errors that begin with `err`, or none if
     /// that is empty.
-    fn is(&self, status: u8, out: &str, err: &str) -> bool {
+    fn is_as(&self, status: u8, out: &str, err: &str) -> bool {
         self.status == status
             && self.out.as_slice() == out.as_bytes()
             && self.err.as_slice().starts_with(err.as_bytes())
@@ -158,12 +158,13 @@ impl Answer {
 
     /// Tests whether the run found no memory. Within a reader or a writer that shows as an io error.
     fn found_no_memory(&self) -> bool {
-        self.is(1, "", "raftlog: refused: memory\n") || self.is(1, "", "raftlog: refused: io\n")
+        self.is_as(1, "", "raftlog: refused: memory\n")
+            || self.is_as(1, "", "raftlog: refused: io\n")
     }
 }
 
 /// Returns the words of a line, and behind them others, which may have spaces.
-fn words_of(alloc: Global, line: &str, others: &[&str]) -> Result<Vec<String>> {
+fn words_of_line(alloc: Global, line: &str, others: &[&str]) -> Result<Vec<String>> {
     let mut words = Vec::new(alloc);
     for word in line.split_whitespace() {
         words.push(String::from_str(alloc, word)?)?;
@@ -176,21 +177,21 @@ fn words_of(alloc: Global, line: &str, others: &[&str]) -> Result<Vec<String>> {
 
 /// Runs the program with the words of a line and others, over an input in base 16; `None` where there is no memory for
 /// these.
-fn run_on<S: SharedFiles + Files + AllocGlobal + Threads + Sync>(
+fn run_with_words<S: SharedFiles + Files + AllocGlobal + Threads + Sync>(
     rt: &S,
     way: Way,
     line: &str,
     others: &[&str],
     input: &str,
 ) -> Option<Answer> {
-    let words = words_of(rt.alloc(), line, others).ok()?;
+    let words = words_of_line(rt.alloc(), line, others).ok()?;
     let bytes = hex::decode(rt.alloc(), input).ok()?;
     let mut input = bytes.as_slice();
-    answer_of(rt, way, words.as_slice(), &mut input)
+    run_and_collect(rt, way, words.as_slice(), &mut input)
 }
 
 /// Runs the program with these arguments, and returns what came of it.
-fn answer_of<S: SharedFiles + Files + AllocGlobal + Threads + Sync, R: Read>(
+fn run_and_collect<S: SharedFiles + Files + AllocGlobal + Threads + Sync, R: Read>(
     rt: &S,
     way: Way,
     words: &[String],
@@ -207,32 +208,38 @@ fn answer_of<S: SharedFiles + Files + AllocGlobal + Threads + Sync, R: Read>(
 
 /// Tests whether a run with these arguments gives what a row says. Where it finds no memory it is made again, and has
 /// to find some.
-fn is_answered<S: SharedFiles + Files + AllocGlobal + Threads + Sync>(
+fn is_row_answered<S: SharedFiles + Files + AllocGlobal + Threads + Sync>(
     rt: &S,
     way: Way,
     row: &Row,
 ) -> bool {
     let (line, input, status, out, err) = *row;
-    let mut answer = run_on(rt, way, line, &[], input);
+    let mut answer = run_with_words(rt, way, line, &[], input);
     if answer
         .as_ref()
         .is_none_or(|answer| answer.found_no_memory())
     {
-        answer = run_on(rt, way, line, &[], input);
+        answer = run_with_words(rt, way, line, &[], input);
     }
-    answer.is_some_and(|answer| answer.is(status, out, err))
+    answer.is_some_and(|answer| answer.is_as(status, out, err))
 }
 
 /// Returns the rows of runs.
-fn rows() -> &'static [Row] {
+fn rows_of_runs() -> &'static [Row] {
     &ROWS
 }
 
+/// Tests the status and the output of the program for each row of arguments and input.
 #[test]
-fn words_are_answered(rt: HostRuntime) {
+fn each_run_answers_as_its_row_says(rt: HostRuntime) {
     for way in WAYS {
-        for row in rows() {
-            assert!(rt; is_answered(&rt, way, row), "{way:?}, {}: {}", row.0, row.1);
+        for row in rows_of_runs() {
+            assert!(rt;
+                is_row_answered(&rt, way, row),
+                "{way:?}, {}: {}",
+                row.0,
+                row.1
+            );
         }
     }
 }
@@ -244,6 +251,11 @@ struct Torn {
 }
 
 impl Read for Torn {
+    /// Reads one byte, 0, at the first call.
+    ///
+    /// # Errors
+    ///
+    /// `Other` at each further call.
     fn read(&mut self, buf: &mut [u8]) -> io::Result<usize> {
         if self.read || buf.is_empty() {
             return Err(io::Error::new(ErrorKind::Other, "torn"));
@@ -259,61 +271,74 @@ impl Read for Torn {
 struct Closed;
 
 impl Write for Closed {
+    /// Takes nothing.
+    ///
+    /// # Errors
+    ///
+    /// `BrokenPipe`, always.
     fn write(&mut self, _buf: &[u8]) -> io::Result<usize> {
         Err(io::Error::new(ErrorKind::BrokenPipe, "closed"))
     }
 
+    /// Does nothing.
     fn flush(&mut self) -> io::Result<()> {
         Ok(())
     }
 }
 
+/// Tests the status of runs whose input fails, or whose output can't be written.
 #[test]
-fn failing_streams(rt: HostRuntime) {
-    if let Ok(words) = words_of(rt.alloc(), OPEN, &[]) {
-        assert!(rt; is_torn(&rt, words.as_slice()));
-        assert_eq!(rt; status_of_closed(&rt, words.as_slice()), 1);
-        assert_eq!(rt; status_of_closed(&rt, &[]), 2);
+fn a_failing_input_or_output_ends_the_run(rt: HostRuntime) {
+    if let Ok(words) = words_of_line(rt.alloc(), OPEN, &[]) {
+        assert!(rt; is_failing_input_refused(&rt, words.as_slice()));
+        assert_eq!(rt; status_without_output(&rt, words.as_slice()), 1);
+        assert_eq!(rt; status_without_output(&rt, &[]), 2);
     }
 }
 
 /// Tests whether a run whose input fails is refused with that error. Where it finds no memory it is made again, and has
 /// to find some.
-fn is_torn<S: SharedFiles + Files + AllocGlobal + Threads + Sync>(
+fn is_failing_input_refused<S: SharedFiles + Files + AllocGlobal + Threads + Sync>(
     rt: &S,
     words: &[String],
 ) -> bool {
-    let mut answer = answer_of(rt, Way::Whole, words, &mut Torn { read: false });
+    let mut answer = run_and_collect(rt, Way::Whole, words, &mut Torn { read: false });
     if answer
         .as_ref()
         .is_none_or(|answer| answer.found_no_memory())
     {
-        answer = answer_of(rt, Way::Whole, words, &mut Torn { read: false });
+        answer = run_and_collect(rt, Way::Whole, words, &mut Torn { read: false });
     }
-    answer.is_some_and(|answer| answer.is(1, "", "raftlog: refused: io\n"))
+    answer.is_some_and(|answer| answer.is_as(1, "", "raftlog: refused: io\n"))
 }
 
 /// Tests whether arguments that can't be read, with an error of a kind, end a run with this status and this text on the
 /// error stream.
-fn ends_without_words(alloc: Global, kind: ErrorKind, status: u8, err: &str) -> Result<bool> {
+fn does_run_end_without_words(
+    alloc: Global,
+    kind: ErrorKind,
+    status: u8,
+    err: &str,
+) -> Result<bool> {
     let mut said = Vec::with_capacity(alloc, 1024)?;
     let ended = run_without_words(&io::Error::from(kind), &mut said);
     Ok(ended == status && said.as_slice().starts_with(err.as_bytes()))
 }
 
+/// Tests the status and the message of runs whose arguments can't be read.
 #[test]
-fn words_that_cannot_be_read(rt: HostRuntime) {
+fn arguments_that_cannot_be_read_end_the_run(rt: HostRuntime) {
     for &(kind, status, err) in &[
         (ErrorKind::OutOfMemory, 1, "raftlog: refused: memory\n"),
         (ErrorKind::InvalidData, 2, "usage: raftlog"),
     ] {
-        let ended = again!(ends_without_words(rt.alloc(), kind, status, err));
+        let ended = again!(does_run_end_without_words(rt.alloc(), kind, status, err));
         assert!(rt; matches!(ended, Ok(true)));
     }
 }
 
 /// Returns the status of a run that can't print.
-fn status_of_closed<S: SharedFiles + Files + AllocGlobal + Threads + Sync>(
+fn status_without_output<S: SharedFiles + Files + AllocGlobal + Threads + Sync>(
     rt: &S,
     words: &[String],
 ) -> u8 {
@@ -388,9 +413,9 @@ fn run_on_files<S: SharedFiles + Files + AllocGlobal + Threads + Sync>(
     length: usize,
 ) -> Option<Answer> {
     for &(path, digits) in &FILES {
-        write(rt, path, digits, length)?;
+        write_file(rt, path, digits, length)?;
     }
-    let answer = run_on(rt, way, line, files, "");
+    let answer = run_with_words(rt, way, line, files, "");
     for &(path, _) in &FILES {
         fs::remove_file(rt, path).ok()?;
     }
@@ -398,7 +423,12 @@ fn run_on_files<S: SharedFiles + Files + AllocGlobal + Threads + Sync>(
 }
 
 /// Writes a file with the first `length` of the bytes that `digits` are in base 16.
-fn write<S: Files + AllocGlobal>(rt: &S, path: &str, digits: &str, length: usize) -> Option<()> {
+fn write_file<S: Files + AllocGlobal>(
+    rt: &S,
+    path: &str,
+    digits: &str,
+    length: usize,
+) -> Option<()> {
     let mut bytes = hex::decode(rt.alloc(), digits).ok()?;
     bytes.truncate(length);
     fs::write(rt, path, bytes.as_slice()).ok()
@@ -406,7 +436,7 @@ fn write<S: Files + AllocGlobal>(rt: &S, path: &str, digits: &str, length: usize
 
 /// Tests whether a run over files gives what a row says. Where it finds no memory it is made again, and has to find
 /// some.
-fn files_are_answered<S: SharedFiles + Files + AllocGlobal + Threads + Sync>(
+fn is_file_row_answered<S: SharedFiles + Files + AllocGlobal + Threads + Sync>(
     rt: &S,
     way: Way,
     line: &str,
@@ -420,7 +450,7 @@ fn files_are_answered<S: SharedFiles + Files + AllocGlobal + Threads + Sync>(
     {
         answer = run_on_files(rt, way, line, files, length);
     }
-    answer.is_some_and(|answer| answer.is(status, out, err))
+    answer.is_some_and(|answer| answer.is_as(status, out, err))
 }
 
 /// Tests each row with one worker and with two.
@@ -431,7 +461,7 @@ fn files_are_read_at_their_paths(rt: HostRuntime) {
             for row in &FILE_ROWS {
                 let (files, length, ..) = *row;
                 assert!(rt;
-                    files_are_answered(&rt, way, line, row),
+                    is_file_row_answered(&rt, way, line, row),
                     "{way:?}, {line} {files:?}: {length} bytes"
                 );
             }

@@ -30,7 +30,7 @@ static ROWS: [Row; 9] = [
 ];
 
 /// Returns the rows of shares.
-fn rows() -> &'static [Row] {
+fn rows_of_shares() -> &'static [Row] {
     &ROWS
 }
 
@@ -44,7 +44,7 @@ fn file_bytes(alloc: Global) -> Result<Vec<u8>> {
 }
 
 /// Returns so many files, each of the same four batches.
-fn files_of(alloc: Global, count: u64) -> Result<Vec<(FileSeq, Vec<u8>)>> {
+fn files_of_four_batches(alloc: Global, count: u64) -> Result<Vec<(FileSeq, Vec<u8>)>> {
     let mut files = Vec::new(alloc);
     for seq in 0..count {
         files.push((seq, file_bytes(alloc)?))?;
@@ -53,14 +53,18 @@ fn files_of(alloc: Global, count: u64) -> Result<Vec<(FileSeq, Vec<u8>)>> {
 }
 
 /// Returns how many bytes each share has of so many files of a version.
-fn share_bytes(
+fn share_lengths(
     alloc: Global,
     version: Version,
     files: u64,
     count: usize,
     least: usize,
 ) -> Result<Vec<usize>> {
-    let segments = file_segments(LogQueue::Append, version, files_of(alloc, files)?)?;
+    let segments = file_segments(
+        LogQueue::Append,
+        version,
+        files_of_four_batches(alloc, files)?,
+    )?;
     let mut all = Vec::new(alloc);
     for share in equal_shares(alloc, segments.as_slice(), count.max(1), least.max(1))? {
         let mut bytes = 0usize;
@@ -75,16 +79,17 @@ fn share_bytes(
     Ok(all)
 }
 
+/// Tests that files are divided into shares of nearly the same number of bytes.
 #[test]
 fn shares_are_of_one_length(rt: HostRuntime) -> Result<()> {
-    again!(all_shares(&rt, rt.alloc()))
+    again!(check_each_share_row(&rt, rt.alloc()))
 }
 
 /// Tests each row in both versions.
-fn all_shares(rt: &impl Abort, alloc: Global) -> Result<()> {
-    for &(files, count, least, bytes) in rows() {
+fn check_each_share_row(rt: &impl Abort, alloc: Global) -> Result<()> {
+    for &(files, count, least, bytes) in rows_of_shares() {
         for &version in &[Version::V1, Version::V2] {
-            let shares = share_bytes(alloc, version, files, count, least)?;
+            let shares = share_lengths(alloc, version, files, count, least)?;
             assert!(rt; shares.as_slice() == bytes, "{files} {count} {least}");
         }
     }
@@ -96,7 +101,7 @@ const ENTRIES: &[u8; 37] =
     b"\x00\x00\x00\x00\x00\x00\x25\x00\x00\x00\x00\x00\x00\x00\x00\x18xxxx\x77\x64\x15\x6c\x01\x01\x01\x04\x05\x01\x02\x03\x04\x70\xe2\xa6\x5f";
 
 /// Divides a file of three batches with entries into so many shares.
-fn entry_shares(alloc: Global, count: usize) -> Result<Vec<Segment>> {
+fn divide_file_with_entries(alloc: Global, count: usize) -> Result<Vec<Segment>> {
     let mut bytes = Vec::new(alloc);
     for _ in 0..3 {
         bytes.extend_from_slice(ENTRIES.as_slice())?;
@@ -108,21 +113,25 @@ fn entry_shares(alloc: Global, count: usize) -> Result<Vec<Segment>> {
 
 /// Returns how many entries of the batch at byte `at` of a part can be read back from their places, and where the next
 /// batch begins.
-fn read_back(alloc: Global, part: &FilePart, at: usize) -> Result<(u64, usize)> {
+fn count_entries_read_back(alloc: Global, part: &FilePart, at: usize) -> Result<(u64, usize)> {
     let Some((batch, next)) = next_batch(part, at.min(part.bytes().len()))? else {
         return Ok((0, usize::MAX));
     };
     let mut count = 0u64;
     for item in batch.iter() {
         if let LogItemContent::EntryIndexes(entries) = &item.content {
-            count = count.saturating_add(same_entries(alloc, part, entries.0.as_slice())?);
+            count = count.saturating_add(count_entries_with_byte(
+                alloc,
+                part,
+                entries.0.as_slice(),
+            )?);
         }
     }
     Ok((count, next))
 }
 
 /// Returns how many of the entries have the byte `x` in the part.
-fn same_entries(alloc: Global, part: &FilePart, entries: &[EntryIndex]) -> Result<u64> {
+fn count_entries_with_byte(alloc: Global, part: &FilePart, entries: &[EntryIndex]) -> Result<u64> {
     let mut count = 0u64;
     for entry in entries {
         let Some(place) = entry.entries else {
@@ -137,13 +146,13 @@ fn same_entries(alloc: Global, part: &FilePart, entries: &[EntryIndex]) -> Resul
 }
 
 /// Returns how many entries of all shares can be read back from the part that has their batch.
-fn entries_read_back(alloc: Global, shares: &[Segment]) -> Result<u64> {
+fn count_all_entries_read_back(alloc: Global, shares: &[Segment]) -> Result<u64> {
     let mut count = 0u64;
     for share in shares {
         for part in share {
             let mut at = 0usize;
             for _ in 0..3 {
-                let (read, next) = read_back(alloc, part, at)?;
+                let (read, next) = count_entries_read_back(alloc, part, at)?;
                 count = count.saturating_add(read);
                 at = next;
             }
@@ -156,7 +165,7 @@ fn entries_read_back(alloc: Global, shares: &[Segment]) -> Result<u64> {
 #[test]
 fn shares_have_the_entries(rt: HostRuntime) {
     for &count in &[1usize, 2, 3] {
-        let read = again!(shares_read_back(rt.alloc(), count));
+        let read = again!(divide_and_count_read_back(rt.alloc(), count));
         assert!(rt;
             matches!(read, Ok((12, shares)) if shares == count),
             "{count} shares"
@@ -165,7 +174,10 @@ fn shares_have_the_entries(rt: HostRuntime) {
 }
 
 /// Divides the file into `count` shares. Returns how many entries can be read back, and how many shares there are.
-fn shares_read_back(alloc: Global, count: usize) -> Result<(u64, usize)> {
-    let shares = entry_shares(alloc, count)?;
-    Ok((entries_read_back(alloc, shares.as_slice())?, shares.len()))
+fn divide_and_count_read_back(alloc: Global, count: usize) -> Result<(u64, usize)> {
+    let shares = divide_file_with_entries(alloc, count)?;
+    Ok((
+        count_all_entries_read_back(alloc, shares.as_slice())?,
+        shares.len(),
+    ))
 }

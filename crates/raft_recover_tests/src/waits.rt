@@ -4,14 +4,14 @@ use crate::machines::list_machine::List;
 use raft_base::{Factory, FileId, LogQueue, Result};
 use raft_records::LogItemBatch;
 use raft_recover::{Gate, ReplayMachine};
-use raft_trials::is_reached;
+use raft_trials::wait_until_reached;
 use std::alloc::Global;
 use std::sync::Arc;
 use std::sync::atomic::{AtomicU64, Ordering};
 use std::time::Clock;
 
 /// Returns the bit that stands for a number below 64.
-fn bit(number: u64) -> u64 {
+fn bit_of(number: u64) -> u64 {
     1 << (number % 64)
 }
 
@@ -41,7 +41,7 @@ impl<R: Drop> WaitGate<R> {
         Ok(WaitGate {
             rt,
             held,
-            all: bit(count).wrapping_sub(1),
+            all: bit_of(count).wrapping_sub(1),
             passed: Arc::new(alloc, AtomicU64::new(0))?,
             begun: Arc::new(alloc, AtomicU64::new(0))?,
             seen: Arc::new(alloc, AtomicU64::new(0))?,
@@ -50,10 +50,13 @@ impl<R: Drop> WaitGate<R> {
 }
 
 impl<R: Clock + Send + Sync + Drop> Gate for WaitGate<R> {
+    /// Notes that `segment` was passed. If the gate holds it, waits for all others, and counts once more if all come
+    /// in time.
     fn pass(&self, segment: usize) {
-        self.passed.fetch_or(bit(segment as u64), Ordering::SeqCst);
+        self.passed
+            .fetch_or(bit_of(segment as u64), Ordering::SeqCst);
         let (from, to) = self.held;
-        if from <= segment && segment < to && is_reached(&self.rt, &self.passed, self.all) {
+        if from <= segment && segment < to && wait_until_reached(&self.rt, &self.passed, self.all) {
             self.seen.fetch_add(1, Ordering::SeqCst);
         }
     }
@@ -67,6 +70,11 @@ impl<R: Clock + Send + Sync + Copy + Drop> Factory<Waits<R>> for WaitGate<R> {
 
     ghost may_refuse = { λ _ _. Unit {0} };
 
+    /// Returns a list without batches that shares the counts of this gate.
+    ///
+    /// # Errors
+    ///
+    /// `Memory` alone.
     fn new_target(&self, alloc: Global) -> Result<Waits<R>> {
         Ok(Waits {
             rt: self.rt,
@@ -101,16 +109,26 @@ impl<R: Clock + Send + Drop> ReplayMachine for Waits<R> {
 
     ghost exact_stands = { λ m h e. e };
 
+    /// Appends the batch to the list. Counts it if its segment was passed before.
+    ///
+    /// # Errors
+    ///
+    /// `Memory` alone.
     fn replay(&mut self, batch: LogItemBatch, file_id: FileId) -> Result<()> {
-        if self.passed.load(Ordering::SeqCst) & bit(file_id.seq) != 0 {
+        if self.passed.load(Ordering::SeqCst) & bit_of(file_id.seq) != 0 {
             self.seen.fetch_add(1, Ordering::SeqCst);
         }
         self.list.replay(batch, file_id)
     }
 
+    /// Appends the batches of `rhs`. Waits for a second merge to begin, and counts if that comes in time.
+    ///
+    /// # Errors
+    ///
+    /// `Memory` alone.
     fn merge(&mut self, rhs: Self, queue: LogQueue) -> Result<()> {
         self.begun.fetch_add(1, Ordering::SeqCst);
-        if is_reached(&self.rt, &self.begun, 2) {
+        if wait_until_reached(&self.rt, &self.begun, 2) {
             self.seen.fetch_add(1, Ordering::SeqCst);
         }
         self.list.merge(rhs.list, queue)

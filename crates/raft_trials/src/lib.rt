@@ -23,7 +23,7 @@ macro_rules! again {
 
 /// Waits until `number` is at least `goal`, for about ten seconds at most, and returns whether it is. It looks once a
 /// millisecond.
-pub fn is_reached<R: Clock>(rt: &R, number: &AtomicU64, goal: u64) -> bool {
+pub fn wait_until_reached<R: Clock>(rt: &R, number: &AtomicU64, goal: u64) -> bool {
     for _ in 0..10_000 {
         if number.load(Ordering::SeqCst) >= goal {
             return true;

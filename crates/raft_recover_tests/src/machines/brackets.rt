@@ -1,6 +1,6 @@
 //! A machine that writes down what was replayed and merged, and tests of what it writes.
 
-use crate::machines::{from_right, pairs, segments};
+use crate::machines::{plan_from_right, plan_of_pairs, segments_with_batches};
 use crate::waits::WaitGate;
 use raft_base::{Error, Factory, FileId, LogQueue, Result};
 use raft_records::LogItemBatch;
@@ -29,6 +29,11 @@ impl ReplayMachine for Brackets {
 
     ghost exact_stands = { λ m h e. e };
 
+    /// Appends `/` to the text, which stands for a batch.
+    ///
+    /// # Errors
+    ///
+    /// `Corruption` if `file_id` is below the last file; `Memory`.
     fn replay(&mut self, _batch: LogItemBatch, file_id: FileId) -> Result<()> {
         if file_id.seq < self.last {
             return Err(Error::Corruption(String::new(*self.text.allocator())));
@@ -38,6 +43,11 @@ impl ReplayMachine for Brackets {
         Ok(())
     }
 
+    /// Puts the texts of both machines, in brackets, in place of this one's.
+    ///
+    /// # Errors
+    ///
+    /// `Memory` alone.
     fn merge(&mut self, rhs: Self, _queue: LogQueue) -> Result<()> {
         let mut text = String::new(*self.text.allocator());
         write!(text, "({}{})", self.text, rhs.text)?;
@@ -57,6 +67,11 @@ impl Factory<Brackets> for Dots {
 
     ghost may_refuse = { λ _ e. ⊥ };
 
+    /// Returns a machine with the text `.`.
+    ///
+    /// # Errors
+    ///
+    /// `Memory` alone.
     fn new_target(&self, alloc: Global) -> Result<Brackets> {
         Ok(Brackets {
             text: String::from_str(alloc, ".")?,
@@ -66,15 +81,20 @@ impl Factory<Brackets> for Dots {
 }
 
 /// Returns the text of five segments that two workers draw as `draws` says, and a plan merges.
-fn scheduled(alloc: Global, draws: &[usize], plan: &Plan) -> Result<String> {
-    let five = segments(alloc, 5)?;
+fn text_of_schedule(alloc: Global, draws: &[usize], plan: &Plan) -> Result<String> {
+    let five = segments_with_batches(alloc, 5)?;
     let queue = LogQueue::Append;
     let machine = replay_scheduled(alloc, &Dots, five.as_slice(), queue, 2, draws, plan)?;
     Ok(machine.text)
 }
 
 /// Returns the text of `count` new machines that a plan merges.
-fn merged<R: Threads + Sync>(rt: &R, alloc: Global, count: usize, plan: &Plan) -> Result<String> {
+fn text_of_new_machines<R: Threads + Sync>(
+    rt: &R,
+    alloc: Global,
+    count: usize,
+    plan: &Plan,
+) -> Result<String> {
     let mut machines = Vec::new(alloc);
     for _ in 0..count {
         machines.push(Dots.new_target(alloc)?)?;
@@ -83,22 +103,27 @@ fn merged<R: Threads + Sync>(rt: &R, alloc: Global, count: usize, plan: &Plan) -
 }
 
 /// Tests whether pieces are made as draws say, and merged as each of two plans says.
-fn go_by_plan<R: Threads + Sync>(rt: &R, alloc: Global) -> Result<bool> {
+fn do_plans_decide_merges<R: Threads + Sync>(rt: &R, alloc: Global) -> Result<bool> {
     Ok(
-        is_merged(rt, alloc, &pairs(alloc)?, "((././/)(././))", "((..)(..))")?
-            && is_merged(
-                rt,
-                alloc,
-                &from_right(alloc, 4)?,
-                "(./(.//(././)))",
-                "(.(.(..)))",
-            )?,
+        is_text_of_plan(
+            rt,
+            alloc,
+            &plan_of_pairs(alloc)?,
+            "((././/)(././))",
+            "((..)(..))",
+        )? && is_text_of_plan(
+            rt,
+            alloc,
+            &plan_from_right(alloc, 4)?,
+            "(./(.//(././)))",
+            "(.(.(..)))",
+        )?,
     )
 }
 
 /// Tests whether a plan gives the text `drawn` for five segments that two workers draw, and `new` for four new
 /// machines.
-fn is_merged<R: Threads + Sync>(
+fn is_text_of_plan<R: Threads + Sync>(
     rt: &R,
     alloc: Global,
     plan: &Plan,
@@ -106,20 +131,20 @@ fn is_merged<R: Threads + Sync>(
     new: &str,
 ) -> Result<bool> {
     Ok(
-        scheduled(alloc, &[0, 1, 1, 0, 1], plan)?.as_str() == drawn
-            && merged(rt, alloc, 4, plan)?.as_str() == new,
+        text_of_schedule(alloc, &[0, 1, 1, 0, 1], plan)?.as_str() == drawn
+            && text_of_new_machines(rt, alloc, 4, plan)?.as_str() == new,
     )
 }
 
 /// Tests whether worker 0 draws the segments behind the end of the draws, and a plan of four pieces doesn't merge
 /// another number of them.
-fn end_by_rule<R: Threads + Sync>(rt: &R, alloc: Global) -> Result<bool> {
-    if scheduled(alloc, &[1], &from_right(alloc, 2)?)?.as_str() != "(././///)" {
+fn do_schedules_end_by_rule<R: Threads + Sync>(rt: &R, alloc: Global) -> Result<bool> {
+    if text_of_schedule(alloc, &[1], &plan_from_right(alloc, 2)?)?.as_str() != "(././///)" {
         return Ok(false);
     }
-    let pairs = pairs(alloc)?;
+    let pairs = plan_of_pairs(alloc)?;
     for &count in &[0, 3, 5] {
-        match merged(rt, alloc, count, &pairs) {
+        match text_of_new_machines(rt, alloc, count, &pairs) {
             Err(Error::InvalidArgument(_)) => {}
             Err(error) => return Err(error),
             Ok(_) => return Ok(false),
@@ -128,10 +153,11 @@ fn end_by_rule<R: Threads + Sync>(rt: &R, alloc: Global) -> Result<bool> {
     Ok(true)
 }
 
+/// Tests that pieces are made as draws say, and merged as the plan says.
 #[test]
 fn pieces_are_merged_as_the_plan_says(rt: HostRuntime) {
-    assert!(rt; matches!(again!(go_by_plan(&rt, rt.alloc())), Ok(true)));
-    assert!(rt; matches!(again!(end_by_rule(&rt, rt.alloc())), Ok(true)));
+    assert!(rt; matches!(again!(do_plans_decide_merges(&rt, rt.alloc())), Ok(true)));
+    assert!(rt; matches!(again!(do_schedules_end_by_rule(&rt, rt.alloc())), Ok(true)));
 }
 
 /// How many workers replay how many segments, how many of these, from the first on, wait until all are passed, and the
@@ -144,7 +170,7 @@ const WORKED: [(usize, u64, usize, &str); 3] = [
 
 /// Tests whether workers who replay segments, of which `waiting` wait, give this text, and as many segments have
 /// waited.
-fn is_worked<R: Threads + Clock + Send + Sync + Copy + Drop>(
+fn is_text_of_workers<R: Threads + Clock + Send + Sync + Copy + Drop>(
     rt: &R,
     alloc: Global,
     workers: usize,
@@ -152,7 +178,7 @@ fn is_worked<R: Threads + Clock + Send + Sync + Copy + Drop>(
     waiting: usize,
     text: &str,
 ) -> Result<bool> {
-    let segments = segments(alloc, count)?;
+    let segments = segments_with_batches(alloc, count)?;
     let gate = WaitGate::new(*rt, alloc, (0, waiting), count)?;
     let queue = LogQueue::Append;
     let machine = replay_segments(rt, alloc, &Dots, segments.as_slice(), queue, workers, &gate)?;
@@ -160,10 +186,11 @@ fn is_worked<R: Threads + Clock + Send + Sync + Copy + Drop>(
     Ok(machine.text.as_str() == text && seen == waiting as u64)
 }
 
+/// Tests for several numbers of workers which pieces they make, and that these are merged by halves.
 #[test]
 fn workers_make_pieces_and_merge_them_by_halves(rt: HostRuntime) {
     for &(workers, count, waiting, text) in &WORKED {
-        let worked = again!(is_worked(&rt, rt.alloc(), workers, count, waiting, text));
+        let worked = again!(is_text_of_workers(&rt, rt.alloc(), workers, count, waiting, text));
         assert!(rt; matches!(worked, Ok(true)), "{workers} workers");
     }
 }

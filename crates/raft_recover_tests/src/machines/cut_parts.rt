@@ -22,7 +22,7 @@ static CUTS: [(usize, usize, usize, &[usize]); 9] = [
 ];
 
 /// Returns the rows of cuts.
-fn cuts() -> &'static [(usize, usize, usize, &'static [usize])] {
+fn rows_of_cuts() -> &'static [(usize, usize, usize, &'static [usize])] {
     &CUTS
 }
 
@@ -35,7 +35,7 @@ const FILE: FileId = FileId {
 const FIRST: u64 = 100;
 
 /// Returns the bytes of `batches` batches, each of a region of its own, and `behind` bytes that are no header.
-fn bytes_of(alloc: Global, batches: usize, behind: usize) -> Result<Vec<u8>> {
+fn bytes_of_batches(alloc: Global, batches: usize, behind: usize) -> Result<Vec<u8>> {
     let mut bytes = Vec::new(alloc);
     for number in 0..batches {
         let mut batch = Vec::from_slice(alloc, CLEAN.as_slice())?;
@@ -50,7 +50,12 @@ fn bytes_of(alloc: Global, batches: usize, behind: usize) -> Result<Vec<u8>> {
 
 /// Tests whether parts are of a version, have these lengths, follow one another from the first offset on, and have all
 /// these bytes.
-fn are_parts(parts: &[FilePart], version: Version, lengths: &[usize], bytes: &[u8]) -> bool {
+fn are_parts_consecutive(
+    parts: &[FilePart],
+    version: Version,
+    lengths: &[usize],
+    bytes: &[u8],
+) -> bool {
     let mut at = 0usize;
     for (part, length) in parts.iter().zip(lengths) {
         let end = at.saturating_add(*length);
@@ -67,7 +72,7 @@ fn are_parts(parts: &[FilePart], version: Version, lengths: &[usize], bytes: &[u
 }
 
 /// Tests whether a part of a version is cut as a row says.
-fn is_cut(
+fn is_part_cut_as_row_says(
     alloc: Global,
     version: Version,
     batches: usize,
@@ -75,17 +80,25 @@ fn is_cut(
     count: usize,
     lengths: &[usize],
 ) -> Result<bool> {
-    let bytes = bytes_of(alloc, batches, behind)?;
+    let bytes = bytes_of_batches(alloc, batches, behind)?;
     let part = FilePart::new(FILE, version, FIRST, bytes.clone()?)?;
     let parts = cut_part(alloc, part, count)?;
-    Ok(are_parts(parts.as_slice(), version, lengths, bytes.as_slice()))
+    Ok(are_parts_consecutive(parts.as_slice(), version, lengths, bytes.as_slice()))
 }
 
+/// Tests where parts of both versions are cut: only between batches.
 #[test]
 fn parts_are_cut_between_batches(rt: HostRuntime) {
     for &version in &[Version::V1, Version::V2] {
-        for (batches, behind, count, lengths) in cuts() {
-            let cut = again!(is_cut(rt.alloc(), version, *batches, *behind, *count, *lengths));
+        for (batches, behind, count, lengths) in rows_of_cuts() {
+            let cut = again!(is_part_cut_as_row_says(
+                rt.alloc(),
+                version,
+                *batches,
+                *behind,
+                *count,
+                *lengths
+            ));
             assert!(rt; matches!(cut, Ok(true)), "{batches} {behind} {count}");
         }
     }

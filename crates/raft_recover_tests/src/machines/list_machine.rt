@@ -22,7 +22,7 @@ pub(crate) struct List {
 
 impl List {
     /// Tests whether two lists have the same batches in the same files.
-    pub(crate) fn is_as(&self, other: &List) -> bool {
+    pub(crate) fn has_same_batches(&self, other: &List) -> bool {
         let same = |(one, two): (&Kept, &Kept)| -> bool {
             one.batch == two.batch && one.file == two.file
         };
@@ -40,12 +40,22 @@ impl ReplayMachine for List {
 
     ghost exact_stands = { λ m h e. e };
 
+    /// Appends the batch to the list, with its file.
+    ///
+    /// # Errors
+    ///
+    /// `Memory` alone.
     fn replay(&mut self, batch: LogItemBatch, file_id: FileId) -> Result<()> {
         let file = file_id;
         self.kept.push(Kept { batch, file })?;
         Ok(())
     }
 
+    /// Appends the batches of `rhs` to those of this list.
+    ///
+    /// # Errors
+    ///
+    /// `Memory` alone.
     fn merge(&mut self, rhs: Self, _queue: LogQueue) -> Result<()> {
         let List { mut kept } = rhs;
         self.kept.append(&mut kept)?;
@@ -63,6 +73,7 @@ impl Factory<List> for Lists {
 
     ghost may_refuse = { λ _ _. ⊥ };
 
+    /// Returns a list without batches.
     fn new_target(&self, alloc: Global) -> Result<List> {
         Ok(List {
             kept: Vec::new(alloc),

@@ -1,7 +1,7 @@
 //! Tests that errors of a machine, of an argument and of a factory are passed on as they are.
 
 use super::brackets::{Brackets, Dots};
-use super::{join, segment};
+use super::{join_plans, segment_with_batch};
 use crate::waits::WaitGate;
 use raft_base::{Error, Factory, LogQueue, Result};
 use raft_recover::{Plan, Segment, replay_scheduled, replay_segments};
@@ -25,6 +25,11 @@ impl Factory<Brackets> for Few {
 
     ghost may_refuse = { λ _ _. Unit {0} };
 
+    /// Returns a machine, as long as some are left.
+    ///
+    /// # Errors
+    ///
+    /// `TryAgain` once as many were made as this factory gives; `Memory`.
     fn new_target(&self, alloc: Global) -> Result<Brackets> {
         if self.asked.fetch_add(1, Ordering::SeqCst) == self.given {
             return Err(Error::TryAgain(String::new(alloc)));
@@ -71,7 +76,7 @@ const REFUSALS: [(bool, &[(LogQueue, u64)], u64, What); 8] = [
 ];
 
 /// Has one worker replay the segments, or two in a schedule.
-fn replayed<R: Threads + Clock + Send + Sync + Drop>(
+fn replay_with_factory<R: Threads + Clock + Send + Sync + Drop>(
     rt: &R,
     alloc: Global,
     by_worker: bool,
@@ -83,12 +88,12 @@ fn replayed<R: Threads + Clock + Send + Sync + Drop>(
     if by_worker {
         return replay_segments(rt, alloc, few, segments, queue, 1, gate);
     }
-    let two = join(alloc, Plan::One, Plan::One)?;
+    let two = join_plans(alloc, Plan::One, Plan::One)?;
     replay_scheduled(alloc, few, segments, queue, 2, &[0, 1, 1], &two)
 }
 
 /// Returns the error, if there is one, and whether no segment was passed and no machine was made.
-fn told<R: Threads + Clock + Send + Sync + Copy + Drop>(
+fn error_and_progress<R: Threads + Clock + Send + Sync + Copy + Drop>(
     rt: &R,
     alloc: Global,
     by_worker: bool,
@@ -97,12 +102,19 @@ fn told<R: Threads + Clock + Send + Sync + Copy + Drop>(
 ) -> Result<(Option<What>, bool)> {
     let mut segments = Vec::new(alloc);
     for (queue, seq) in files {
-        segments.push(segment(alloc, *queue, *seq)?)?;
+        segments.push(segment_with_batch(alloc, *queue, *seq)?)?;
     }
     let asked = AtomicU64::new(0);
     let few = Few { given, asked };
     let gate = WaitGate::new(*rt, alloc, (0, 0), 0)?;
-    let refused = match replayed(rt, alloc, by_worker, segments.as_slice(), &few, &gate) {
+    let refused = match replay_with_factory(
+        rt,
+        alloc,
+        by_worker,
+        segments.as_slice(),
+        &few,
+        &gate,
+    ) {
         Err(Error::TryAgain(_)) => Some(What::Machine),
         Err(Error::Corruption(_)) => Some(What::History),
         Err(Error::InvalidArgument(_)) => Some(What::Queue),
@@ -116,9 +128,9 @@ fn told<R: Threads + Clock + Send + Sync + Copy + Drop>(
 
 /// Tests that each error is passed on as it is, and a part of another queue is refused before anything is done.
 #[test]
-fn refusals_are_handed_on(rt: HostRuntime) {
+fn errors_of_machines_are_returned_as_they_are(rt: HostRuntime) {
     for &(by_worker, files, given, what) in &REFUSALS {
-        let answer = again!(told(&rt, rt.alloc(), by_worker, files, given));
+        let answer = again!(error_and_progress(&rt, rt.alloc(), by_worker, files, given));
         assert!(rt;
             answer.is_ok_and(|(refused, untouched)| {
                 refused == Some(what) && untouched == (what == What::Queue)

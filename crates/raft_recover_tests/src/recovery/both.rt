@@ -73,7 +73,7 @@ static ROWS: [Row; 6] = [
 ];
 
 /// Returns a batch with an entry of region 1 of `len` bytes.
-fn entry(alloc: Global, index: u64, len: usize) -> Result<LogBatch> {
+fn batch_with_entry(alloc: Global, index: u64, len: usize) -> Result<LogBatch> {
     let entry = EntryIndex {
         index,
         entries: None,
@@ -93,7 +93,7 @@ fn entry(alloc: Global, index: u64, len: usize) -> Result<LogBatch> {
 }
 
 /// Returns the batch of a record that isn't a run.
-fn change(alloc: Global, record: Record) -> Result<LogBatch> {
+fn batch_of_record(alloc: Global, record: Record) -> Result<LogBatch> {
     let mut batch = LogBatch::default(alloc);
     match record {
         Run(..) => {}
@@ -131,11 +131,11 @@ fn append_record(
     match record {
         Run(start, end) => {
             for index in start..end {
-                append_batch(file, entry(alloc, index, len)?, bytes)?;
+                append_batch(file, batch_with_entry(alloc, index, len)?, bytes)?;
             }
             Ok(())
         }
-        other => append_batch(file, change(alloc, other)?, bytes),
+        other => append_batch(file, batch_of_record(alloc, other)?, bytes),
     }
 }
 
@@ -154,7 +154,7 @@ pub(super) fn file_bytes(
 }
 
 /// Returns a segment with the first file of a queue, which has the batches of records. Each entry has `len` bytes.
-fn segments_of(
+fn segment_with_file(
     alloc: Global,
     queue: LogQueue,
     records: &[Record],
@@ -168,28 +168,28 @@ fn segments_of(
 }
 
 /// Tests whether the files of a row, whose entries have `len` bytes each, give the lines of the row.
-fn holds<R: Threads + Sync>(
+fn row_holds<R: Threads + Sync>(
     rt: &R,
     alloc: Global,
     row: &Row,
     len: usize,
     workers: usize,
 ) -> Result<bool> {
-    let rewrite = segments_of(alloc, LogQueue::Rewrite, row.rewritten, len)?;
-    let append = segments_of(alloc, LogQueue::Append, row.appended, len)?;
+    let rewrite = segment_with_file(alloc, LogQueue::Rewrite, row.rewritten, len)?;
+    let append = segment_with_file(alloc, LogQueue::Append, row.appended, len)?;
     let tables = recover_both(rt, alloc, rewrite.as_slice(), append.as_slice(), workers)?;
     Ok(recovered_text(alloc, &tables)?.as_str() == row.lines)
 }
 
 /// Returns the rows of files of both queues.
-fn rows() -> &'static [Row] {
+fn rows_of_both_queues() -> &'static [Row] {
     &ROWS
 }
 
 /// Tests short entries, and ones so long that a queue has a MiB or more, and several workers read it.
 #[test]
-fn both_queues_have_their_tables(rt: HostRuntime) {
-    for row in rows() {
+fn both_queues_give_the_tables_of_their_rows(rt: HostRuntime) {
+    for row in rows_of_both_queues() {
         for &(len, workers) in &[
             (1, 1),
             (1, 2),
@@ -198,7 +198,12 @@ fn both_queues_have_their_tables(rt: HostRuntime) {
             (1 << 18, 2),
             (1 << 18, 4),
         ] {
-            assert!(rt; matches!(again!(holds(&rt, rt.alloc(), row, len, workers)), Ok(true)));
+            assert!(rt;
+                matches!(
+                    again!(row_holds(&rt, rt.alloc(), row, len, workers)),
+                    Ok(true)
+                )
+            );
         }
     }
 }

@@ -112,7 +112,7 @@ struct Reading<'a> {
 impl<'a> Reading<'a> {
     /// Returns the result of reading batches in order. A run that leaves a hole is read as in the rewrite queue, where
     /// it replaces all entries; the append queue refuses it.
-    fn of(alloc: Global, batches: &'a [Written]) -> Result<Reading<'a>> {
+    fn of_batches(alloc: Global, batches: &'a [Written]) -> Result<Reading<'a>> {
         let mut reading = Reading {
             entries: Vec::new(alloc),
             keys: Vec::new(alloc),
@@ -128,7 +128,7 @@ impl<'a> Reading<'a> {
 
     /// Applies what takes effect with the last of the batches.
     fn take_effect(&mut self, batches: &'a [Written]) -> Result<()> {
-        let (Some(last), Some(first)) = (batches.last(), effect_of(batches)) else {
+        let (Some(last), Some(first)) = (batches.last(), first_taking_effect(batches)) else {
             return Ok(());
         };
         for written in batches.iter().skip(first) {
@@ -143,14 +143,14 @@ impl<'a> Reading<'a> {
     fn take_items(&mut self, batch: &'a LogItemBatch) -> Result<()> {
         for item in batch.iter() {
             if !is_skipped(item) {
-                self.take(item)?;
+                self.take_item(item)?;
             }
         }
         Ok(())
     }
 
     /// Applies an item.
-    fn take(&mut self, item: &'a LogItem) -> Result<()> {
+    fn take_item(&mut self, item: &'a LogItem) -> Result<()> {
         let region = item.raft_group_id;
         if !self.regions.contains(&region) {
             self.regions.push(region)?;
@@ -240,17 +240,17 @@ impl<'a> Reading<'a> {
 }
 
 /// Returns the position of the first batch that takes effect with the last one; `None` where nothing takes effect.
-fn effect_of(batches: &[Written]) -> Option<usize> {
+fn first_taking_effect(batches: &[Written]) -> Option<usize> {
     let (last, before) = batches.split_last()?;
     match last.marker {
         None => Some(before.len()),
-        Some(marker) if marker.status == End => begin_of(before, marker.group),
+        Some(marker) if marker.status == End => open_begin_of_group(before, marker.group),
         Some(_) => None,
     }
 }
 
 /// Returns the position at which a group begins that is still open after the batches; `None` where it isn't open.
-fn begin_of(batches: &[Written], group: u64) -> Option<usize> {
+fn open_begin_of_group(batches: &[Written], group: u64) -> Option<usize> {
     let mut at = batches.len();
     for written in batches.iter().rev() {
         at = at.saturating_sub(1);
@@ -265,7 +265,7 @@ fn begin_of(batches: &[Written], group: u64) -> Option<usize> {
 
 /// Returns how many items of a group come before its first `End`, that one included, or in all batches, if there is
 /// none; 0 if a `Begin` comes before.
-fn front(batches: &[Written], group: u64) -> u128 {
+fn count_items_before_end(batches: &[Written], group: u64) -> u128 {
     let mut count = 0u128;
     for written in batches {
         let status = written.status_in(group);
@@ -283,8 +283,8 @@ fn front(batches: &[Written], group: u64) -> u128 {
 }
 
 /// Returns how many items a group has that is still open after the batches; 0 where it isn't open.
-fn open(batches: &[Written], group: u64) -> u128 {
-    let Some(first) = begin_of(batches, group) else {
+fn count_items_of_open_group(batches: &[Written], group: u64) -> u128 {
+    let Some(first) = open_begin_of_group(batches, group) else {
         return 0;
     };
     let mut count = 0u128;
@@ -297,7 +297,7 @@ fn open(batches: &[Written], group: u64) -> u128 {
 }
 
 /// Returns the groups that have a group marker, each once.
-fn groups_of(alloc: Global, batches: &[Written]) -> Result<Vec<u64>> {
+fn groups_with_markers(alloc: Global, batches: &[Written]) -> Result<Vec<u64>> {
     let mut groups = Vec::new(alloc);
     for written in batches {
         if let Some(group) = written.group() {
@@ -310,12 +310,14 @@ fn groups_of(alloc: Global, batches: &[Written]) -> Result<Vec<u64>> {
 }
 
 /// Returns what a context of these batches may hold.
-pub(crate) fn bound_of(alloc: Global, batches: &[Written]) -> Result<Kept> {
-    let reading = Reading::of(alloc, batches)?;
-    let groups = groups_of(alloc, batches)?;
+pub(crate) fn bound_of_batches(alloc: Global, batches: &[Written]) -> Result<Kept> {
+    let reading = Reading::of_batches(alloc, batches)?;
+    let groups = groups_with_markers(alloc, batches)?;
     let mut waiting_items = 0u128;
     for group in &groups {
-        let waiting = front(batches, *group).saturating_add(open(batches, *group));
+        let waiting = count_items_before_end(batches, *group).saturating_add(
+            count_items_of_open_group(batches, *group),
+        );
         waiting_items = waiting_items.saturating_add(waiting);
     }
     Ok(Kept {

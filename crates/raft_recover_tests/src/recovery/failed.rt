@@ -29,7 +29,7 @@ fn refusal_of(called: Result<()>) -> Result<Option<Refusal>> {
 }
 
 /// Returns with which error the replay of an empty batch of a file is refused, if it is.
-fn replay(
+fn refusal_of_empty_batch(
     alloc: Global,
     context: &mut MemTableRecoverContext,
     seq: FileSeq,
@@ -39,7 +39,10 @@ fn replay(
 }
 
 /// Tests whether a context refuses, as `Failed`, the merge of a newer one, and an append context put over it.
-fn are_merges_failed(alloc: Global, context: &mut MemTableRecoverContext) -> Result<bool> {
+fn are_merges_refused_as_failed(
+    alloc: Global,
+    context: &mut MemTableRecoverContext,
+) -> Result<bool> {
     let merged = context.merge(MemTableRecoverContext::new(alloc)?, LogQueue::Append);
     let overlaid = context.merge_append_context(MemTableRecoverContext::new(alloc)?);
     Ok(
@@ -50,9 +53,12 @@ fn are_merges_failed(alloc: Global, context: &mut MemTableRecoverContext) -> Res
 
 /// Tests whether all calls on a context are refused as `Failed`: a batch of a later file, merges, those for what it
 /// holds and for its tables.
-fn serves_no_call(alloc: Global, mut context: MemTableRecoverContext) -> Result<bool> {
-    let replayed = replay(alloc, &mut context, 6)?;
-    let failed = are_merges_failed(alloc, &mut context)?;
+fn are_all_calls_refused_as_failed(
+    alloc: Global,
+    mut context: MemTableRecoverContext,
+) -> Result<bool> {
+    let replayed = refusal_of_empty_batch(alloc, &mut context, 6)?;
+    let failed = are_merges_refused_as_failed(alloc, &mut context)?;
     let held = matches!(context.kept(), Err(Error::Failed));
     Ok(
         replayed == Some(Refusal::Failed)
@@ -63,23 +69,29 @@ fn serves_no_call(alloc: Global, mut context: MemTableRecoverContext) -> Result<
 }
 
 /// Tests whether a context that refused a file below the last one returns `Failed` from then on.
-fn refused_batch_stays_failed(alloc: Global) -> Result<bool> {
+fn does_refused_batch_fail_context(alloc: Global) -> Result<bool> {
     let mut context = MemTableRecoverContext::new(alloc)?;
     for &(seq, refusal) in &[
         (5, None),
         (4, Some(Refusal::Corruption)),
         (6, Some(Refusal::Failed)),
     ] {
-        if replay(alloc, &mut context, seq)? != refusal {
+        if refusal_of_empty_batch(alloc, &mut context, seq)? != refusal {
             return Ok(false);
         }
     }
-    serves_no_call(alloc, context)
+    are_all_calls_refused_as_failed(alloc, context)
 }
 
+/// Tests that a context that refused a batch refuses all further calls as `Failed`.
 #[test]
-fn refused_contexts_stay_failed(rt: HostRuntime) {
-    assert!(rt; matches!(again!(refused_batch_stays_failed(rt.alloc())), Ok(true)));
+fn contexts_that_refused_a_batch_stay_failed(rt: HostRuntime) {
+    assert!(rt;
+        matches!(
+            again!(does_refused_batch_fail_context(rt.alloc())),
+            Ok(true)
+        )
+    );
 }
 
 /// A run of region 1, and one that leaves a hole behind it.
@@ -87,9 +99,9 @@ const WITH_A_HOLE: [Batch; 2] = [(1, RUN_10_20), (2, RUN_40_45)];
 
 /// Merges the context of a history's second batch into that of the first. Returns the first one's context if the merge
 /// is refused as damage.
-fn with_refused_neighbor(history: &History) -> Result<Option<MemTableRecoverContext>> {
-    let mut context = history.replayed(0, 1)?.context;
-    let newer = history.replayed(1, 2)?.context;
+fn context_with_refused_neighbor(history: &History) -> Result<Option<MemTableRecoverContext>> {
+    let mut context = history.replay_range(0, 1)?.context;
+    let newer = history.replay_range(1, 2)?.context;
     match context.merge(newer, LogQueue::Append) {
         Err(Error::Corruption(_)) => Ok(Some(context)),
         Err(error) => Err(error),
@@ -98,17 +110,17 @@ fn with_refused_neighbor(history: &History) -> Result<Option<MemTableRecoverCont
 }
 
 /// Tests whether a context that refused its neighbor returns `Failed` from then on.
-fn refused_neighbor_stays_failed(alloc: Global, history: &History) -> Result<bool> {
-    let Some(context) = with_refused_neighbor(history)? else {
+fn does_refused_neighbor_fail_context(alloc: Global, history: &History) -> Result<bool> {
+    let Some(context) = context_with_refused_neighbor(history)? else {
         return Ok(false);
     };
-    serves_no_call(alloc, context)
+    are_all_calls_refused_as_failed(alloc, context)
 }
 
 /// Tests whether a context that refused its neighbor is itself refused as `Failed`: as a newer neighbor, or, with
 /// `is_taken_in`, when it is to be put over another.
-fn is_no_neighbor(alloc: Global, history: &History, is_taken_in: bool) -> Result<bool> {
-    let Some(failed) = with_refused_neighbor(history)? else {
+fn is_failed_context_refused(alloc: Global, history: &History, is_taken_in: bool) -> Result<bool> {
+    let Some(failed) = context_with_refused_neighbor(history)? else {
         return Ok(false);
     };
     let mut context = MemTableRecoverContext::new(alloc)?;
@@ -121,18 +133,24 @@ fn is_no_neighbor(alloc: Global, history: &History, is_taken_in: bool) -> Result
 }
 
 /// Tests whether such a context is refused in both ways.
-fn refused_neighbor_is_of_no_use(alloc: Global) -> Result<bool> {
-    let history = History::read(alloc, LogQueue::Append, &WITH_A_HOLE)?;
+fn is_failed_context_refused_everywhere(alloc: Global) -> Result<bool> {
+    let history = History::from_digits(alloc, LogQueue::Append, &WITH_A_HOLE)?;
     Ok(
-        refused_neighbor_stays_failed(alloc, &history)?
-            && is_no_neighbor(alloc, &history, false)?
-            && is_no_neighbor(alloc, &history, true)?,
+        does_refused_neighbor_fail_context(alloc, &history)?
+            && is_failed_context_refused(alloc, &history, false)?
+            && is_failed_context_refused(alloc, &history, true)?,
     )
 }
 
+/// Tests that a context that refused its neighbor can't be merged nor put over another.
 #[test]
-fn refused_merges_stay_failed(rt: HostRuntime) {
-    assert!(rt; matches!(again!(refused_neighbor_is_of_no_use(rt.alloc())), Ok(true)));
+fn contexts_that_refused_a_merge_stay_failed(rt: HostRuntime) {
+    assert!(rt;
+        matches!(
+            again!(is_failed_context_refused_everywhere(rt.alloc())),
+            Ok(true)
+        )
+    );
 }
 
 /// A batch of an older context and those of a newer one, whose runs leave a hole together; and the text of the error.
@@ -156,10 +174,10 @@ static HOLES: [(&[Batch], &str); 2] = [
 
 /// Returns the text with which the context of the first batch refuses that of the others; an empty text where it
 /// doesn't.
-fn told_by_merge(alloc: Global, batches: &[Batch]) -> Result<String> {
-    let history = History::read(alloc, LogQueue::Append, batches)?;
-    let mut context = history.replayed(0, 1)?.context;
-    let newer = history.replayed(1, batches.len())?.context;
+fn text_of_refused_merge(alloc: Global, batches: &[Batch]) -> Result<String> {
+    let history = History::from_digits(alloc, LogQueue::Append, batches)?;
+    let mut context = history.replay_range(0, 1)?.context;
+    let newer = history.replay_range(1, batches.len())?.context;
     match context.merge(newer, LogQueue::Append) {
         Ok(()) => Ok(String::new(alloc)),
         Err(Error::Corruption(text)) => Ok(text),
@@ -167,10 +185,11 @@ fn told_by_merge(alloc: Global, batches: &[Batch]) -> Result<String> {
     }
 }
 
+/// Tests the text with which a merge that would leave a hole is refused.
 #[test]
-fn merges_tell_of_holes(rt: HostRuntime) {
+fn refused_merges_name_the_hole(rt: HostRuntime) {
     for &(batches, text) in &HOLES {
-        let told = again!(told_by_merge(rt.alloc(), batches));
+        let told = again!(text_of_refused_merge(rt.alloc(), batches));
         assert!(rt; told.is_ok_and(|told| told.as_str() == text), "{text}");
     }
 }

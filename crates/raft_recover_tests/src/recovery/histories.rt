@@ -106,7 +106,7 @@ pub(crate) const REWRITTEN: [Batch; 8] = [
 ];
 
 /// Returns the rows of histories.
-pub(crate) fn histories() -> &'static [Row] {
+pub(crate) fn rows_of_histories() -> &'static [Row] {
     &ROWS
 }
 
@@ -185,7 +185,7 @@ live 8 0
 ];
 
 /// Returns the row of a history that ends with a truncation.
-pub(crate) fn truncated() -> &'static Row {
+pub(crate) fn row_ending_with_truncation() -> &'static Row {
     &TRUNCATED_ROW
 }
 
@@ -212,7 +212,7 @@ live 9 0
 };
 
 /// Returns the row of a history that ends with a hole.
-pub(crate) fn with_a_hole() -> &'static Row {
+pub(crate) fn row_ending_with_hole() -> &'static Row {
     &HOLE_ROW
 }
 

@@ -2,11 +2,13 @@
 
 use super::batches::{PUT_K, RUN_10_20};
 use super::bound::is_within;
-use super::histories::{Batch, histories, truncated, with_a_hole};
+use super::histories::{
+    Batch, row_ending_with_hole, row_ending_with_truncation, rows_of_histories,
+};
 use super::owed::Row;
 use super::pieces::{History, merge, replay};
 use super::rows::rows;
-use super::truncations::truncations;
+use super::truncations::rows_of_truncations;
 use raft_base::{Error, LogQueue, Result};
 use raft_memtable::{Kept, MemTableRecoverContext};
 use raft_trials::again;
@@ -14,28 +16,30 @@ use std::alloc::Global;
 
 /// Tests at each cutting whether no context of a row's batches holds more than its batches allow, and the merged ones
 /// give what the row expects; or, where it expects a refusal, whether the batches can't be read or are refused.
-fn row_holds_little(alloc: Global, row: &Row) -> Result<bool> {
-    match History::read(alloc, row.queue, row.batches) {
-        Ok(history) => history.at_each_cutting(row),
+fn do_contexts_of_row_hold_little(alloc: Global, row: &Row) -> Result<bool> {
+    match History::from_digits(alloc, row.queue, row.batches) {
+        Ok(history) => history.is_row_met_at_each_cutting(row),
         Err(Error::Corruption(_)) => Ok(row.lines.is_none()),
         Err(error) => Err(error),
     }
 }
 
+/// Tests at each cutting that no context holds more than its batches allow.
 #[test]
-fn merged_rows_hold_little(rt: HostRuntime) {
-    for list in [rows(), truncations(), histories()] {
+fn contexts_of_rows_hold_no_more_than_their_bound(rt: HostRuntime) {
+    for list in [rows(), rows_of_truncations(), rows_of_histories()] {
         for row in list {
-            let all = again!(row_holds_little(rt.alloc(), row));
+            let all = again!(do_contexts_of_row_hold_little(rt.alloc(), row));
             assert!(rt; matches!(all, Ok(true)), "{:?}", row.batches);
         }
     }
 }
 
+/// Tests the same with two histories that end with a truncation and with a hole.
 #[test]
-fn merged_contexts_before_one_more_batch_hold_little(rt: HostRuntime) {
-    for row in [truncated(), with_a_hole()] {
-        let all = again!(row_holds_little(rt.alloc(), row));
+fn contexts_of_histories_hold_no_more_than_their_bound(rt: HostRuntime) {
+    for row in [row_ending_with_truncation(), row_ending_with_hole()] {
+        let all = again!(do_contexts_of_row_hold_little(rt.alloc(), row));
         assert!(rt; matches!(all, Ok(true)), "{:?}", row.lines);
     }
 }
@@ -129,18 +133,18 @@ static COUNTED: [Counted; 4] = [
 ];
 
 /// Returns the rows of counted contexts.
-fn counted_rows() -> &'static [Counted] {
+fn rows_of_counted_contexts() -> &'static [Counted] {
     &COUNTED
 }
 
 /// Returns a context that has replayed batches so often.
-fn replayed_often(
+fn replay_repeatedly(
     alloc: Global,
     queue: LogQueue,
     batches: &[Batch],
     times: usize,
 ) -> Result<MemTableRecoverContext> {
-    let history = History::read(alloc, queue, batches)?;
+    let history = History::from_digits(alloc, queue, batches)?;
     let mut context = MemTableRecoverContext::new(alloc)?;
     for written in &history.batches {
         for _ in 0..times {
@@ -151,24 +155,25 @@ fn replayed_often(
 }
 
 /// Tests whether a context holds no more than `bound`, and exactly as many marks.
-fn holds_within(context: &MemTableRecoverContext, bound: Kept) -> Result<bool> {
+fn is_kept_within(context: &MemTableRecoverContext, bound: Kept) -> Result<bool> {
     let kept = context.kept()?;
     Ok(kept.marks == bound.marks && is_within(kept, bound))
 }
 
 /// Tests whether the newer context of a row, and then both merged, hold no more than the row says.
-fn holds_no_more(alloc: Global, row: &Counted) -> Result<bool> {
-    let newer = replayed_often(alloc, row.queue, row.newer, row.times)?;
-    let alone = holds_within(&newer, row.alone)?;
-    let mut context = replayed_often(alloc, row.queue, row.older, row.times)?;
+fn do_counted_contexts_hold_no_more(alloc: Global, row: &Counted) -> Result<bool> {
+    let newer = replay_repeatedly(alloc, row.queue, row.newer, row.times)?;
+    let alone = is_kept_within(&newer, row.alone)?;
+    let mut context = replay_repeatedly(alloc, row.queue, row.older, row.times)?;
     merge(&mut context, newer, row.queue)?;
-    Ok(alone && holds_within(&context, row.merged)?)
+    Ok(alone && is_kept_within(&context, row.merged)?)
 }
 
+/// Tests that contexts which replay the same batches often hold no more for that.
 #[test]
-fn contexts_hold_little(rt: HostRuntime) {
-    for row in counted_rows() {
-        let held = again!(holds_no_more(rt.alloc(), row));
+fn repeated_batches_add_nothing_to_a_context(rt: HostRuntime) {
+    for row in rows_of_counted_contexts() {
+        let held = again!(do_counted_contexts_hold_no_more(rt.alloc(), row));
         assert!(rt; matches!(held, Ok(true)), "{:?}", row.newer);
     }
 }

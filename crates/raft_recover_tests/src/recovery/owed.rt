@@ -56,11 +56,11 @@ impl Row {
             return Ok(false);
         };
         let text = recovered_text(alloc, tables)?;
-        Ok(text.as_str() == lines && self.are_kept(tables))
+        Ok(text.as_str() == lines && self.has_places_values_and_groups(tables))
     }
 
     /// Tests whether tables have the places, values and groups of the row.
-    fn are_kept(&self, tables: &MemTableAccessor) -> bool {
+    fn has_places_values_and_groups(&self, tables: &MemTableAccessor) -> bool {
         let queue = self.queue;
         self.places
             .iter()

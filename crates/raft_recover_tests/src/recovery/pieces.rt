@@ -1,9 +1,9 @@
 //! Histories in pieces: a context for each stretch of their batches, which are merged in several orders.
 
-use super::bound::{Written, bound_of, is_within};
+use super::bound::{Written, bound_of_batches, is_within};
 use super::histories::Batch;
 use super::owed::Row;
-use super::{bytes_of, cuttings};
+use super::{bytes_of_digits, count_cuttings};
 use raft_base::{Error, FileId, LogQueue, Result, Version};
 use raft_memtable::MemTableRecoverContext;
 use raft_records::{FilePart, next_batch};
@@ -37,7 +37,11 @@ const ORDERS: [Order; 3] = [Order::FromLeft, Order::FromRight, Order::ByHalves];
 
 impl History {
     /// Returns the batches of files of version 1, given in base 16. Batches with the same number are parts of one file.
-    pub(crate) fn read(alloc: Global, queue: LogQueue, batches: &[Batch]) -> Result<History> {
+    pub(crate) fn from_digits(
+        alloc: Global,
+        queue: LogQueue,
+        batches: &[Batch],
+    ) -> Result<History> {
         let mut history = History {
             alloc,
             queue,
@@ -48,7 +52,7 @@ impl History {
             if *seq != file {
                 (file, offset) = (*seq, 0);
             }
-            let bytes = bytes_of(alloc, digits)?;
+            let bytes = bytes_of_digits(alloc, digits)?;
             let end = offset.saturating_add(bytes.len() as u64);
             let part = FilePart::new(FileId::new(queue, file), Version::V1, offset, bytes)?;
             history.push_file(&part)?;
@@ -75,11 +79,14 @@ impl History {
     }
 
     /// Checks that the context of a piece holds no more than it may; `Failed` where it does.
-    fn check(&self, piece: &Piece) -> Result<()> {
+    fn check_bound(&self, piece: &Piece) -> Result<()> {
         let Some(batches) = self.batches.get(piece.first..piece.end) else {
             return Err(Error::Failed);
         };
-        if is_within(piece.context.kept()?, bound_of(self.alloc, batches)?) {
+        if is_within(
+            piece.context.kept()?,
+            bound_of_batches(self.alloc, batches)?,
+        ) {
             Ok(())
         } else {
             Err(Error::Failed)
@@ -87,7 +94,7 @@ impl History {
     }
 
     /// Replays the batches from `first` on and below `end`, and checks the context after each.
-    pub(crate) fn replayed(&self, first: usize, end: usize) -> Result<Piece> {
+    pub(crate) fn replay_range(&self, first: usize, end: usize) -> Result<Piece> {
         let mut piece = Piece {
             context: MemTableRecoverContext::new(self.alloc)?,
             first,
@@ -96,41 +103,41 @@ impl History {
         for written in self.batches.iter().take(end).skip(first) {
             replay(&mut piece.context, written)?;
             piece.end = piece.end.saturating_add(1);
-            self.check(&piece)?;
+            self.check_bound(&piece)?;
         }
         Ok(piece)
     }
 
     /// Returns the pieces of the history, which is cut behind each batch whose bit in `cuts` is set.
-    fn pieces(&self, cuts: u64) -> Result<Vec<Piece>> {
+    fn cut_into_pieces(&self, cuts: u64) -> Result<Vec<Piece>> {
         let count = self.batches.len();
         let (mut pieces, mut first, mut left) = (Vec::new(self.alloc), 0, cuts);
         for end in 1..count {
             if left % 2 == 1 {
-                pieces.push(self.replayed(first, end)?)?;
+                pieces.push(self.replay_range(first, end)?)?;
                 first = end;
             }
             left /= 2;
         }
-        pieces.push(self.replayed(first, count)?)?;
+        pieces.push(self.replay_range(first, count)?)?;
         Ok(pieces)
     }
 
     /// Merges a piece with its newer neighbor, and checks the context.
-    fn merged(&self, older: Piece, newer: Piece) -> Result<Piece> {
+    fn merge_pieces(&self, older: Piece, newer: Piece) -> Result<Piece> {
         let mut piece = older;
         piece.end = newer.end;
         merge(&mut piece.context, newer.context, self.queue)?;
-        self.check(&piece)?;
+        self.check_bound(&piece)?;
         Ok(piece)
     }
 
     /// Merges pieces one by one, from the first on; `None` where there is none.
-    fn from_left(&self, pieces: Vec<Piece>) -> Result<Option<Piece>> {
+    fn merge_from_left(&self, pieces: Vec<Piece>) -> Result<Option<Piece>> {
         let mut whole: Option<Piece> = None;
         for piece in pieces {
             whole = Some(match whole {
-                Some(older) => self.merged(older, piece)?,
+                Some(older) => self.merge_pieces(older, piece)?,
                 None => piece,
             });
         }
@@ -138,11 +145,11 @@ impl History {
     }
 
     /// Merges pieces one by one, from the last on; `None` where there is none.
-    fn from_right(&self, pieces: Vec<Piece>) -> Result<Option<Piece>> {
+    fn merge_from_right(&self, pieces: Vec<Piece>) -> Result<Option<Piece>> {
         let mut whole: Option<Piece> = None;
         for piece in pieces.into_iter().rev() {
             whole = Some(match whole {
-                Some(newer) => self.merged(piece, newer)?,
+                Some(newer) => self.merge_pieces(piece, newer)?,
                 None => piece,
             });
         }
@@ -150,38 +157,38 @@ impl History {
     }
 
     /// Merges the first piece with the second, the third with the fourth, and so on.
-    fn paired(&self, pieces: Vec<Piece>) -> Result<Vec<Piece>> {
+    fn merge_in_pairs(&self, pieces: Vec<Piece>) -> Result<Vec<Piece>> {
         let mut pairs = Vec::new(self.alloc);
         let half = pieces.len().div_ceil(2);
         let mut rest = pieces.into_iter();
         for _ in 0..half {
             if let Some(older) = rest.next() {
-                pairs.push(self.pair(older, rest.next())?)?;
+                pairs.push(self.merge_with_neighbor(older, rest.next())?)?;
             }
         }
         Ok(pairs)
     }
 
     /// Merges a piece with its newer neighbor, if it has one.
-    fn pair(&self, older: Piece, newer: Option<Piece>) -> Result<Piece> {
+    fn merge_with_neighbor(&self, older: Piece, newer: Option<Piece>) -> Result<Piece> {
         match newer {
-            Some(newer) => self.merged(older, newer),
+            Some(newer) => self.merge_pieces(older, newer),
             None => Ok(older),
         }
     }
 
     /// Merges at most sixteen pieces in halves, and returns what they give, if that is a single piece.
-    fn by_halves(&self, pieces: Vec<Piece>) -> Result<Option<Piece>> {
+    fn merge_by_halves(&self, pieces: Vec<Piece>) -> Result<Option<Piece>> {
         let mut pieces = pieces;
         for _ in 0..4 {
-            pieces = self.paired(pieces)?;
+            pieces = self.merge_in_pairs(pieces)?;
         }
-        self.from_left(pieces)
+        self.merge_from_left(pieces)
     }
 
     /// Tests whether a piece has the whole history of a row, gives what the row expects, and has no more items that
     /// wait.
-    fn has(&self, whole: Option<Piece>, row: &Row) -> Result<bool> {
+    fn is_whole_and_right(&self, whole: Option<Piece>, row: &Row) -> Result<bool> {
         let Some(whole) = whole else {
             return Ok(false);
         };
@@ -195,20 +202,20 @@ impl History {
 
     /// Returns the whole history as one piece: cut behind each batch whose bit in `cuts` is set, and merged in an
     /// order.
-    fn whole(&self, cuts: u64, order: Order) -> Result<Option<Piece>> {
-        let pieces = self.pieces(cuts)?;
+    fn whole_as_one_piece(&self, cuts: u64, order: Order) -> Result<Option<Piece>> {
+        let pieces = self.cut_into_pieces(cuts)?;
         match order {
-            Order::FromLeft => self.from_left(pieces),
-            Order::FromRight => self.from_right(pieces),
-            Order::ByHalves => self.by_halves(pieces),
+            Order::FromLeft => self.merge_from_left(pieces),
+            Order::FromRight => self.merge_from_right(pieces),
+            Order::ByHalves => self.merge_by_halves(pieces),
         }
     }
 
     /// Tests whether the history of a row, cut and merged in this way, gives what the row expects, or is refused, if it
     /// expects that.
-    fn holds(&self, cuts: u64, order: Order, row: &Row) -> Result<bool> {
-        match self.whole(cuts, order) {
-            Ok(whole) => self.has(whole, row),
+    fn is_row_met_at_cutting(&self, cuts: u64, order: Order, row: &Row) -> Result<bool> {
+        match self.whole_as_one_piece(cuts, order) {
+            Ok(whole) => self.is_whole_and_right(whole, row),
             Err(Error::Corruption(_)) => Ok(row.lines.is_none()),
             Err(error) => Err(error),
         }
@@ -216,10 +223,10 @@ impl History {
 
     /// Tests whether the history of a row gives what the row expects, or is refused, at each cutting, merged in each
     /// order.
-    pub(crate) fn at_each_cutting(&self, row: &Row) -> Result<bool> {
-        for cuts in 0..cuttings(self.batches.len()) {
+    pub(crate) fn is_row_met_at_each_cutting(&self, row: &Row) -> Result<bool> {
+        for cuts in 0..count_cuttings(self.batches.len()) {
             for &order in &ORDERS {
-                if !self.holds(cuts, order, row)? {
+                if !self.is_row_met_at_cutting(cuts, order, row)? {
                     return Ok(false);
                 }
             }

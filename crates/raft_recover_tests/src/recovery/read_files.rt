@@ -20,25 +20,30 @@ use std::{fs, io};
 struct HeldFiles(Vec<(FileSeq, Vec<u8>)>);
 
 impl ReadFiles for HeldFiles {
+    /// Appends `len` bytes of `file` from `offset` on to `bytes`; fewer if the file ends before.
+    ///
+    /// # Errors
+    ///
+    /// Lack of memory.
     fn read(&self, file: FileId, offset: u64, len: usize, bytes: &mut Vec<u8>) -> io::Result<()> {
-        bytes.extend_from_slice(self.part(file.seq, offset, len))?;
+        bytes.extend_from_slice(self.slice_of_file(file.seq, offset, len))?;
         Ok(())
     }
 }
 
 impl HeldFiles {
     /// Returns `len` bytes of a file from an offset on; fewer where the file ends before.
-    fn part(&self, seq: FileSeq, offset: u64, len: usize) -> &[u8] {
+    fn slice_of_file(&self, seq: FileSeq, offset: u64, len: usize) -> &[u8] {
         for (held, bytes) in &self.0 {
             if *held == seq {
-                return part_of(bytes.as_slice(), offset, len);
+                return slice_from(bytes.as_slice(), offset, len);
             }
         }
         &[]
     }
 
     /// Returns the number and the length of each file.
-    fn sizes(&self, alloc: Global) -> Result<Vec<FileSize>> {
+    fn file_sizes(&self, alloc: Global) -> Result<Vec<FileSize>> {
         let mut sizes = Vec::new(alloc);
         for (seq, bytes) in &self.0 {
             let len = bytes.len() as u64;
@@ -49,7 +54,7 @@ impl HeldFiles {
 }
 
 /// Returns `len` bytes from an offset on; fewer where the bytes end before.
-fn part_of(bytes: &[u8], offset: u64, len: usize) -> &[u8] {
+fn slice_from(bytes: &[u8], offset: u64, len: usize) -> &[u8] {
     let start = offset.min(bytes.len() as u64) as usize;
     let end = start.saturating_add(len).min(bytes.len());
     bytes.get(start..end).unwrap_or(&[])
@@ -73,7 +78,7 @@ const LINES: &str = "1 entries 20..45 keys 0 append 1 rewrite -\ncleaned -\nlive
 const LAST_PIECE: &str = "append file 1, offset 8388608: ";
 
 /// Returns files with the batches of `FILES`.
-fn made(alloc: Global) -> Result<HeldFiles> {
+fn files_of_both(alloc: Global) -> Result<HeldFiles> {
     let mut files = Vec::new(alloc);
     for &(seq, records) in &FILES {
         let file = FileId::new(LogQueue::Append, seq);
@@ -83,7 +88,7 @@ fn made(alloc: Global) -> Result<HeldFiles> {
 }
 
 /// Recovers the tables of files with these numbers and lengths, which three workers read.
-fn tables_of<R: Threads + Sync>(
+fn recover_in_pieces<R: Threads + Sync>(
     rt: &R,
     alloc: Global,
     files: &HeldFiles,
@@ -93,40 +98,48 @@ fn tables_of<R: Threads + Sync>(
 }
 
 /// Tests whether tables are printed as the lines.
-fn have_lines(alloc: Global, tables: &MemTableAccessor) -> Result<bool> {
+fn are_lines_printed(alloc: Global, tables: &MemTableAccessor) -> Result<bool> {
     Ok(recovered_text(alloc, tables)?.as_str() == LINES)
 }
 
 /// Tests whether files that are read in pieces give the lines.
-fn files_give_lines<R: Threads + Sync>(rt: &R, alloc: Global, files: &HeldFiles) -> Result<bool> {
-    let sizes = files.sizes(alloc)?;
-    let tables = tables_of(rt, alloc, files, sizes.as_slice())?;
-    have_lines(alloc, &tables)
-}
-
-/// Tests whether `recover` gives the lines for the bytes of the files.
-fn bytes_give_lines<R: Threads + Sync>(rt: &R, alloc: Global, files: HeldFiles) -> Result<bool> {
-    let segments = file_segments(LogQueue::Append, Version::V2, files.0)?;
-    let tables = recover(rt, alloc, segments.as_slice(), LogQueue::Append, 3)?;
-    have_lines(alloc, &tables)
-}
-
-/// Tests whether files are refused if the first one is said to have one byte more than it has: the read of its last
-/// piece returns fewer bytes than are wanted.
-fn shorter_file_is_refused<R: Threads + Sync>(
+fn do_files_in_pieces_give_lines<R: Threads + Sync>(
     rt: &R,
     alloc: Global,
     files: &HeldFiles,
 ) -> Result<bool> {
-    let mut sizes = files.sizes(alloc)?;
+    let sizes = files.file_sizes(alloc)?;
+    let tables = recover_in_pieces(rt, alloc, files, sizes.as_slice())?;
+    are_lines_printed(alloc, &tables)
+}
+
+/// Tests whether `recover` gives the lines for the bytes of the files.
+fn do_bytes_of_files_give_lines<R: Threads + Sync>(
+    rt: &R,
+    alloc: Global,
+    files: HeldFiles,
+) -> Result<bool> {
+    let segments = file_segments(LogQueue::Append, Version::V2, files.0)?;
+    let tables = recover(rt, alloc, segments.as_slice(), LogQueue::Append, 3)?;
+    are_lines_printed(alloc, &tables)
+}
+
+/// Tests whether files are refused if the first one is said to have one byte more than it has: the read of its last
+/// piece returns fewer bytes than are wanted.
+fn is_shorter_file_refused<R: Threads + Sync>(
+    rt: &R,
+    alloc: Global,
+    files: &HeldFiles,
+) -> Result<bool> {
+    let mut sizes = files.file_sizes(alloc)?;
     if let Some(first) = sizes.first_mut() {
         first.len = first.len.saturating_add(1);
     }
-    stops_at_last_piece(alloc, tables_of(rt, alloc, files, sizes.as_slice()))
+    is_refused_at_last_piece(alloc, recover_in_pieces(rt, alloc, files, sizes.as_slice()))
 }
 
 /// Tests whether a recovery is refused with the place of the last piece. Other errors are passed on.
-fn stops_at_last_piece(alloc: Global, read: Result<MemTableAccessor>) -> Result<bool> {
+fn is_refused_at_last_piece(alloc: Global, read: Result<MemTableAccessor>) -> Result<bool> {
     match read {
         Ok(_tables) => Ok(false),
         Err(Error::Io(error)) => {
@@ -138,19 +151,19 @@ fn stops_at_last_piece(alloc: Global, read: Result<MemTableAccessor>) -> Result<
 }
 
 /// Returns the path of a file.
-fn path_of(alloc: Global, seq: FileSeq) -> Result<String> {
+fn path_of_file(alloc: Global, seq: FileSeq) -> Result<String> {
     Ok(format!(in alloc; "in_pieces.{seq}.log")?)
 }
 
 /// Writes the files, and returns the arguments that have the program recover them.
-fn words_for<S: Files + AllocGlobal>(rt: &S, files: &HeldFiles) -> Result<Vec<String>> {
+fn write_files_and_words<S: Files + AllocGlobal>(rt: &S, files: &HeldFiles) -> Result<Vec<String>> {
     let alloc = rt.alloc();
     let mut words = Vec::new(alloc);
     for &word in &["recover", "append", "2", "3"] {
         words.push(String::from_str(alloc, word)?)?;
     }
     for (seq, bytes) in &files.0 {
-        let path = path_of(alloc, *seq)?;
+        let path = path_of_file(alloc, *seq)?;
         fs::write(rt, path.as_str(), bytes.as_slice())?;
         words.push(format!(in alloc; "{seq}={path}")?)?;
     }
@@ -158,24 +171,24 @@ fn words_for<S: Files + AllocGlobal>(rt: &S, files: &HeldFiles) -> Result<Vec<St
 }
 
 /// Removes the files from the disk.
-fn remove<S: Files + AllocGlobal>(rt: &S, files: &HeldFiles) -> Result<()> {
+fn remove_files<S: Files + AllocGlobal>(rt: &S, files: &HeldFiles) -> Result<()> {
     for (seq, _) in &files.0 {
-        fs::remove_file(rt, path_of(rt.alloc(), *seq)?.as_str())?;
+        fs::remove_file(rt, path_of_file(rt.alloc(), *seq)?.as_str())?;
     }
     Ok(())
 }
 
 /// Tests whether the program prints the lines of files on a disk. A run that is refused counts as `Memory`.
-fn program_prints_lines<S: SharedFiles + Files + AllocGlobal + Threads + Sync>(
+fn does_program_print_lines<S: SharedFiles + Files + AllocGlobal + Threads + Sync>(
     rt: &S,
     files: &HeldFiles,
 ) -> Result<bool> {
-    let words = words_for(rt, files)?;
+    let words = write_files_and_words(rt, files)?;
     let mut input = b"".as_slice();
     let mut out = Vec::new(rt.alloc());
     let mut err = Vec::new(rt.alloc());
     let status = run_in_pieces(rt, words.as_slice(), &mut input, &mut out, &mut err);
-    remove(rt, files)?;
+    remove_files(rt, files)?;
     if status != 0 {
         return Err(Error::Memory);
     }
@@ -184,7 +197,7 @@ fn program_prints_lines<S: SharedFiles + Files + AllocGlobal + Threads + Sync>(
 
 /// Tests whether a read at an offset returns what the file has there: fewer bytes where it ends, and none behind its
 /// end.
-fn reads_are_at_offsets<S: SharedFiles + Files + AllocGlobal>(rt: &S) -> Result<bool> {
+fn are_reads_at_offsets_right<S: SharedFiles + Files + AllocGlobal>(rt: &S) -> Result<bool> {
     let mut bytes = Vec::new(rt.alloc());
     fs::write(rt, "at_offsets.log", b"0123456789".as_slice())?;
     let len = rt.file_len("at_offsets.log")?;
@@ -202,22 +215,24 @@ fn reads_are_at_offsets<S: SharedFiles + Files + AllocGlobal>(rt: &S) -> Result<
 }
 
 /// Tests all ways of reading the files.
-fn all_hold<S: SharedFiles + Files + AllocGlobal + Threads + Sync>(rt: &S) -> Result<bool> {
+fn do_all_ways_hold<S: SharedFiles + Files + AllocGlobal + Threads + Sync>(rt: &S) -> Result<bool> {
     let alloc = rt.alloc();
-    let files = made(alloc)?;
-    let read = files_give_lines(rt, alloc, &files)?;
-    let refused = shorter_file_is_refused(rt, alloc, &files)?;
-    let printed = program_prints_lines(rt, &files)?;
-    let recovered = bytes_give_lines(rt, alloc, files)?;
+    let files = files_of_both(alloc)?;
+    let read = do_files_in_pieces_give_lines(rt, alloc, &files)?;
+    let refused = is_shorter_file_refused(rt, alloc, &files)?;
+    let printed = does_program_print_lines(rt, &files)?;
+    let recovered = do_bytes_of_files_give_lines(rt, alloc, files)?;
     Ok(read && refused && printed && recovered)
 }
 
+/// Tests that files that are read in pieces, as bytes and by the program give the same lines.
 #[test]
 fn files_are_read_in_pieces(rt: HostRuntime) {
-    assert!(rt; matches!(again!(all_hold(&rt)), Ok(true)));
+    assert!(rt; matches!(again!(do_all_ways_hold(&rt)), Ok(true)));
 }
 
+/// Tests what reads at offsets return, also at the end of a file and beyond it.
 #[test]
 fn files_are_read_at_offsets(rt: HostRuntime) {
-    assert!(rt; matches!(again!(reads_are_at_offsets(&rt)), Ok(true)));
+    assert!(rt; matches!(again!(are_reads_at_offsets_right(&rt)), Ok(true)));
 }

@@ -1,7 +1,7 @@
 //! Tests the texts of errors: where reading stopped, and why.
 
 use crate::recovery::histories::{APPENDED, WITH_A_HOLE};
-use crate::recovery::{cut, cuttings, whole_files};
+use crate::recovery::{count_cuttings, cut_into_segments, files_of_batches};
 use raft_base::{Error, FileId, FileSeq, LogQueue, Result, Version};
 use raft_records::FilePart;
 use raft_recover::files::file_segments;
@@ -48,7 +48,7 @@ static SPELLINGS: [(&str, &str); 3] = [
 ];
 
 /// Returns the rows of batches that are refused.
-fn spellings() -> &'static [(&'static str, &'static str)] {
+fn rows_of_refused_batches() -> &'static [(&'static str, &'static str)] {
     &SPELLINGS
 }
 
@@ -64,7 +64,7 @@ enum Call {
 use Call::{Recover, RecoverBoth, RecoverSegments};
 
 /// Makes a call that reads segments as those of a queue with so many workers, and returns its result.
-fn tables_of<R: Threads + Sync>(
+fn recover_by_call<R: Threads + Sync>(
     rt: &R,
     alloc: Global,
     call: Call,
@@ -82,7 +82,7 @@ fn tables_of<R: Threads + Sync>(
 
 /// Returns the text with which a call refuses segments, as `Corruption` or as `InvalidArgument`, read as those of a
 /// queue with so many workers; an empty text where they are read.
-fn told<R: Threads + Sync>(
+fn refusal_text<R: Threads + Sync>(
     rt: &R,
     alloc: Global,
     call: Call,
@@ -90,7 +90,7 @@ fn told<R: Threads + Sync>(
     queue: LogQueue,
     workers: usize,
 ) -> Result<String> {
-    match tables_of(rt, alloc, call, segments, queue, workers) {
+    match recover_by_call(rt, alloc, call, segments, queue, workers) {
         Ok(_tables) => Ok(String::new(alloc)),
         Err(Error::Corruption(text)) => Ok(text),
         Err(Error::InvalidArgument(text)) => Ok(text),
@@ -99,7 +99,7 @@ fn told<R: Threads + Sync>(
 }
 
 /// Returns the text with which batches of the append queue are refused, each as a part of its own.
-fn refusal<R: Threads + Sync>(
+fn refusal_of_parts<R: Threads + Sync>(
     rt: &R,
     alloc: Global,
     call: Call,
@@ -108,21 +108,21 @@ fn refusal<R: Threads + Sync>(
     queue: LogQueue,
     workers: usize,
 ) -> Result<String> {
-    let segments = cut(alloc, LogQueue::Append, Version::V1, batches, cuts)?;
-    told(rt, alloc, call, segments.as_slice(), queue, workers)
+    let segments = cut_into_segments(alloc, LogQueue::Append, Version::V1, batches, cuts)?;
+    refusal_text(rt, alloc, call, segments.as_slice(), queue, workers)
 }
 
 /// Returns the text with which the files of batches of the append queue are refused, each as a part of all its batches.
-fn file_refusal<R: Threads + Sync>(
+fn refusal_of_files<R: Threads + Sync>(
     rt: &R,
     alloc: Global,
     call: Call,
     batches: &[(FileSeq, &str)],
     workers: usize,
 ) -> Result<String> {
-    let files = whole_files(alloc, Version::V1, batches)?;
+    let files = files_of_batches(alloc, Version::V1, batches)?;
     let segments = file_segments(LogQueue::Append, Version::V1, files)?;
-    told(
+    refusal_text(
         rt,
         alloc,
         call,
@@ -133,7 +133,7 @@ fn file_refusal<R: Threads + Sync>(
 }
 
 /// Returns the appended batches, of which the one at position `number` lacks its last byte.
-fn cut_short(alloc: Global, number: usize) -> Result<Vec<(FileSeq, &'static str)>> {
+fn batches_cut_short(alloc: Global, number: usize) -> Result<Vec<(FileSeq, &'static str)>> {
     let mut batches = Vec::from_slice(alloc, APPENDED.as_slice())?;
     if let Some((_, digits)) = batches.get_mut(number) {
         *digits = digits.get(..digits.len().saturating_sub(2)).unwrap_or("");
@@ -142,17 +142,22 @@ fn cut_short(alloc: Global, number: usize) -> Result<Vec<(FileSeq, &'static str)
 }
 
 /// Returns the text for each appended batch that is cut short.
-fn cut_short_texts() -> &'static [&'static str] {
+fn texts_for_cut_batches() -> &'static [&'static str] {
     &CUT_SHORT
 }
 
 /// Tests whether a batch that is cut short is refused with this text, which has its place: in one segment, and in a
 /// segment for each batch.
-fn is_told<R: Threads + Sync>(rt: &R, alloc: Global, number: usize, text: &str) -> Result<bool> {
-    let batches = cut_short(alloc, number)?;
+fn is_cut_batch_refused_with<R: Threads + Sync>(
+    rt: &R,
+    alloc: Global,
+    number: usize,
+    text: &str,
+) -> Result<bool> {
+    let batches = batches_cut_short(alloc, number)?;
     let batches = batches.as_slice();
-    let one = refusal(rt, alloc, Recover, batches, 0, LogQueue::Append, 1)?;
-    let many = refusal(
+    let one = refusal_of_parts(rt, alloc, Recover, batches, 0, LogQueue::Append, 1)?;
+    let many = refusal_of_parts(
         rt,
         alloc,
         RecoverSegments,
@@ -164,16 +169,17 @@ fn is_told<R: Threads + Sync>(rt: &R, alloc: Global, number: usize, text: &str) 
     Ok(one.as_str() == text && many.as_str() == text)
 }
 
+/// Tests that the refusal of a batch that is cut short names its file and its offset.
 #[test]
-fn refusals_name_file_and_offset(rt: HostRuntime) {
-    for (number, text) in cut_short_texts().iter().enumerate() {
-        let told = again!(is_told(&rt, rt.alloc(), number, text));
+fn refusals_of_cut_batches_name_file_and_offset(rt: HostRuntime) {
+    for (number, text) in texts_for_cut_batches().iter().enumerate() {
+        let told = again!(is_cut_batch_refused_with(&rt, rt.alloc(), number, text));
         assert!(rt; matches!(told, Ok(true)), "batch {number}");
     }
 }
 
 /// Returns the place at the start of a text.
-fn place_in(text: &str) -> &str {
+fn place_in_text(text: &str) -> &str {
     match text.split_once(": ") {
         Some((place, _)) => place,
         None => text,
@@ -181,38 +187,39 @@ fn place_in(text: &str) -> &str {
 }
 
 /// Tests whether the error for a batch that is cut short names its place, also where its file is a single part.
-fn is_place_told<R: Threads + Sync>(
+fn is_place_of_cut_batch_named<R: Threads + Sync>(
     rt: &R,
     alloc: Global,
     number: usize,
     text: &str,
 ) -> Result<bool> {
-    let batches = cut_short(alloc, number)?;
+    let batches = batches_cut_short(alloc, number)?;
     for &(call, workers) in &[(Recover, 1), (RecoverSegments, 3), (RecoverBoth, 2)] {
-        let told = file_refusal(rt, alloc, call, batches.as_slice(), workers)?;
-        if place_in(told.as_str()) != place_in(text) {
+        let told = refusal_of_files(rt, alloc, call, batches.as_slice(), workers)?;
+        if place_in_text(told.as_str()) != place_in_text(text) {
             return Ok(false);
         }
     }
     Ok(true)
 }
 
+/// Tests that the refusal names the place of the batch also where its file is a single part.
 #[test]
 fn refusals_in_files_name_the_batch(rt: HostRuntime) {
-    for (number, text) in cut_short_texts().iter().enumerate() {
-        let told = again!(is_place_told(&rt, rt.alloc(), number, text));
+    for (number, text) in texts_for_cut_batches().iter().enumerate() {
+        let told = again!(is_place_of_cut_batch_named(&rt, rt.alloc(), number, text));
         assert!(rt; matches!(told, Ok(true)), "batch {number}");
     }
 }
 
 /// Tests whether a hole is refused with the same text at each seventh cutting, with one to four workers, and in whole
 /// files.
-fn is_hole_told<R: Threads + Sync>(rt: &R, alloc: Global) -> Result<bool> {
+fn is_hole_refused_at_each_cutting<R: Threads + Sync>(rt: &R, alloc: Global) -> Result<bool> {
     let batches = WITH_A_HOLE.as_slice();
-    for seventh in 0..cuttings(batches.len()) / 7 {
+    for seventh in 0..count_cuttings(batches.len()) / 7 {
         let cuts = 7 * seventh;
         let workers = 1 + (cuts % 4) as usize;
-        let text = refusal(
+        let text = refusal_of_parts(
             rt,
             alloc,
             RecoverSegments,
@@ -225,18 +232,25 @@ fn is_hole_told<R: Threads + Sync>(rt: &R, alloc: Global) -> Result<bool> {
             return Ok(false);
         }
     }
-    let one = refusal(rt, alloc, Recover, batches, 0, LogQueue::Append, 1)?;
-    let whole = file_refusal(rt, alloc, RecoverBoth, batches, 2)?;
+    let one = refusal_of_parts(rt, alloc, Recover, batches, 0, LogQueue::Append, 1)?;
+    let whole = refusal_of_files(rt, alloc, RecoverBoth, batches, 2)?;
     Ok(one.as_str() == PLACED_HOLE && whole.as_str() == PLACED_HOLE)
 }
 
+/// Tests that a hole is refused with the same text, however the batches are cut and by how many workers they are
+/// read.
 #[test]
-fn holes_are_told_in_one_wording(rt: HostRuntime) {
-    assert!(rt; matches!(again!(is_hole_told(&rt, rt.alloc())), Ok(true)));
+fn holes_are_refused_with_one_text_at_each_cutting(rt: HostRuntime) {
+    assert!(rt;
+        matches!(
+            again!(is_hole_refused_at_each_cutting(&rt, rt.alloc())),
+            Ok(true)
+        )
+    );
 }
 
 /// Tests whether a call refuses so many workers on a queue with this text, or takes them, if it is empty.
-fn is_argument_told<R: Threads + Sync>(
+fn is_worker_count_refused_with<R: Threads + Sync>(
     rt: &R,
     alloc: Global,
     call: Call,
@@ -244,14 +258,15 @@ fn is_argument_told<R: Threads + Sync>(
     workers: usize,
     text: &str,
 ) -> Result<bool> {
-    let told = refusal(rt, alloc, call, APPENDED.as_slice(), 1, queue, workers)?;
+    let told = refusal_of_parts(rt, alloc, call, APPENDED.as_slice(), 1, queue, workers)?;
     Ok(told.as_str() == text)
 }
 
 const OTHER_WORKERS: &str = "another number of workers than 1 to 256";
 
+/// Tests which numbers of workers each call takes, for each queue.
 #[test]
-fn arguments_are_told(rt: HostRuntime) {
+fn wrong_numbers_of_workers_are_refused(rt: HostRuntime) {
     for &call in &[Recover, RecoverSegments, RecoverBoth] {
         for &(queue, workers, text) in &[
             (LogQueue::Append, 0, OTHER_WORKERS),
@@ -260,7 +275,14 @@ fn arguments_are_told(rt: HostRuntime) {
             (LogQueue::Append, 257, OTHER_WORKERS),
             (LogQueue::Rewrite, 1, OTHER_QUEUE),
         ] {
-            let told = again!(is_argument_told(&rt, rt.alloc(), call, queue, workers, text));
+            let told = again!(is_worker_count_refused_with(
+                &rt,
+                rt.alloc(),
+                call,
+                queue,
+                workers,
+                text
+            ));
             assert!(rt; matches!(told, Ok(true)), "{workers} workers: {text}");
         }
     }
@@ -301,7 +323,7 @@ static MIXTURES: [(Queues, LogQueue, &str); 6] = [
 ];
 
 /// Returns the rows of segments with parts of several queues.
-fn mixtures() -> &'static [(Queues, LogQueue, &'static str)] {
+fn rows_of_mixed_segments() -> &'static [(Queues, LogQueue, &'static str)] {
     &MIXTURES
 }
 
@@ -325,7 +347,7 @@ fn empty_segment(alloc: Global, queues: &[LogQueue]) -> Result<Segment> {
 }
 
 /// Tests whether each call refuses such segments with the text of a row, read as those of a queue with two workers.
-fn is_mixture_told<R: Threads + Sync>(
+fn is_mixture_refused_with<R: Threads + Sync>(
     rt: &R,
     alloc: Global,
     queues: &Queues,
@@ -334,32 +356,33 @@ fn is_mixture_told<R: Threads + Sync>(
 ) -> Result<bool> {
     let segments = empty_segments(alloc, queues)?;
     for &call in &[Recover, RecoverSegments, RecoverBoth] {
-        if told(rt, alloc, call, segments.as_slice(), queue, 2)?.as_str() != text {
+        if refusal_text(rt, alloc, call, segments.as_slice(), queue, 2)?.as_str() != text {
             return Ok(false);
         }
     }
     Ok(true)
 }
 
+/// Tests that each call refuses segments with parts of another queue, with a text that names both.
 #[test]
-fn parts_of_another_queue_are_told(rt: HostRuntime) {
-    for (row, (queues, queue, text)) in mixtures().iter().enumerate() {
-        let told = again!(is_mixture_told(&rt, rt.alloc(), queues, *queue, text));
+fn parts_of_another_queue_are_refused(rt: HostRuntime) {
+    for (row, (queues, queue, text)) in rows_of_mixed_segments().iter().enumerate() {
+        let told = again!(is_mixture_refused_with(&rt, rt.alloc(), queues, *queue, text));
         assert!(rt; matches!(told, Ok(true)), "row {row}");
     }
 }
 
 /// Tests whether a call refuses a batch behind another one with this text: each as a part of its own, and both as one
 /// part.
-fn is_spelling_told<R: Threads + Sync>(
+fn is_batch_refused_with<R: Threads + Sync>(
     rt: &R,
     alloc: Global,
     digits: &str,
     text: &str,
 ) -> Result<bool> {
     let batches = [(1, CLEAN), (1, digits)];
-    let segments = cut(alloc, LogQueue::Append, Version::V1, &batches, 1)?;
-    let files = whole_files(alloc, Version::V1, &batches)?;
+    let segments = cut_into_segments(alloc, LogQueue::Append, Version::V1, &batches, 1)?;
+    let files = files_of_batches(alloc, Version::V1, &batches)?;
     let whole = file_segments(LogQueue::Append, Version::V1, files)?;
     for read in [segments.as_slice(), whole.as_slice()] {
         let told = match recover(rt, alloc, read, LogQueue::Append, 2) {
@@ -374,10 +397,11 @@ fn is_spelling_told<R: Threads + Sync>(
     Ok(true)
 }
 
+/// Tests that a damaged batch behind another one is refused with its file and its offset.
 #[test]
-fn refused_spellings_name_file_and_offset(rt: HostRuntime) {
-    for &(digits, text) in spellings() {
-        let told = again!(is_spelling_told(&rt, rt.alloc(), digits, text));
+fn refusals_of_damaged_batches_name_file_and_offset(rt: HostRuntime) {
+    for &(digits, text) in rows_of_refused_batches() {
+        let told = again!(is_batch_refused_with(&rt, rt.alloc(), digits, text));
         assert!(rt; matches!(told, Ok(true)), "{text}");
     }
 }

@@ -1,8 +1,8 @@
 //! Tests recovered tables that threads share.
 
-use super::histories::histories;
+use super::histories::rows_of_histories;
 use super::rows::FIVE_OWED;
-use super::{cut, owed};
+use super::{cut_into_segments, owed};
 use raft_base::{FileSeq, LogQueue, Result, Version};
 use raft_memtable::MemTable;
 use raft_records::LogBatch;
@@ -70,7 +70,7 @@ fn history_rows() -> &'static [Row] {
 }
 
 /// Returns what the tests compare of a table.
-fn shape(table: &MemTable) -> Shape {
+fn shape_of_table(table: &MemTable) -> Shape {
     (
         table.region_id(),
         (table.first_index(), table.last_index()),
@@ -83,15 +83,19 @@ fn shape(table: &MemTable) -> Shape {
 }
 
 /// Returns the shape of a shared table; `None` where the region has none.
-fn shape_of<R: Wait>(rt: &R, shared: &SharedAccessor, region: u64) -> Option<Shape> {
-    shared.with_table(rt, region, shape)
+fn shape_of_shared_table<R: Wait>(rt: &R, shared: &SharedAccessor, region: u64) -> Option<Shape> {
+    shared.with_table(rt, region, shape_of_table)
 }
 
 /// Returns what the shared tables have, by region.
-fn shapes<R: Wait>(rt: &R, alloc: Global, shared: &SharedAccessor) -> Result<Vec<Shape>> {
+fn shapes_of_shared_tables<R: Wait>(
+    rt: &R,
+    alloc: Global,
+    shared: &SharedAccessor,
+) -> Result<Vec<Shape>> {
     let mut shapes = Vec::new(alloc);
     for region in shared.collect(rt, |_: &MemTable| true)? {
-        if let Some(shape) = shape_of(rt, shared, region) {
+        if let Some(shape) = shape_of_shared_table(rt, shared, region) {
             shapes.push(shape)?;
         }
     }
@@ -100,15 +104,19 @@ fn shapes<R: Wait>(rt: &R, alloc: Global, shared: &SharedAccessor) -> Result<Vec
 }
 
 /// Takes the cleaned regions, as a batch.
-fn cleaned_logs<R: Wait>(rt: &R, alloc: Global, shared: &SharedAccessor) -> Result<LogBatch> {
+fn take_cleaned_logs<R: Wait>(rt: &R, alloc: Global, shared: &SharedAccessor) -> Result<LogBatch> {
     let mut logs = LogBatch::default(alloc);
     shared.take_cleaned_region_logs(rt, &mut logs)?;
     Ok(logs)
 }
 
 /// Takes the cleaned regions, and returns them.
-fn cleaned<R: Wait>(rt: &R, alloc: Global, shared: &SharedAccessor) -> Result<Vec<u64>> {
-    let mut logs = cleaned_logs(rt, alloc, shared)?;
+fn take_cleaned_regions<R: Wait>(
+    rt: &R,
+    alloc: Global,
+    shared: &SharedAccessor,
+) -> Result<Vec<u64>> {
+    let mut logs = take_cleaned_logs(rt, alloc, shared)?;
     let mut regions = Vec::new(alloc);
     for item in logs.drain() {
         regions.push(item.raft_group_id)?;
@@ -117,45 +125,51 @@ fn cleaned<R: Wait>(rt: &R, alloc: Global, shared: &SharedAccessor) -> Result<Ve
 }
 
 /// Recovers the tables of a history, and shares them.
-fn shared_of<R: Threads + Wait + Sync>(
+fn recover_and_share<R: Threads + Wait + Sync>(
     rt: &R,
     alloc: Global,
     history: &owed::Row,
 ) -> Result<SharedAccessor> {
-    let segments = cut(alloc, history.queue, Version::V1, history.batches, 0)?;
+    let segments = cut_into_segments(alloc, history.queue, Version::V1, history.batches, 0)?;
     let tables = recover(rt, alloc, segments.as_slice(), history.queue, 1)?;
     SharedAccessor::from_core(alloc, tables)
 }
 
 /// Tests whether the shared tables of a history have what its row says, and, once they are an accessor's again, all
 /// that recovery has to give.
-fn holds<R: Threads + Wait + Sync>(
+fn is_history_shared_as_row_says<R: Threads + Wait + Sync>(
     rt: &R,
     alloc: Global,
     history: &owed::Row,
     row: &Row,
 ) -> Result<bool> {
-    let shared = shared_of(rt, alloc, history)?;
-    let shown = live(rt, &shared) == row.live
-        && shapes(rt, alloc, &shared)?.as_slice() == row.tables
-        && cleaned(rt, alloc, &shared)?.as_slice() == row.cleaned;
-    let core = shared_of(rt, alloc, history)?.into_core()?;
+    let shared = recover_and_share(rt, alloc, history)?;
+    let shown = live_counts(rt, &shared) == row.live
+        && shapes_of_shared_tables(rt, alloc, &shared)?.as_slice() == row.tables
+        && take_cleaned_regions(rt, alloc, &shared)?.as_slice() == row.cleaned;
+    let core = recover_and_share(rt, alloc, history)?.into_core()?;
     Ok(shown && history.is_met(alloc, &core)?)
 }
 
 /// Returns how many records are live in the append queue and in the rewrite queue.
-fn live<R: Wait>(rt: &R, shared: &SharedAccessor) -> (u128, u128) {
+fn live_counts<R: Wait>(rt: &R, shared: &SharedAccessor) -> (u128, u128) {
     (
         shared.live_entries(rt, LogQueue::Append),
         shared.live_entries(rt, LogQueue::Rewrite),
     )
 }
 
+/// Tests that recovered tables, once they are shared, have what their rows say, and the same as an accessor again.
 #[test]
 fn recovered_tables_are_shared(rt: HostRuntime) {
-    assert!(rt; matches!(again!(holds(&rt, rt.alloc(), &FIVE_OWED, &FIVE)), Ok(true)));
-    for (history, row) in histories().iter().zip(history_rows()) {
-        let held = again!(holds(&rt, rt.alloc(), history, row));
+    assert!(rt;
+        matches!(
+            again!(is_history_shared_as_row_says(&rt, rt.alloc(), &FIVE_OWED, &FIVE)),
+            Ok(true)
+        )
+    );
+    for (history, row) in rows_of_histories().iter().zip(history_rows()) {
+        let held = again!(is_history_shared_as_row_says(&rt, rt.alloc(), history, row));
         assert!(rt; matches!(held, Ok(true)), "{:?}", row.tables);
     }
 }

@@ -9,7 +9,7 @@ use super::batches::{
 use super::owed::{APPEND, REWRITE, Row};
 
 /// Returns the rows of truncations.
-pub(crate) fn truncations() -> &'static [Row] {
+pub(crate) fn rows_of_truncations() -> &'static [Row] {
     &ROWS
 }
 

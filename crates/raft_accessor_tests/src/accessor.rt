@@ -1,7 +1,7 @@
 //! Tests that calls of an accessor answer, count and leave what their rows say, and that a region has the slot that
 //! raft-engine gives it.
 
-use crate::calls::{Call, call_core, tables_after_calls};
+use crate::calls::{Call, call_accessor, tables_after_calls};
 use crate::items::{Item, NEW, result_or_fault};
 use crate::rows::{Outline, Row, lists_of_rows};
 use crate::seen::{live_written_and_deleted, take_cleaned_of_accessor};
@@ -21,14 +21,22 @@ fn indexes_and_counts(table: &MemTable) -> Outline {
 }
 
 /// Makes the call of a row, and tests whether it returns and leaves what the row says.
+///
+/// # Errors
+///
+/// That of the call, unless it is a [`Fault`](crate::items::Fault).
 fn is_call_as_row_says(alloc: Global, core: &mut MemTableAccessor, row: &Row) -> Result<bool> {
     let (call, expected, numbers, (region, table)) = *row;
-    let answer = result_or_fault(call_core(alloc, core, call))?.map(|answer| answer.0);
+    let answer = result_or_fault(call_accessor(alloc, core, call))?.map(|answer| answer.0);
     let is_counted = live_written_and_deleted(core.stats()) == numbers;
     Ok(answer == expected && is_counted && core.get(region).map(indexes_and_counts) == table)
 }
 
-/// Tests the calls of each list of rows, one after another on a new accessor.
+/// Tests whether the calls of each list of rows are as the rows say, one after another on a new accessor.
+///
+/// # Errors
+///
+/// Those of [`is_call_as_row_says`].
 fn are_all_calls_as_rows_say(alloc: Global) -> Result<bool> {
     for rows in lists_of_rows() {
         let mut core = MemTableAccessor::new(alloc)?;
@@ -109,13 +117,17 @@ fn is_table_of_row(table: &MemTable, row: &Handed) -> bool {
 }
 
 /// Makes the call of a row, and tests whether `get_or_insert` then returns the row's table, twice, and so does `get`.
+///
+/// # Errors
+///
+/// Those of the calls; `Memory`.
 fn is_own_table_handed_out(
     alloc: Global,
     core: &mut MemTableAccessor,
     row: &Handed,
 ) -> Result<bool> {
     let (call, region, _, _, count) = *row;
-    call_core(alloc, core, call)?;
+    call_accessor(alloc, core, call)?;
     let is_first = is_table_of_row(core.get_or_insert(region)?, row);
     let is_second = is_table_of_row(core.get_or_insert(region)?, row);
     let is_found = core
@@ -124,7 +136,11 @@ fn is_own_table_handed_out(
     Ok(is_first && is_second && is_found && core.tables()?.len() == count)
 }
 
-/// Tests each row, one after another on one accessor.
+/// Tests whether each row hands out its region's own table, one after another on one accessor.
+///
+/// # Errors
+///
+/// Those of the calls; `Memory`.
 fn are_own_tables_handed_out(alloc: Global) -> Result<bool> {
     let mut core = MemTableAccessor::new(alloc)?;
     for row in rows_of_handed_tables() {
@@ -148,6 +164,10 @@ const CLEANED: &[Call] = &[Call::Replay(
 )];
 
 /// Tests whether the cleaned regions are taken in order, with a `Clean` for each, and only once.
+///
+/// # Errors
+///
+/// Those of the calls; `Memory`.
 fn are_cleaned_regions_taken_once(alloc: Global) -> Result<bool> {
     let mut core = tables_after_calls(alloc, CLEANED)?;
     let listed = core.cleaned_regions() == [3, 5, 3].as_slice();

@@ -51,22 +51,38 @@ pub(crate) enum Call {
 pub(crate) type Answer = (u64, Option<Shape>);
 
 /// Returns the answer of a call that returns nothing.
-pub(crate) fn answer_of_unit(called: Result<()>) -> Result<Answer> {
+///
+/// # Errors
+///
+/// That of the call.
+pub(crate) fn answer_without_value(called: Result<()>) -> Result<Answer> {
     called?;
     Ok((0, None))
 }
 
 /// Returns the answer of a call that returns a number.
+///
+/// # Errors
+///
+/// That of the call.
 pub(crate) fn answer_of_number(called: Result<u64>) -> Result<Answer> {
     Ok((called?, None))
 }
 
 /// Returns the answer of a call that returns a table, or none.
+///
+/// # Errors
+///
+/// That of the call.
 pub(crate) fn answer_of_table(called: Result<Option<MemTable>>) -> Result<Answer> {
     Ok((0, called?.as_ref().map(shape_of_table)))
 }
 
 /// Returns a change that puts a key with the value `v`.
+///
+/// # Errors
+///
+/// `Memory` alone.
 fn put_change(alloc: Global, key: &[u8]) -> Result<TableChange> {
     Ok(TableChange::Put {
         key: Vec::from_slice(alloc, key)?,
@@ -76,6 +92,10 @@ fn put_change(alloc: Global, key: &[u8]) -> Result<TableChange> {
 }
 
 /// Returns a change of a table as the value that the calls take.
+///
+/// # Errors
+///
+/// `Memory` alone.
 pub(crate) fn to_table_change(alloc: Global, change: Change) -> Result<TableChange> {
     match change {
         Change::Append(start, end, file) => {
@@ -92,6 +112,10 @@ pub(crate) fn to_table_change(alloc: Global, change: Change) -> Result<TableChan
 }
 
 /// Returns a table of a region with other entries and another key than the calls make.
+///
+/// # Errors
+///
+/// Those of the accessor's calls; `Failed` if the region has no table.
 pub(crate) fn new_other_table(alloc: Global, id: u64) -> Result<MemTable> {
     let mut core = MemTableAccessor::new(alloc)?;
     core.change(id, TableChange::Append(new_run(alloc, 50, 53, NEW)?))?;
@@ -111,7 +135,12 @@ pub(crate) fn compaction_change(table: &MemTable) -> TableChange {
     }
 }
 
-/// Makes the change that [`compaction_change`] returns for the table of a region, or for an empty one where there is none.
+/// Makes the change that [`compaction_change`] returns for the table of a region, or for an empty one where there is
+/// none. Returns how many entries it dropped.
+///
+/// # Errors
+///
+/// Those of [`MemTableAccessor::change`].
 fn compact_in_accessor(alloc: Global, core: &mut MemTableAccessor, id: u64) -> Result<u64> {
     let change = match core.get(id) {
         Some(table) => compaction_change(table),
@@ -120,8 +149,16 @@ fn compact_in_accessor(alloc: Global, core: &mut MemTableAccessor, id: u64) -> R
     core.change(id, change)
 }
 
-/// Makes a call of an accessor.
-pub(crate) fn call_core(alloc: Global, core: &mut MemTableAccessor, call: Call) -> Result<Answer> {
+/// Makes a call of an accessor, and returns its answer.
+///
+/// # Errors
+///
+/// Those of the call; `Memory`.
+pub(crate) fn call_accessor(
+    alloc: Global,
+    core: &mut MemTableAccessor,
+    call: Call,
+) -> Result<Answer> {
     match call {
         Call::Nothing => Ok((0, None)),
         Call::WithTableMut(id) => answer_of_number(compact_in_accessor(alloc, core, id)),
@@ -138,19 +175,23 @@ pub(crate) fn call_core(alloc: Global, core: &mut MemTableAccessor, call: Call) 
             answer_of_table(core.insert(other.region_id(), other))
         }
         Call::Remove(id, is_listed) => answer_of_table(core.remove(id, is_listed)),
-        Call::AppendWrites(given) => answer_of_unit(core.apply_append_writes(to_log_items(
+        Call::AppendWrites(given) => answer_without_value(core.apply_append_writes(to_log_items(
             alloc, given,
         )?)),
         Call::RewriteWrites(given, gate, seq) => {
-            answer_of_unit(core.apply_rewrite_writes(to_log_items(alloc, given)?, gate, seq))
+            answer_without_value(core.apply_rewrite_writes(to_log_items(alloc, given)?, gate, seq))
         }
-        Call::AtomicGroup(id) => answer_of_unit(core.apply_rewrite_atomic_group(id, 49, 50)),
+        Call::AtomicGroup(id) => answer_without_value(core.apply_rewrite_atomic_group(id, 49, 50)),
         Call::TakeCleaned => Ok((take_cleaned_of_accessor(alloc, core)?.len() as u64, None)),
         _ => answer_of_number(make_accessor_only_call(alloc, core, call)),
     }
 }
 
-/// Makes a call of an accessor that shared tables don't have; `Failed` for any other.
+/// Makes a call of an accessor that shared tables don't have. Returns its number; 0 for a call without one.
+///
+/// # Errors
+///
+/// Those of the call; `Failed` if shared tables have it; `Memory`.
 fn make_accessor_only_call(alloc: Global, core: &mut MemTableAccessor, call: Call) -> Result<u64> {
     match call {
         Call::Replay(queue, given) => replay_items(alloc, core, queue, given)?,
@@ -169,15 +210,23 @@ fn make_accessor_only_call(alloc: Global, core: &mut MemTableAccessor, call: Cal
 }
 
 /// Returns a new accessor on which these calls were made.
+///
+/// # Errors
+///
+/// That of the first call that fails; no further one is made then.
 pub(crate) fn tables_after_calls(alloc: Global, calls: &[Call]) -> Result<MemTableAccessor> {
     let mut core = MemTableAccessor::new(alloc)?;
     for call in calls {
-        call_core(alloc, &mut core, *call)?;
+        call_accessor(alloc, &mut core, *call)?;
     }
     Ok(core)
 }
 
 /// Replays items of a queue in an accessor.
+///
+/// # Errors
+///
+/// Those of the replay; `Memory`.
 fn replay_items(
     alloc: Global,
     core: &mut MemTableAccessor,
@@ -192,6 +241,10 @@ fn replay_items(
 }
 
 /// Returns an accessor that has replayed items of a queue.
+///
+/// # Errors
+///
+/// Those of the replay; `Memory`.
 fn tables_after_replay(alloc: Global, queue: LogQueue, given: &[Item]) -> Result<MemTableAccessor> {
     let mut core = MemTableAccessor::new(alloc)?;
     replay_items(alloc, &mut core, queue, given)?;
@@ -214,8 +267,11 @@ fn try_run_twice(
     }
 }
 
-/// Replays a run, and returns where the region's entries ended before. `Failed` where it isn't a run of the queue, or
-/// isn't put.
+/// Replays a run, and returns where the region's entries ended before.
+///
+/// # Errors
+///
+/// `Failed` if it isn't a run of the queue, or isn't put.
 fn put_run_or_fail(
     core: &mut MemTableAccessor,
     region: u64,

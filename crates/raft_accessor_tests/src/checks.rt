@@ -82,6 +82,10 @@ fn rows_of_tested_items() -> &'static [(&'static [Item], &'static str)] {
 }
 
 /// Tests whether a check has refused items with this text, or accepted them, if it is empty.
+///
+/// # Errors
+///
+/// That of the check, unless it is `Corruption`.
 fn is_refused_with_text(tested: Result<()>, text: &str) -> Result<bool> {
     match tested {
         Ok(()) => Ok(text.is_empty()),
@@ -92,6 +96,10 @@ fn is_refused_with_text(tested: Result<()>, text: &str) -> Result<bool> {
 
 /// Tests whether the items of a row are refused with its text, or accepted, by the accessor and by the slot of region
 /// 1.
+///
+/// # Errors
+///
+/// That of a check, unless it is `Corruption`; `Memory`.
 fn are_row_items_checked(
     alloc: Global,
     tables: &MemTableAccessor,
@@ -106,7 +114,11 @@ fn are_row_items_checked(
     )
 }
 
-/// Tests each row.
+/// Tests whether the items of each row are refused with its text, or accepted, by an accessor and by a slot.
+///
+/// # Errors
+///
+/// That of a check, unless it is `Corruption`; those of the calls before; `Memory`.
 fn are_all_rows_checked(alloc: Global) -> Result<bool> {
     let mut slot = Slot::new(alloc, slot_of(1));
     slot.take_tables(&mut tables_after_calls(alloc, FIRST)?);
@@ -127,6 +139,10 @@ fn new_items_are_tested_before_they_are_written(rt: HostRuntime) {
 
 /// Returns 300 items of one entry each, and one more. The 300 are in the regions from 1 on, each with index 10, if
 /// `is_apart`; else in region 1, from index 1 on. The last one is of region 1, with the index `last`.
+///
+/// # Errors
+///
+/// `Memory` alone.
 fn many_items(alloc: Global, is_apart: bool, last: u64) -> Result<Vec<LogItem>> {
     let mut items = Vec::new(alloc);
     for number in 1..=300 {
@@ -139,6 +155,10 @@ fn many_items(alloc: Global, is_apart: bool, last: u64) -> Result<Vec<LogItem>> 
 
 /// Tests whether the items of [`many_items`] are refused with this text where there are no tables, or accepted, if it
 /// is empty.
+///
+/// # Errors
+///
+/// That of a check, unless it is `Corruption`; `Memory`.
 fn are_many_items_refused_with(
     alloc: Global,
     is_apart: bool,
@@ -155,7 +175,11 @@ fn are_many_items_refused_with(
     )
 }
 
-/// Tests lists of many items, which are accepted up to an index and refused behind it.
+/// Tests whether lists of many items are accepted up to an index, and refused behind it.
+///
+/// # Errors
+///
+/// Those of [`are_many_items_refused_with`].
 fn are_all_many_items_checked(alloc: Global) -> Result<bool> {
     for &(is_apart, last, text) in &[
         (true, 11, ""),

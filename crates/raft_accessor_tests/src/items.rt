@@ -38,6 +38,10 @@ pub(crate) enum Item {
 }
 
 /// Returns entries from `start` on and below `end`, each of them another byte of one block of `file`.
+///
+/// # Errors
+///
+/// `Memory` alone.
 pub(crate) fn new_run(
     alloc: Global,
     start: u64,
@@ -62,6 +66,10 @@ pub(crate) fn new_run(
 }
 
 /// Returns entries with these indexes, without places.
+///
+/// # Errors
+///
+/// `Memory` alone.
 pub(crate) fn entries_without_places(alloc: Global, indexes: &[u64]) -> Result<Vec<EntryIndex>> {
     let mut run = Vec::new(alloc);
     for &index in indexes {
@@ -75,6 +83,10 @@ pub(crate) fn entries_without_places(alloc: Global, indexes: &[u64]) -> Result<V
 }
 
 /// Returns an item that puts a key, with a value or without, in a file.
+///
+/// # Errors
+///
+/// `Memory` alone.
 fn put_item(
     alloc: Global,
     region: u64,
@@ -95,6 +107,10 @@ fn put_item(
 }
 
 /// Returns the log item that an item of a list describes.
+///
+/// # Errors
+///
+/// `Memory` alone.
 fn to_log_item(alloc: Global, item: Item) -> Result<LogItem> {
     Ok(match item {
         Item::Entries(region, start, end, file) => {
@@ -117,6 +133,10 @@ fn to_log_item(alloc: Global, item: Item) -> Result<LogItem> {
 }
 
 /// Returns the log items that a list describes.
+///
+/// # Errors
+///
+/// `Memory` alone.
 pub(crate) fn to_log_items(alloc: Global, given: &[Item]) -> Result<Vec<LogItem>> {
     let mut items = Vec::new(alloc);
     for &one in given {
@@ -132,7 +152,11 @@ pub(crate) enum Fault {
     InvalidArgument,
 }
 
-/// Returns what a call returned: its result, or its fault. `Memory` and other errors are passed on.
+/// Returns what a call returned: its result, or its fault.
+///
+/// # Errors
+///
+/// That of the call, unless it is a [`Fault`].
 pub(crate) fn result_or_fault<X: Drop>(given: Result<X>) -> Result<std::result::Result<X, Fault>> {
     match given {
         Ok(answer) => Ok(Ok(answer)),

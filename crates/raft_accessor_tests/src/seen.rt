@@ -49,7 +49,8 @@ fn hash_of_pairs(table: &MemTable) -> u64 {
     seen
 }
 
-/// Returns what the tests compare of a table.
+/// Returns what the tests compare of a table: its region, its first and last index, how many records it has in each
+/// queue and the least file there, its group, the place of its last entry, and a hash of its pairs.
 pub(crate) fn shape_of_table(table: &MemTable) -> Shape {
     (
         table.region_id(),
@@ -112,7 +113,11 @@ fn has_entry_and_key(table: &MemTable) -> bool {
     table.first_index().is_some() && hash_of_pairs(table) != 0
 }
 
-/// Returns the regions that the items of a batch clean, in order; `Failed` where an item isn't a `Clean`.
+/// Returns the regions that the items of a batch clean, in order.
+///
+/// # Errors
+///
+/// `Failed` if an item isn't a `Clean`; `Memory`.
 fn regions_cleaned_by(alloc: Global, mut logs: LogBatch) -> Result<Vec<u64>> {
     let mut regions = Vec::new(alloc);
     for item in logs.drain() {
@@ -126,6 +131,10 @@ fn regions_cleaned_by(alloc: Global, mut logs: LogBatch) -> Result<Vec<u64>> {
 
 /// Takes the cleaned regions of shared tables, and returns them in order. Where the call runs out of memory, what it
 /// took is in the batch, and a second call takes the rest.
+///
+/// # Errors
+///
+/// That of the second call, if the first one failed; those of [`regions_cleaned_by`].
 pub(crate) fn take_cleaned_of_shared<R: Wait>(
     rt: &R,
     alloc: Global,
@@ -139,6 +148,10 @@ pub(crate) fn take_cleaned_of_shared<R: Wait>(
 }
 
 /// Takes the cleaned regions of an accessor, and returns them in order.
+///
+/// # Errors
+///
+/// Those of [`MemTableAccessor::take_cleaned_region_logs`] and [`regions_cleaned_by`].
 pub(crate) fn take_cleaned_of_accessor(
     alloc: Global,
     core: &mut MemTableAccessor,
@@ -146,7 +159,11 @@ pub(crate) fn take_cleaned_of_accessor(
     regions_cleaned_by(alloc, core.take_cleaned_region_logs()?)
 }
 
-/// Returns what the tables of an accessor have, by region.
+/// Returns the shapes of all tables of an accessor, sorted by region.
+///
+/// # Errors
+///
+/// `Memory` alone.
 fn shapes_of_accessor(alloc: Global, core: &MemTableAccessor) -> Result<Vec<Shape>> {
     let mut tables = Vec::new(alloc);
     for table in core.tables()? {
@@ -157,6 +174,10 @@ fn shapes_of_accessor(alloc: Global, core: &MemTableAccessor) -> Result<Vec<Shap
 }
 
 /// Returns the regions of an accessor whose tables have an entry and a key.
+///
+/// # Errors
+///
+/// `Memory` alone.
 fn full_regions_of_accessor(alloc: Global, core: &MemTableAccessor) -> Result<Vec<u64>> {
     let mut full = Vec::new(alloc);
     let kept = core.collect(|table: &MemTable| has_entry_and_key(table))?;
@@ -168,7 +189,11 @@ fn full_regions_of_accessor(alloc: Global, core: &MemTableAccessor) -> Result<Ve
 }
 
 /// Returns what an accessor has, and takes its cleaned regions.
-pub(crate) fn see_core(alloc: Global, core: &mut MemTableAccessor) -> Result<Seen> {
+///
+/// # Errors
+///
+/// Those of [`take_cleaned_of_accessor`]; `Memory`.
+pub(crate) fn summarize_accessor(alloc: Global, core: &mut MemTableAccessor) -> Result<Seen> {
     let mut cleaned = take_cleaned_of_accessor(alloc, core)?;
     cleaned.sort()?;
     let stats = core.stats();
@@ -193,7 +218,11 @@ fn shape_of_shared_table<R: Wait>(rt: &R, shared: &SharedAccessor, region: u64) 
     shared.with_table(rt, region, shape_of_table)
 }
 
-/// Returns what shared tables have, by region.
+/// Returns the shapes of all shared tables, sorted by region.
+///
+/// # Errors
+///
+/// `Memory` alone.
 fn shapes_of_shared_tables<R: Wait>(
     rt: &R,
     alloc: Global,
@@ -210,6 +239,10 @@ fn shapes_of_shared_tables<R: Wait>(
 }
 
 /// Returns the regions whose shared tables have an entry and a key.
+///
+/// # Errors
+///
+/// `Memory` alone.
 fn full_regions_of_shared<R: Wait>(rt: &R, shared: &SharedAccessor) -> Result<Vec<u64>> {
     let mut full = shared.collect(rt, has_entry_and_key)?;
     full.sort()?;
@@ -217,7 +250,15 @@ fn full_regions_of_shared<R: Wait>(rt: &R, shared: &SharedAccessor) -> Result<Ve
 }
 
 /// Returns what shared tables have, and takes their cleaned regions.
-pub(crate) fn see_shared<R: Wait>(rt: &R, alloc: Global, shared: &SharedAccessor) -> Result<Seen> {
+///
+/// # Errors
+///
+/// Those of [`take_cleaned_of_shared`]; `Memory`.
+pub(crate) fn summarize_shared_tables<R: Wait>(
+    rt: &R,
+    alloc: Global,
+    shared: &SharedAccessor,
+) -> Result<Seen> {
     let mut seen = Seen {
         found: shape_of_shared_table(rt, shared, REGION),
         tables: shapes_of_shared_tables(rt, alloc, shared)?,

@@ -17,6 +17,10 @@ use std::thread::Threads;
 use std::time::Clock;
 
 /// Appends the entries 1 to 100 to a region, each by a call.
+///
+/// # Errors
+///
+/// That of the first call that fails; `Memory`. The entries before it stay.
 fn append_hundred_entries<R: Wait>(
     rt: &R,
     alloc: Global,
@@ -31,6 +35,10 @@ fn append_hundred_entries<R: Wait>(
 }
 
 /// Tests whether all entries are there that four threads append, each to a region of its own.
+///
+/// # Errors
+///
+/// Those of [`append_hundred_entries`]; that of starting the threads.
 fn are_appends_of_threads_kept<R: Threads + Wait + Sync>(rt: &R, alloc: Global) -> Result<bool> {
     let shared = SharedAccessor::new(alloc);
     let append = |region: usize| append_hundred_entries(rt, alloc, &shared, region as u64);
@@ -68,6 +76,10 @@ fn is_other_raised<R: Clock>(rt: &R, own: &AtomicU64, other: &AtomicU64) -> bool
 }
 
 /// Tests whether a closure that may change the table of region 1 sees that one on that of region 2 has begun.
+///
+/// # Errors
+///
+/// Those of [`SharedAccessor::with_table_mut`].
 fn is_other_seen_in_change<R: Wait + Clock>(
     rt: &R,
     shared: &SharedAccessor,
@@ -84,7 +96,14 @@ fn is_other_seen_in_change<R: Wait + Clock>(
 }
 
 /// Tests whether two closures that may change tables of different slots run at the same time.
-fn do_writers_meet<R: Threads + Wait + Clock + Sync>(rt: &R, alloc: Global) -> Result<bool> {
+///
+/// # Errors
+///
+/// Those of [`is_other_seen_in_change`].
+fn do_writers_of_two_slots_run_at_once<R: Threads + Wait + Clock + Sync>(
+    rt: &R,
+    alloc: Global,
+) -> Result<bool> {
     let shared = SharedAccessor::new(alloc);
     let (one, two) = (AtomicU64::new(0), AtomicU64::new(0));
     let (first, second) = thread::join(
@@ -96,6 +115,10 @@ fn do_writers_meet<R: Threads + Wait + Clock + Sync>(rt: &R, alloc: Global) -> R
 }
 
 /// Tests whether a closure that reads a table and one that may change a table of another slot run at the same time.
+///
+/// # Errors
+///
+/// Those of the calls; `Memory`.
 fn do_reader_and_writer_meet<R: Threads + Wait + Clock + Sync>(
     rt: &R,
     alloc: Global,
@@ -112,6 +135,10 @@ fn do_reader_and_writer_meet<R: Threads + Wait + Clock + Sync>(
 }
 
 /// Tests whether two closures that read the same table run at the same time.
+///
+/// # Errors
+///
+/// Those of the calls; `Memory`.
 fn do_readers_meet<R: Threads + Wait + Clock + Sync>(rt: &R, alloc: Global) -> Result<bool> {
     let shared = SharedAccessor::new(alloc);
     shared.get_or_insert(rt, 1)?;
@@ -126,6 +153,10 @@ fn do_readers_meet<R: Threads + Wait + Clock + Sync>(rt: &R, alloc: Global) -> R
 
 /// Waits until a closure that reads a table has raised `begun`, walks over all tables, and raises `walked`. Returns
 /// whether the closure had begun in time, and the walks met what there is.
+///
+/// # Errors
+///
+/// `Memory` for the list of regions. `walked` isn't raised then.
 fn walk_beside_reader<R: Wait + Clock>(
     rt: &R,
     shared: &SharedAccessor,
@@ -141,6 +172,10 @@ fn walk_beside_reader<R: Wait + Clock>(
 }
 
 /// Tests whether all tables can be walked over while a closure reads one of them.
+///
+/// # Errors
+///
+/// Those of the calls; `Memory`.
 fn do_reader_and_walk_meet<R: Threads + Wait + Clock + Sync>(
     rt: &R,
     alloc: Global,
@@ -157,16 +192,20 @@ fn do_reader_and_walk_meet<R: Threads + Wait + Clock + Sync>(
 }
 
 /// Tests whether closures on tables of different slots run at the same time, where one may change a table, or both.
+///
+/// # Errors
+///
+/// Those of the calls; `Memory`.
 fn do_closures_on_two_slots_meet<R: Threads + Wait + Clock + Sync>(
     rt: &R,
     alloc: Global,
 ) -> Result<bool> {
-    Ok(do_writers_meet(rt, alloc)? && do_reader_and_writer_meet(rt, alloc)?)
+    Ok(do_writers_of_two_slots_run_at_once(rt, alloc)? && do_reader_and_writer_meet(rt, alloc)?)
 }
 
 /// Tests that closures on tables of different slots run at the same time, where one may change a table, or both.
 #[test]
-fn slots_lock_apart(rt: HostRuntime) {
+fn slots_are_locked_one_by_one(rt: HostRuntime) {
     assert!(rt; slot_of(1) != slot_of(2));
     assert!(rt;
         matches!(
@@ -177,6 +216,10 @@ fn slots_lock_apart(rt: HostRuntime) {
 }
 
 /// Tests whether closures and walks that read one table don't wait for one another.
+///
+/// # Errors
+///
+/// Those of the calls; `Memory`.
 fn do_readers_of_one_table_meet<R: Threads + Wait + Clock + Sync>(
     rt: &R,
     alloc: Global,

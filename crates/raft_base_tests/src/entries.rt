@@ -29,6 +29,10 @@ fn index_rows() -> &'static [(&'static [u64], bool)] {
 }
 
 /// Tests whether entries with these indexes are consecutive.
+///
+/// # Errors
+///
+/// `Memory` alone.
 fn are_consecutive(alloc: Global, indexes: &[u64]) -> Result<bool> {
     let mut entries = Vec::new(alloc);
     for index in indexes {
@@ -40,7 +44,11 @@ fn are_consecutive(alloc: Global, indexes: &[u64]) -> Result<bool> {
     Ok(is_consecutive(entries.as_slice()))
 }
 
-/// Tests for each row whether entries with its indexes are consecutive, as it says.
+/// Asserts for each row that entries with its indexes are consecutive or not, as it says.
+///
+/// # Errors
+///
+/// `Memory` alone.
 fn check_each_index_row(rt: &impl Abort, alloc: Global) -> Result<()> {
     for &(indexes, consecutive) in index_rows() {
         assert!(rt;
@@ -59,6 +67,10 @@ fn consecutive_lists_are_told_apart(rt: HostRuntime) {
 
 /// Tests whether a byte is read as it should be: 0 as the compression type that is written as 0, any other byte not at
 /// all, with an error that names the byte.
+///
+/// # Errors
+///
+/// That of reading the byte, unless it is `Corruption`; `Memory`.
 fn is_compression_byte_read_right(alloc: Global, byte: u8) -> Result<bool> {
     match CompressionType::from_u8(alloc, byte) {
         Ok(compression_type) => Ok(byte == 0 && compression_type.to_u8() == 0),
@@ -70,7 +82,11 @@ fn is_compression_byte_read_right(alloc: Global, byte: u8) -> Result<bool> {
     }
 }
 
-/// Tests each byte as a compression type.
+/// Asserts for each byte that it is read right as a compression type.
+///
+/// # Errors
+///
+/// Those of [`is_compression_byte_read_right`].
 fn check_each_compression_byte(rt: &impl Abort, alloc: Global) -> Result<()> {
     for byte in 0..=u8::MAX {
         assert!(rt; is_compression_byte_read_right(alloc, byte)?, "{byte}");

@@ -13,7 +13,11 @@ struct Deaf {
 }
 
 impl Deaf {
-    /// Returns `Failed`, if the calls are to fail.
+    /// Does nothing, unless the calls are to fail.
+    ///
+    /// # Errors
+    ///
+    /// `Failed`, if the calls are to fail.
     fn fail_if_wanted(&self) -> Result<()> {
         if self.fails {
             Err(Error::Failed)
@@ -116,8 +120,12 @@ const ASKS: [(LogQueue, Ask); 12] = [
     (LogQueue::Rewrite, Ask::Append("xyz")),
 ];
 
-/// Makes a call of the files of a queue.
-fn make_asked_call<F: EngineFiles>(files: &mut F, queue: LogQueue, asked: Ask) -> Result<()> {
+/// Makes the call `asked` of the files of `queue`.
+///
+/// # Errors
+///
+/// Those of the call.
+fn make_call<F: EngineFiles>(files: &mut F, queue: LogQueue, asked: Ask) -> Result<()> {
     match asked {
         Ask::Rotate(seq) => files.rotate(queue, seq),
         Ask::Append(text) => Ok(files.append(queue, text.as_bytes())?),
@@ -127,10 +135,14 @@ fn make_asked_call<F: EngineFiles>(files: &mut F, queue: LogQueue, asked: Ask) -
     }
 }
 
-/// Makes all calls, each once.
+/// Makes all calls of [`ASKS`], each once.
+///
+/// # Errors
+///
+/// That of the first call that fails; no further one is made then.
 fn make_each_call_once<F: EngineFiles>(files: &mut F) -> Result<()> {
     for &(queue, asked) in &ASKS {
-        make_asked_call(files, queue, asked)?;
+        make_call(files, queue, asked)?;
     }
     Ok(())
 }
@@ -143,6 +155,10 @@ fn have_numbers_and_bytes(files: &Vec<(FileSeq, Vec<u8>)>, expected: &[(FileSeq,
 }
 
 /// Reads `len` bytes of a file from an offset on.
+///
+/// # Errors
+///
+/// Those of [`MemoryFiles::read`].
 fn read_at(files: &mut MemoryFiles, id: FileId, offset: u64, len: usize) -> Result<Vec<u8>> {
     files.read(FileBlockHandle { id, offset, len })
 }
@@ -163,6 +179,10 @@ fn is_read_as(
 }
 
 /// Returns files of which all calls were made, each once.
+///
+/// # Errors
+///
+/// Those of [`make_each_call_once`].
 fn files_after_all_calls(alloc: Global) -> Result<MemoryFiles> {
     let mut files = MemoryFiles::new(alloc);
     make_each_call_once(&mut files)?;
@@ -179,6 +199,10 @@ fn memory_files_keep_what_is_asked(rt: HostRuntime) -> Result<()> {
 }
 
 /// Tests whether files that are made of copies of others have their bytes, and take further calls.
+///
+/// # Errors
+///
+/// Those of the files' calls; `Memory`.
 fn are_copies_found_again(alloc: Global) -> Result<bool> {
     let left = files_after_all_calls(alloc)?;
     let append = again!(left.copies(LogQueue::Append))?;
@@ -225,11 +249,15 @@ fn memory_files_are_read_by_place(rt: HostRuntime) -> Result<()> {
 
 /// Tests whether calls that make no sense are refused: bytes without a file to put them into, a new file whose number
 /// isn't above the last one, the deletion of the last file.
+///
+/// # Errors
+///
+/// That of the one call that is to succeed.
 fn are_senseless_calls_refused(alloc: Global) -> Result<bool> {
     let mut files = MemoryFiles::new(alloc);
     let bytes = is_refused(&mut files, Ask::Append("a"));
     let cut = is_refused(&mut files, Ask::Truncate(0));
-    make_asked_call(&mut files, LogQueue::Append, Ask::Rotate(3))?;
+    make_call(&mut files, LogQueue::Append, Ask::Rotate(3))?;
     let number = is_refused(&mut files, Ask::Rotate(3));
     let last = is_refused(&mut files, Ask::DeleteOldest);
     Ok(
@@ -244,21 +272,21 @@ fn are_senseless_calls_refused(alloc: Global) -> Result<bool> {
 /// Tests whether a call of the append files is refused as `InvalidArgument`.
 fn is_refused(files: &mut MemoryFiles, asked: Ask) -> bool {
     matches!(
-        make_asked_call(files, LogQueue::Append, asked),
+        make_call(files, LogQueue::Append, asked),
         Err(Error::InvalidArgument(_))
     )
 }
 
-/// Tests that calls that make no sense are refused, as a write without a file.
+/// Tests that files in memory refuse calls that no file can carry out, such as a write where there is no file.
 #[test]
-fn memory_files_refuse_what_no_file_can_do(rt: HostRuntime) -> Result<()> {
+fn memory_files_refuse_impossible_calls(rt: HostRuntime) -> Result<()> {
     assert!(rt; are_senseless_calls_refused(rt.alloc())?);
     Ok(())
 }
 
 /// Tests that each call is noted and passed on, whether the files carry it out or fail.
 #[test]
-fn asks_are_noted(rt: HostRuntime) {
+fn calls_of_files_are_noted(rt: HostRuntime) {
     let mut files = Deaf {
         asked: Asked::new(),
         fails: false,

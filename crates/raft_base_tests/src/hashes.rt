@@ -83,7 +83,7 @@ fn multiple_below(offset: usize, alignment: usize) -> Option<usize> {
 /// Tests hashes of numbers, the numbers of hashes, and multiples of an alignment round an offset, each against a
 /// table.
 #[test]
-fn hashes_and_multiples_are_those_of_the_tables(rt: HostRuntime) {
+fn hashes_and_multiples_are_as_the_rows_say(rt: HostRuntime) {
     for &(number, hash, unhashed) in hash_rows() {
         assert_eq!(rt; hash_u64(number), hash, "{number}");
         assert_eq!(rt; unhash_u64(number), unhashed, "{number}");

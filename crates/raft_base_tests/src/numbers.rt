@@ -26,13 +26,21 @@ fn decode_three_u64(bytes: &[u8; 24]) -> (u64, u64, u64) {
 }
 
 /// Writes a number with its highest byte first, in descending order, and with its lowest byte first.
+///
+/// # Errors
+///
+/// `Io` if `out` has less than 24 bytes.
 fn write_u64_in_three_ways(number: u64, mut out: &mut [u8]) -> codec::Result<()> {
     out.encode_u64(number)?;
     out.encode_u64_desc(number)?;
     out.encode_u64_le(number)
 }
 
-/// Reads the three numbers that `write_u64` writes.
+/// Reads the three numbers that [`write_u64_in_three_ways`] writes.
+///
+/// # Errors
+///
+/// `Io` if `buf` has less than 24 bytes.
 fn read_u64_in_three_ways(mut buf: &[u8]) -> codec::Result<(u64, u64, u64)> {
     Ok((
         decode_u64(&mut buf)?,
@@ -42,6 +50,10 @@ fn read_u64_in_three_ways(mut buf: &[u8]) -> codec::Result<(u64, u64, u64)> {
 }
 
 /// Tests whether the numbers of a row are written as its bytes, and read back from them.
+///
+/// # Errors
+///
+/// Those of writing or reading the numbers, for which there is room.
 fn u64_row_holds(row: LongRow) -> codec::Result<bool> {
     let (number, ascending, descending, lowest_first) = row;
     let mut bytes = [0; 24];
@@ -53,13 +65,21 @@ fn u64_row_holds(row: LongRow) -> codec::Result<bool> {
 }
 
 /// Writes a signed number with its highest byte first, in descending order, and with its lowest byte first.
+///
+/// # Errors
+///
+/// `Io` if `out` has less than 24 bytes.
 fn write_i64_in_three_ways(number: i64, mut out: &mut [u8]) -> codec::Result<()> {
     out.encode_i64(number)?;
     out.encode_i64_desc(number)?;
     out.encode_i64_le(number)
 }
 
-/// Reads the three numbers that `write_i64` writes.
+/// Reads the three numbers that [`write_i64_in_three_ways`] writes.
+///
+/// # Errors
+///
+/// `Io` if `buf` has less than 24 bytes.
 fn read_i64_in_three_ways(mut buf: &[u8]) -> codec::Result<(i64, i64, i64)> {
     Ok((
         decode_i64(&mut buf)?,
@@ -69,6 +89,10 @@ fn read_i64_in_three_ways(mut buf: &[u8]) -> codec::Result<(i64, i64, i64)> {
 }
 
 /// Tests whether the numbers of a row are written as its bytes, and read back from them.
+///
+/// # Errors
+///
+/// Those of writing or reading the numbers, for which there is room.
 fn i64_row_holds(row: SignedRow) -> codec::Result<bool> {
     let (number, ascending, descending, lowest_first) = row;
     let mut bytes = [0; 24];
@@ -79,7 +103,11 @@ fn i64_row_holds(row: SignedRow) -> codec::Result<bool> {
     )
 }
 
-/// Tests whether the numbers of a row are written as its bytes, and read back from them.
+/// Tests whether the numbers of four and of two bytes in a row are written as its bytes, and read back from them.
+///
+/// # Errors
+///
+/// Those of writing or reading the numbers, for which there is room.
 fn u32_and_u16_row_holds(row: ShortRow) -> codec::Result<bool> {
     let (
         long,
@@ -104,6 +132,10 @@ fn u32_and_u16_row_holds(row: ShortRow) -> codec::Result<bool> {
 }
 
 /// Writes two numbers, each with its highest byte first, and with its lowest byte first.
+///
+/// # Errors
+///
+/// `Io` if `out` has less than 12 bytes.
 fn write_u32_and_u16(long: u32, short: u16, mut out: &mut [u8]) -> codec::Result<()> {
     out.encode_u32(long)?;
     out.encode_u32_le(long)?;
@@ -121,7 +153,11 @@ fn decode_u32_and_u16(bytes: &[u8; 12]) -> (u32, u32, u16, u16) {
     )
 }
 
-/// Reads the four numbers that `write_shorts` writes.
+/// Reads the four numbers that [`write_u32_and_u16`] writes.
+///
+/// # Errors
+///
+/// `Io` if `buf` has less than 12 bytes.
 fn read_u32_and_u16(mut buf: &[u8]) -> codec::Result<(u32, u32, u16, u16)> {
     Ok((
         decode_u32(&mut buf)?,
@@ -131,7 +167,11 @@ fn read_u32_and_u16(mut buf: &[u8]) -> codec::Result<(u32, u32, u16, u16)> {
     ))
 }
 
-/// Tests whether the numbers of a row are written as its bytes, and read back from them.
+/// Tests whether the number of a row is written with its lowest byte first, as its bytes, and read back from them.
+///
+/// # Errors
+///
+/// Those of writing or reading the number, for which there is room.
 fn i32_row_holds(row: (i32, u32)) -> codec::Result<bool> {
     let (number, lowest_first) = row;
     let mut bytes = [0; 4];
@@ -160,6 +200,10 @@ fn numbers_of_a_fixed_width_are_written_and_read(rt: HostRuntime) {
 
 /// Tests whether the bytes of a lower number are less than those of a higher one, and greater where both are written in
 /// descending order.
+///
+/// # Errors
+///
+/// Those of writing the numbers, for which there is room.
 fn are_u64_in_order(low: u64, high: u64) -> codec::Result<bool> {
     let mut bytes = [0; 32];
     let mut out: &mut [u8] = &mut bytes;
@@ -172,6 +216,10 @@ fn are_u64_in_order(low: u64, high: u64) -> codec::Result<bool> {
 
 /// Tests for signed numbers whether the bytes of a lower one are less than those of a higher one, and greater where
 /// both are written in descending order.
+///
+/// # Errors
+///
+/// Those of writing the numbers, for which there is room.
 fn are_i64_in_order(low: i64, high: i64) -> codec::Result<bool> {
     let mut bytes = [0; 32];
     let mut out: &mut [u8] = &mut bytes;
@@ -183,6 +231,10 @@ fn are_i64_in_order(low: i64, high: i64) -> codec::Result<bool> {
 }
 
 /// Tests whether the bytes of a lower number are less than those of a higher one.
+///
+/// # Errors
+///
+/// Those of writing the numbers, for which there is room.
 fn are_u32_in_order(low: u32, high: u32) -> codec::Result<bool> {
     let mut bytes = [0; 8];
     let mut out: &mut [u8] = &mut bytes;
@@ -192,6 +244,10 @@ fn are_u32_in_order(low: u32, high: u32) -> codec::Result<bool> {
 }
 
 /// Tests whether the bytes of a lower number are less than those of a higher one.
+///
+/// # Errors
+///
+/// Those of writing the numbers, for which there is room.
 fn are_u16_in_order(low: u16, high: u16) -> codec::Result<bool> {
     let mut bytes = [0; 4];
     let mut out: &mut [u8] = &mut bytes;
@@ -220,6 +276,10 @@ fn bytes_are_in_the_order_of_the_numbers(rt: HostRuntime) {
 }
 
 /// Tests whether both numbers are written as `spelling`, and nothing more.
+///
+/// # Errors
+///
+/// Those of writing the numbers, for which there is room.
 fn are_spelled_as(number: u64, signed: i64, spelling: &[u8]) -> codec::Result<bool> {
     let mut bytes = [0; 20];
     let mut out: &mut [u8] = &mut bytes;
@@ -231,6 +291,10 @@ fn are_spelled_as(number: u64, signed: i64, spelling: &[u8]) -> codec::Result<bo
 }
 
 /// Tests whether the decoders read `number` and `signed` from these bytes, and both leave `left` bytes.
+///
+/// # Errors
+///
+/// Those of [`decode_var_u64`] and [`decode_var_i64`].
 fn are_decoded_as(bytes: &[u8], number: u64, signed: i64, left: usize) -> codec::Result<bool> {
     let mut buf = bytes;
     let mut signed_buf = bytes;
@@ -317,6 +381,10 @@ fn short_slices_take_and_give_no_number(rt: HostRuntime) {
 }
 
 /// Writes a number by each encoder, and then one that takes a single byte.
+///
+/// # Errors
+///
+/// That of the first write that fails.
 fn encode_by_each_encoder<W: Write>(out: &mut W) -> codec::Result<()> {
     encode_highest_first(out)?;
     encode_lowest_first(out)?;
@@ -326,6 +394,10 @@ fn encode_by_each_encoder<W: Write>(out: &mut W) -> codec::Result<()> {
 }
 
 /// Writes the number 1 by each encoder of a length that writes the highest byte first.
+///
+/// # Errors
+///
+/// That of the first write that fails.
 fn encode_highest_first<W: Write>(out: &mut W) -> codec::Result<()> {
     out.encode_u64(1)?;
     out.encode_u32(1)?;
@@ -336,6 +408,10 @@ fn encode_highest_first<W: Write>(out: &mut W) -> codec::Result<()> {
 }
 
 /// Writes a number by each encoder that writes the lowest byte first.
+///
+/// # Errors
+///
+/// That of the first write that fails.
 fn encode_lowest_first<W: Write>(out: &mut W) -> codec::Result<()> {
     out.encode_u16_le(1)?;
     out.encode_u32_le(1)?;
@@ -384,7 +460,7 @@ impl Write for Limited {
         Ok(buf.len())
     }
 
-    /// Does nothing.
+    /// Does nothing, and never fails.
     fn flush(&mut self) -> io::Result<()> {
         Ok(())
     }
@@ -393,7 +469,7 @@ impl Write for Limited {
 /// Tests that each of the fourteen numbers is written by a single write, whose error is passed on. A vector takes a
 /// write as a whole or not at all, so it never has a part of a number.
 #[test]
-fn numbers_are_written_at_once(rt: HostRuntime) {
+fn each_number_is_written_by_one_write(rt: HostRuntime) {
     for writes in 0..14 {
         let mut out = Limited { writes };
         assert!(rt;

@@ -23,7 +23,7 @@ impl PipeLog for SmallPipe {
         Ok(Vec::from_slice(alloc, &file[..handle.len.min(5)])?)
     }
 
-    /// Returns a place in file 7, of the length that `bytes` have there. Keeps nothing.
+    /// Returns a place in file 7, of the length that `bytes` have there. Keeps nothing, and never fails.
     fn append<T: ReactiveBytes>(&self, queue: LogQueue, bytes: &mut T) -> Result<FileBlockHandle> {
         let id = FileId::new(queue, 7);
         let context = LogFileContext::new(id, Version::V2);
@@ -31,7 +31,7 @@ impl PipeLog for SmallPipe {
         Ok(FileBlockHandle { id, offset: 0, len })
     }
 
-    /// Does nothing.
+    /// Does nothing, and never fails.
     fn sync(&self, _queue: LogQueue) -> Result<()> {
         Ok(())
     }
@@ -46,12 +46,13 @@ impl PipeLog for SmallPipe {
         5 * 5
     }
 
-    /// Does nothing.
+    /// Does nothing, and never fails.
     fn rotate(&self, _queue: LogQueue) -> Result<()> {
         Ok(())
     }
 
-    /// Returns how many files are to go, 1 if `file_id` is above the first file, else 0. Deletes nothing.
+    /// Returns how many files are to go, 1 if `file_id` is above the first file, else 0. Deletes nothing, and never
+    /// fails.
     fn purge_to(&self, file_id: FileId) -> Result<usize> {
         Ok(usize::from(file_id.seq > 3))
     }
@@ -89,7 +90,7 @@ fn is_before(old: FileId, new: FileId) -> bool {
 }
 
 /// Returns the file that comes after the other.
-fn later_of(old: FileId, new: FileId) -> FileId {
+fn later_file_of(old: FileId, new: FileId) -> FileId {
     new.max(old)
 }
 
@@ -100,7 +101,7 @@ fn files_and_queues_have_numbers(rt: HostRuntime) {
     let new = FileId::new(LogQueue::Append, 0);
     assert!(rt; is_before(old, new));
     assert!(rt; is_before(new, FileId::new(LogQueue::Append, 1)));
-    assert!(rt; later_of(old, new) == new);
+    assert!(rt; later_file_of(old, new) == new);
     assert!(rt; LogQueue::Append as u8 == 0);
     assert!(rt; LogQueue::Rewrite as u8 == 1);
 }

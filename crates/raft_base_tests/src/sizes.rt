@@ -73,8 +73,11 @@ fn sizes_are_calculated(rt: HostRuntime) {
     assert_eq!(rt; ReadableSize::kb(3) * 2 / 4, ReadableSize(1536));
 }
 
-/// Returns the size that a text stands for as a TOML value. Without memory for the value it is refused as an empty
-/// text.
+/// Returns the size that a text stands for as a TOML value.
+///
+/// # Errors
+///
+/// Those of [`size_from_value`]; `Empty` if there is no memory for the value.
 fn read_size_value(alloc: Global, text: &str) -> Result<ReadableSize, SizeError> {
     match Value::string(alloc, text) {
         Ok(value) => size_from_value(&value),
@@ -84,7 +87,7 @@ fn read_size_value(alloc: Global, text: &str) -> Result<ReadableSize, SizeError>
 
 /// Tests that sizes are read from numbers and texts of TOML, and from no other value.
 #[test]
-fn values_are_read(rt: HostRuntime) {
+fn sizes_are_read_from_toml_values(rt: HostRuntime) {
     assert_eq!(rt;
         size_from_value(&Value::Integer(4096)),
         Ok(ReadableSize(4096))
@@ -110,20 +113,24 @@ impl Factory<ReadableSize> for Sizes {
 
     ghost may_refuse = { λ _ _. ⊥ };
 
-    /// Returns a copy of the size of this factory.
+    /// Returns a copy of the size of this factory. Never fails.
     fn new_target(&self, _alloc: Global) -> raft_base::Result<ReadableSize> {
         Ok(ReadableSize(self.0))
     }
 }
 
 /// Returns two values that a factory makes.
+///
+/// # Errors
+///
+/// Those of [`Factory::new_target`].
 fn make_two<T: Drop, F: Factory<T>>(alloc: Global, factory: &F) -> raft_base::Result<(T, T)> {
     Ok((factory.new_target(alloc)?, factory.new_target(alloc)?))
 }
 
 /// Tests that a factory makes a value at each call.
 #[test]
-fn factories_give_targets(rt: HostRuntime) {
+fn a_factory_makes_a_value_at_each_call(rt: HostRuntime) {
     let both = make_two(rt.alloc(), &Sizes(512)).ok();
     assert_eq!(rt; both, Some((ReadableSize(512), ReadableSize(512))));
 }

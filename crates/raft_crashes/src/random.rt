@@ -178,7 +178,7 @@ fn write_random_batch<R: Host>(crashes: &mut Crashes<'_, R>, history: &mut Histo
 ///
 /// # Errors
 ///
-/// Those of [`History::rotate`] and [`History::rewrite`].
+/// Those of [`History::rotate`] and [`History::rewrite_up_to`].
 fn move_records<R: Host>(crashes: &mut Crashes<'_, R>, history: &mut History) -> Result<()> {
     if history.dice.draw_one_in(2) {
         return rotate_and_rewrite_all(crashes, history);
@@ -193,7 +193,7 @@ fn move_records<R: Host>(crashes: &mut Crashes<'_, R>, history: &mut History) ->
 ///
 /// # Errors
 ///
-/// Those of [`History::rotate`] and [`History::rewrite`].
+/// Those of [`History::rotate`] and [`History::rewrite_up_to`].
 fn rotate_and_rewrite_all<R: Host>(
     crashes: &mut Crashes<'_, R>,
     history: &mut History,

@@ -22,13 +22,13 @@ use raft_table::MemTable;
 use std::alloc::Global;
 
 /// Returns the batches of the atomic group numbered `group` that move what a table has in rewrite files: a Begin, a batch for
-/// each part of the entries (see [`count_in_next_part`]), and an End with the keys. It reads the bytes of the entries, each block of a
-/// part once for all neighbors in it.
+/// each part of the entries (see [`count_in_next_part`]), and an End with the keys. It reads the bytes of the entries, each
+/// block of a part once for all neighbors in it.
 ///
 /// # Errors
 ///
-/// Those of [`read_joined_entries`]; `Full` if the entries of a part have 2^31 bytes or more; `InvalidArgument` if a key is that of
-/// the group markers; `Memory`. Only reads were asked then.
+/// Those of [`read_joined_entries`]; `Full` if the entries of a part have 2^31 bytes or more; `InvalidArgument` if a key is
+/// that of the group markers; `Memory`. Only reads were asked then.
 pub fn moving_group_batches<F: EngineFiles>(
     alloc: Global,
     files: &mut F,
@@ -79,8 +79,8 @@ fn new_begin_batch(alloc: Global, builder: &mut AtomicGroupBuilder) -> Result<Lo
 ///
 /// # Errors
 ///
-/// Those of [`read_joined_entries`]; `Full` if the entries of a part have 2^31 bytes or more. Only reads were asked then, and some
-/// batches may have been added.
+/// Those of [`read_joined_entries`]; `Full` if the entries of a part have 2^31 bytes or more. Only reads were asked then, and
+/// some batches may have been added.
 fn push_part_batches<F: EngineFiles>(
     files: &mut F,
     region: u64,

@@ -41,8 +41,8 @@ pub fn put_batch<F: EngineFiles>(
     try_put(files, file, offset, batch, len, &mut intact)
 }
 
-/// Puts a batch of `len` bytes, which are made, after those of `file`, as [`put_batch`] does. After an error `intact` says whether the
-/// files are as if this hadn't been asked.
+/// Puts a batch of `len` bytes, which are made, after those of `file`, as [`put_batch`] does. After an error `intact` says
+/// whether the files are as if this hadn't been asked.
 ///
 /// # Errors
 ///

@@ -167,8 +167,8 @@ impl Ready {
 
 impl ReadySegments {
     /// Checks that the found files of both queues may be opened in `mode`, and turns their segments into those of the files
-    /// that are there once what is missing was asked. `append_tail` is what [`FoundQueue::find_tail`] returned of the append queue;
-    /// the last rewrite file is read here to find its tail.
+    /// that are there once what is missing was asked. `append_tail` is what [`FoundQueue::find_tail`] returned of the append
+    /// queue; the last rewrite file is read here to find its tail.
     ///
     /// # Errors
     ///
@@ -217,8 +217,9 @@ impl ReadySegments {
 ///
 /// # Errors
 ///
-/// Those of [`FoundQueue::of`] and of [`FoundQueue::into_ready`], and those of [`read_again_in_order`]: if the files are refused they are
-/// read once more, since the error must be that of a tail which `mode` refuses, if there is one, before any other.
+/// Those of [`FoundQueue::of`] and of [`FoundQueue::into_ready`], and those of [`read_again_in_order`]: if the files are
+/// refused they are read once more, since the error must be that of a tail which `mode` refuses, if there is one, before any
+/// other.
 pub fn read_found_files<R: Threads + Sync>(
     rt: &R,
     alloc: Global,
@@ -294,9 +295,9 @@ fn read_again_in_order<R: Threads + Sync>(
     Ok(ReadFiles { reading, damaged })
 }
 
-/// Returns what the reading of found files gives, as [`read_found_files`] does, from contexts of the caller: `appended` has read the
-/// batches of the append files and `rewritten` those of the rewrite files, each up to the tail of the last file. It starts no
-/// threads.
+/// Returns what the reading of found files gives, as [`read_found_files`] does, from contexts of the caller: `appended` has
+/// read the batches of the append files and `rewritten` those of the rewrite files, each up to the tail of the last file. It
+/// starts no threads.
 ///
 /// # Errors
 ///

@@ -112,8 +112,8 @@ pub fn count_in_next_batch(entries: &[EntryIndex], gate: Option<FileSeq>) -> usi
 ///
 /// # Errors
 ///
-/// Those of [`read_joined_entries`]; `Full` if the bytes of the entries are 2^31 or more; `InvalidArgument` if a key is that of the
-/// group markers; `Memory`. Only reads were asked then.
+/// Those of [`read_joined_entries`]; `Full` if the bytes of the entries are 2^31 or more; `InvalidArgument` if a key is that of
+/// the group markers; `Memory`. Only reads were asked then.
 pub fn next_moving_batch<F: EngineFiles>(
     alloc: Global,
     files: &mut F,

@@ -30,6 +30,10 @@ static CHANGES: [(&[Part], &str); 8] = [
 ];
 
 /// Tests whether a purge deletes `deleted` rewrite files, and leaves one.
+///
+/// # Errors
+///
+/// Those of the engine's calls; `Memory`.
 fn does_purge_leave_one_rewrite_file(
     engine: &mut Engine<MemoryFiles>,
     deleted: usize,
@@ -39,6 +43,10 @@ fn does_purge_leave_one_rewrite_file(
 
 /// Moves the rewritten records to a new rewrite file, and purges the older one. Tests whether a restart finds `left` after
 /// each of both.
+///
+/// # Errors
+///
+/// Those of the engine's calls and of the opening; `Memory`.
 pub fn is_found_after_moves_and_purges<R: Threads + Sync>(
     rt: &R,
     alloc: Global,
@@ -57,6 +65,10 @@ pub fn is_found_after_moves_and_purges<R: Threads + Sync>(
 }
 
 /// Moves all that the append files have to the rewrite queue, and purges them. Returns whether one append file is left.
+///
+/// # Errors
+///
+/// Those of the engine's calls; `Memory`.
 pub fn move_and_purge_append_files(engine: &mut Engine<MemoryFiles>) -> Result<bool> {
     rotate(engine)?;
     rewrite_up_to(engine, FileSeq::MAX)?;
@@ -66,6 +78,10 @@ pub fn move_and_purge_append_files(engine: &mut Engine<MemoryFiles>) -> Result<b
 
 /// Writes `parts` to an engine whose records have moved. Tests whether restarts find `left`: after the rewritten records have
 /// moved again, and once more after all has moved out of the append files.
+///
+/// # Errors
+///
+/// Those of the engine's calls and of the opening; `Memory`.
 fn does_change_stay<R: Threads + Sync>(
     rt: &R,
     alloc: Global,
@@ -77,6 +93,10 @@ fn does_change_stay<R: Threads + Sync>(
 }
 
 /// Writes `parts` to `engine`. Tests whether restarts find `left`, as [`does_change_stay`] says.
+///
+/// # Errors
+///
+/// Those of the engine's calls and of the opening; `Memory`.
 fn does_change_stay_in<R: Threads + Sync>(
     rt: &R,
     alloc: Global,
@@ -197,6 +217,10 @@ impl EngineFiles for Failing {
 }
 
 /// Makes an engine over files of which `left` calls succeed.
+///
+/// # Errors
+///
+/// Those of [`Engine::new`].
 fn new_engine_over_failing(alloc: Global, left: usize) -> Result<Engine<Failing>> {
     let files = Failing {
         files: MemoryFiles::new(alloc),
@@ -206,6 +230,10 @@ fn new_engine_over_failing(alloc: Global, left: usize) -> Result<Engine<Failing>
 }
 
 /// Makes an engine that wrote the parts `entries`, a batch each, and `k=v`. Of its files `left` further calls succeed.
+///
+/// # Errors
+///
+/// Those of the engine's calls; `Memory`.
 fn engine_with_entries_and_key(
     alloc: Global,
     left: usize,
@@ -219,6 +247,10 @@ fn engine_with_entries_and_key(
 }
 
 /// Writes a batch for each of these parts, in order.
+///
+/// # Errors
+///
+/// Those of the engine's calls; `Memory`.
 pub fn write_each<F: EngineFiles>(
     alloc: Global,
     engine: &mut Engine<F>,
@@ -232,6 +264,10 @@ pub fn write_each<F: EngineFiles>(
 
 /// Moves all records out of the append files, and then to a new rewrite file; purges both queues. Returns how many rewrite
 /// files were deleted.
+///
+/// # Errors
+///
+/// Those of the engine's calls; `Memory`.
 fn move_twice_and_purge(engine: &mut Engine<Failing>) -> Result<usize> {
     rotate(engine)?;
     rewrite_up_to(engine, FileSeq::MAX)?;
@@ -267,6 +303,10 @@ static MOVING: [Moving; 2] = [
 
 /// Moves the records of `moving` over files of which `left` calls succeed. Returns whether the files failed, and whether a
 /// restart finds all records then.
+///
+/// # Errors
+///
+/// Those of the engine's calls but `Failed`, which the result tells; those of the opening; `Memory`.
 fn is_found_after_failure<R: Threads + Sync>(
     rt: &R,
     alloc: Global,
@@ -279,6 +319,10 @@ fn is_found_after_failure<R: Threads + Sync>(
 
 /// Moves the records of `engine` twice. Returns whether the files failed, and whether an engine over copies of them
 /// holds `text`.
+///
+/// # Errors
+///
+/// Those of the engine's calls but `Failed`, which the result tells; those of the opening; `Memory`.
 fn are_moved_records_found<R: Threads + Sync>(
     rt: &R,
     alloc: Global,
@@ -290,7 +334,11 @@ fn are_moved_records_found<R: Threads + Sync>(
     Ok((failed, found))
 }
 
-/// Returns whether the files failed. Any other error is passed on.
+/// Returns whether the files failed.
+///
+/// # Errors
+///
+/// That of `moved`, unless it is `Failed`.
 fn have_files_failed(moved: Result<usize>) -> Result<bool> {
     match moved {
         Ok(_) => Ok(false),
@@ -300,6 +348,10 @@ fn have_files_failed(moved: Result<usize>) -> Result<bool> {
 }
 
 /// Tests whether an engine that is opened over copies of `files` holds `text`.
+///
+/// # Errors
+///
+/// Those of the opening; `Memory`.
 fn is_text_found_in<R: Threads + Sync>(
     rt: &R,
     alloc: Global,
@@ -311,6 +363,10 @@ fn is_text_found_in<R: Threads + Sync>(
 }
 
 /// Opens an engine over copies of `files`, with two workers.
+///
+/// # Errors
+///
+/// Those of the opening; `Memory`.
 fn open_over_copies<R: Threads + Sync>(
     rt: &R,
     alloc: Global,
@@ -322,6 +378,10 @@ fn open_over_copies<R: Threads + Sync>(
 
 /// Returns how many calls of the files the move takes, if after each smaller number of calls a restart finds all records; else
 /// `None`.
+///
+/// # Errors
+///
+/// Those of [`is_found_after_failure`].
 fn count_calls_to_move<R: Threads + Sync>(
     rt: &R,
     alloc: Global,
@@ -340,6 +400,10 @@ fn count_calls_to_move<R: Threads + Sync>(
 }
 
 /// Tests whether the move takes as many calls as `moving` says, and loses nothing if it is cut short.
+///
+/// # Errors
+///
+/// Those of [`is_found_after_failure`].
 fn does_move_take_calls<R: Threads + Sync>(rt: &R, alloc: Global, moving: &Moving) -> Result<bool> {
     Ok(count_calls_to_move(rt, alloc, moving)? == Some(moving.calls))
 }

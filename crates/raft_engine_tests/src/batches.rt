@@ -45,6 +45,10 @@ static MEDIUM: [u8; 1_500] = [b'x'; 1_500];
 static LARGE: [u8; 3_072] = [b'x'; 3_072];
 
 /// Returns an open batch with one entry of `region`, which has these bytes.
+///
+/// # Errors
+///
+/// Those of [`LogBatch::add_raw_entries`]; `Memory`.
 pub fn batch_with_entry(alloc: Global, region: u64, index: u64, bytes: Vec<u8>) -> Result<LogBatch>
     ensures { IfOk result (λ batch. batch.stage ≡ is_open) }
 {
@@ -63,6 +67,10 @@ pub fn batch_with_entry(alloc: Global, region: u64, index: u64, bytes: Vec<u8>) 
 }
 
 /// Returns the bytes of a batch, signed for `file`.
+///
+/// # Errors
+///
+/// `Failed` if the batch isn't open; those of [`LogBatch::finish_populate`]; `Memory`.
 pub fn bytes_signed_for(alloc: Global, mut batch: LogBatch, file: FileId) -> Result<Vec<u8>> {
     if !batch.is_open() {
         return Err(Error::Failed);
@@ -73,6 +81,10 @@ pub fn bytes_signed_for(alloc: Global, mut batch: LogBatch, file: FileId) -> Res
 }
 
 /// Returns an open batch of these items, in order.
+///
+/// # Errors
+///
+/// That of the first part that the batch refuses; `Memory`.
 pub fn batch_of_parts(alloc: Global, parts: &[Part]) -> Result<LogBatch>
     ensures { IfOk result (λ batch. batch.stage ≡ is_open) }
 {
@@ -135,6 +147,10 @@ fn proposals_between(alloc: Global, first: u64, end: u64, bytes: &[u8]) -> Resul
 
 /// Adds to `batch` the marker of group `id` with this status. For a Middle or an End, the group is begun in another batch
 /// before, which is dropped.
+///
+/// # Errors
+///
+/// Those of the builder's calls. The batch is still open then.
 fn add_marker(alloc: Global, batch: &mut LogBatch, id: u64, status: AtomicGroupStatus) -> Result<()>
     requires { batch.old.stage ≡ is_open }
     ensures { OnOk result (batch.new.stage ≡ is_open) }

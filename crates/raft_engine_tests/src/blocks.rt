@@ -64,6 +64,10 @@ fn rows_of_damage() -> &'static [Row] {
 }
 
 /// Opens an engine over the changed files of a row in a mode.
+///
+/// # Errors
+///
+/// Those of the opening; `Memory`.
 fn open_changed_files<R: Threads + Sync>(
     rt: &R,
     alloc: Global,
@@ -93,7 +97,11 @@ fn open_changed_files<R: Threads + Sync>(
 }
 
 /// Tests whether the opened engine holds `text`, and the opening named the batches at the offsets `named`.
-fn is_held_and_named(
+///
+/// # Errors
+///
+/// That of `opened`; `Memory`.
+fn holds_text_and_names_batches(
     alloc: Global,
     opened: Result<Opened<MemoryFiles>>,
     text: &str,
@@ -107,6 +115,10 @@ fn is_held_and_named(
 }
 
 /// Tests whether an opening of the files of `row` in `mode` gives what the row says.
+///
+/// # Errors
+///
+/// That of the opening, unless it is one that the row says; `Memory`.
 fn is_row_answered<R: Threads + Sync>(
     rt: &R,
     alloc: Global,
@@ -115,7 +127,7 @@ fn is_row_answered<R: Threads + Sync>(
 ) -> Result<bool> {
     let opened = open_changed_files(rt, alloc, mode, row);
     match &row.2 {
-        Answer::Holds(text) => is_held_and_named(alloc, opened, text, row.3),
+        Answer::Holds(text) => holds_text_and_names_batches(alloc, opened, text, row.3),
         Answer::Says(text) => is_corruption_with_text(opened, text),
         Answer::Names(text) => is_invalid_argument_with_text(opened, text),
     }

@@ -34,11 +34,19 @@ pub const RIGHT: Way = Way {
 pub type Opened = std::result::Result<Engine<MemoryFiles>, Unopened<MemoryFiles>>;
 
 /// Makes a new engine over files in memory.
+///
+/// # Errors
+///
+/// Those of [`Engine::new`].
 pub fn new_engine(alloc: Global) -> Result<Engine<MemoryFiles>> {
     Engine::new(alloc, Version::V2, MemoryFiles::new(alloc))
 }
 
 /// Opens an engine over copies of files in memory, in the given way. The outer error is want of memory for the copies.
+///
+/// # Errors
+///
+/// `Memory` for the copies. What the opening answers is in the result.
 pub fn open_in_way<R: Threads + Sync>(
     rt: &R,
     alloc: Global,
@@ -53,6 +61,10 @@ pub fn open_in_way<R: Threads + Sync>(
 }
 
 /// Opens an engine over files in a mode, with two workers. Returns what was cut off them.
+///
+/// # Errors
+///
+/// Those of the opening; `Memory`.
 pub fn open_and_return_cuts<R: Threads + Sync>(
     rt: &R,
     alloc: Global,
@@ -72,6 +84,10 @@ pub type OpenedInMode = std::result::Result<
 
 /// Opens an engine over copies of files in memory in a mode, with two workers. The outer error is want of memory for the
 /// copies.
+///
+/// # Errors
+///
+/// `Memory` for the copies. What the opening answers is in the result.
 pub fn open_in_mode<R: Threads + Sync>(
     rt: &R,
     alloc: Global,
@@ -102,6 +118,10 @@ pub fn are_batches_named(damaged: &[DamagedBatch], offsets: &[u64]) -> bool {
 }
 
 /// Opens an engine over copies of files in memory, with two workers.
+///
+/// # Errors
+///
+/// Those of the opening; `Memory`.
 pub fn open_copies<R: Threads + Sync>(
     rt: &R,
     alloc: Global,
@@ -113,6 +133,10 @@ pub fn open_copies<R: Threads + Sync>(
 }
 
 /// Opens an engine over copies of the files of another one, with two workers.
+///
+/// # Errors
+///
+/// Those of the opening; `Memory`.
 pub fn reopen_over_copies<R: Threads + Sync>(
     rt: &R,
     alloc: Global,
@@ -122,6 +146,10 @@ pub fn reopen_over_copies<R: Threads + Sync>(
 }
 
 /// Returns the tables that a recovery gives of the files of both queues.
+///
+/// # Errors
+///
+/// Those of the recovery; `Memory`.
 pub fn recover_tables<R: Threads + Sync>(
     rt: &R,
     alloc: Global,
@@ -284,7 +312,11 @@ macro_rules! holds {
 
 pub(crate) use holds;
 
-/// Tests whether a call returned `Corruption`. Any other error is passed on.
+/// Tests whether a call returned `Corruption`.
+///
+/// # Errors
+///
+/// That of the call, unless it is `Corruption`.
 pub fn is_corruption<T: Drop>(answer: Result<T>) -> Result<bool> {
     match answer {
         Ok(_) => Ok(false),
@@ -293,7 +325,11 @@ pub fn is_corruption<T: Drop>(answer: Result<T>) -> Result<bool> {
     }
 }
 
-/// Tests whether a call returned `InvalidArgument`. Any other error is passed on.
+/// Tests whether a call returned `InvalidArgument`.
+///
+/// # Errors
+///
+/// That of the call, unless it is `InvalidArgument`.
 pub fn is_invalid_argument<T: Drop>(answer: Result<T>) -> Result<bool> {
     match answer {
         Ok(_) => Ok(false),

@@ -116,7 +116,7 @@ impl Engine {
     ///
     /// # Errors
     ///
-    /// Those of the tables, which the file has before them; `Memory`.
+    /// Those of the tables: the file has the batch then, and they don't. `Memory`.
     fn append_parts(&mut self, seq: FileSeq, parts: &[Part]) -> Result<()> {
         let mut batch = self.write_batch(
             LogQueue::Append,
@@ -131,7 +131,7 @@ impl Engine {
     ///
     /// # Errors
     ///
-    /// Those of the tables, which the file has before them; `Memory`.
+    /// Those of the tables: the file has the batch then, and they don't. `Memory`.
     fn rewrite_parts(&mut self, seq: FileSeq, gate: Option<FileSeq>, parts: &[Part]) -> Result<()> {
         let mut batch = self.write_batch(
             LogQueue::Rewrite,
@@ -198,7 +198,8 @@ impl Engine {
         }
     }
 
-    /// Appends the bytes of a batch to a file, and returns the batch with the places of its items.
+    /// Appends the bytes of a batch to a file, and returns the batch with the places of its items. Errors: those of
+    /// [`LogBatch::finish_populate`]; `Memory`. Nothing is appended then.
     fn write_batch(
         &mut self,
         queue: LogQueue,
@@ -221,7 +222,8 @@ impl Engine {
         Ok(batch)
     }
 
-    /// Appends bytes to a file, which is made if there is none. Returns the offset at which they stand.
+    /// Appends bytes to a file, which is made if there is none. Returns the offset at which they stand. Errors: `Memory`. The
+    /// file is as it was then.
     fn append_bytes(&mut self, id: FileId, bytes: &[u8]) -> Result<u64> {
         for file in &mut self.files {
             if file.id == id {
@@ -249,14 +251,15 @@ impl Engine {
         });
     }
 
-    /// Writes a batch to an append file and to the tables, if the tables accept it; else nothing is written.
+    /// Writes a batch to an append file and to the tables, if the tables accept it; else nothing is written. Errors: those of
+    /// the tables, which are as they were then, and so are the files; `Memory`.
     pub fn write_tested(&mut self, seq: FileSeq, parts: &'static [Part]) -> Result<()> {
         let batch = batch_of_parts(self.alloc, parts)?;
         self.tables.check_append_writes(batch.items())?;
         self.take_step(&Step::Append(seq, parts))
     }
 
-    /// Returns copies of the files of a queue.
+    /// Returns copies of the files of a queue. Errors: `Memory`.
     pub fn copy_files(&self, queue: LogQueue) -> Result<Vec<(FileSeq, Vec<u8>)>> {
         let mut copies = Vec::new(self.alloc);
         for file in &self.files {
@@ -318,24 +321,25 @@ impl Engine {
         let Some(file) = self.files.last_mut() else {
             return Ok(());
         };
-        let part = part_with_file(file)?;
+        let part = part_with_copy_of_file(file)?;
         let (end, stopped) = readable_front(&part);
         let Some(reason) = stopped else {
             return Ok(());
         };
-        if matches!(reason, Error::Memory) || has_batch_behind(&part, end)? {
+        if matches!(reason, Error::Memory) || has_batch_after_unreadable_one(&part, end)? {
             return Err(reason);
         }
         file.bytes.truncate(end);
         Ok(())
     }
 
-    /// Tests whether a readable batch stands anywhere after the position where reading of the last file stops.
+    /// Tests whether a readable batch stands anywhere after the position where reading of the last file stops. Errors:
+    /// `Memory`; that of a file that is too long for a part.
     pub fn has_batch_later(&self) -> Result<bool> {
         let Some(file) = self.files.last() else {
             return Ok(false);
         };
-        let part = part_with_file(file)?;
+        let part = part_with_copy_of_file(file)?;
         let (end, _) = readable_front(&part);
         for at in end..part.bytes().len() {
             if at > end && is_batch_readable(next_batch(&part, at))? {
@@ -345,7 +349,8 @@ impl Engine {
         Ok(false)
     }
 
-    /// Writes to append file 1 an entry whose bytes are a batch that could stand in that file.
+    /// Writes to append file 1 an entry whose bytes are a batch that could stand in that file. Errors: those of the tables:
+    /// the file has the batch then, and they don't. `Memory`.
     pub fn append_batch_in_entry(&mut self, index: u64) -> Result<()> {
         let batch = batch_with_entry(
             self.alloc,
@@ -357,7 +362,8 @@ impl Engine {
         self.tables.apply_append_writes(written.drain())
     }
 
-    /// Reads the bytes of an entry of the table from its file.
+    /// Reads the bytes of an entry of the table from its file. Errors: `EntryNotFound` if the table or the files don't have the
+    /// entry; `Corruption` if its block is damaged; `Memory`.
     pub fn read_entry_bytes(&self, index: u64) -> Result<Vec<u8>> {
         let entry = self.entry_index(index)?;
         let place = entry.entries.ok_or(Error::EntryNotFound)?;
@@ -369,7 +375,8 @@ impl Engine {
         Err(Error::EntryNotFound)
     }
 
-    /// Returns what the table has of an entry: its place, and its span there.
+    /// Returns what the table has of an entry: its place, and its span there. Errors: `EntryNotFound` if the table doesn't have
+    /// the entry; those of [`MemTable::fetch_entries_to`].
     fn entry_index(&self, index: u64) -> Result<EntryIndex> {
         let table = self.tables.get(REGION).ok_or(Error::EntryNotFound)?;
         let mut entries: Vec<EntryIndex> = Vec::new(self.alloc);
@@ -380,17 +387,18 @@ impl Engine {
         }
     }
 
-    /// Returns what the tables hold, as a text.
+    /// Returns what the tables hold, as a text. Errors: `Memory`.
     pub fn kept_text(&self) -> Result<String> {
         table_text(self.alloc, self.tables.get(REGION))
     }
 
-    /// Returns what the files of both queues give, as a text.
+    /// Returns what the files of both queues give, as a text. Errors: those of reading the files; `Memory`.
     pub fn recovered_text(&self) -> Result<String> {
         table_text(self.alloc, self.recover_tables()?.get(REGION))
     }
 
-    /// Returns the tables that the files of both queues give.
+    /// Returns the tables that the files of both queues give. Errors: those of reading the files, and of merging what they
+    /// give; `Memory`.
     fn recover_tables(&self) -> Result<MemTableAccessor> {
         let mut context = self.recover_context(LogQueue::Rewrite)?;
         context.merge_append_context(self.recover_context(LogQueue::Append)?)?;
@@ -418,34 +426,36 @@ impl Engine {
         let mut segment = Vec::new(self.alloc);
         for file in &self.files {
             if file.id.queue == queue {
-                segment.push(part_with_file(file)?)?;
+                segment.push(part_with_copy_of_file(file)?)?;
             }
         }
         Ok(segment)
     }
 }
 
-/// Returns the bytes of a batch that could stand in append file 1.
+/// Returns the bytes of a batch that could stand in append file 1. Errors: those of making the batch; `Memory`.
 fn bytes_of_batch_for_file_1(alloc: Global) -> Result<Vec<u8>> {
     let batch = batch_of_parts(alloc, &[Part::Put("v")])?;
     bytes_signed_for(alloc, batch, FileId::new(LogQueue::Append, 1))
 }
 
-/// Returns the bytes of an entry, whose block is at `place` of a file.
+/// Returns the bytes of an entry, whose block is at `place` of a file. Errors: `Corruption` if the block is damaged, or has no
+/// such entry; `Memory`.
 fn entry_bytes_in_file(
     alloc: Global,
     file: &LogFile,
     place: FileBlockHandle,
     entry: &EntryIndex,
 ) -> Result<Vec<u8>> {
-    let part = part_with_file(file)?;
+    let part = part_with_copy_of_file(file)?;
     let block = entries_block_in(&part, place)?;
     Ok(Vec::from_slice(alloc, entry_bytes(alloc, block, entry)?)?)
 }
 
 /// Tests whether a readable batch stands where the unreadable one at position `at` ends by its header. This is written without
-/// the engine under test, so that the test doesn't ask that whether it is right.
-fn has_batch_behind(part: &FilePart, at: usize) -> Result<bool> {
+/// the engine under test, so that the test doesn't ask that whether it is right. Errors: `Memory` alone: any other error says
+/// that no batch can be read there.
+fn has_batch_after_unreadable_one(part: &FilePart, at: usize) -> Result<bool> {
     let mut bytes = part.bytes().get(at..).unwrap_or(b"");
     let Ok((_, _, len)) = LogBatch::decode_header(part.allocator(), &mut bytes) else {
         return Ok(false);
@@ -457,7 +467,7 @@ fn has_batch_behind(part: &FilePart, at: usize) -> Result<bool> {
     is_batch_readable(next_batch(part, end))
 }
 
-/// Tests whether a batch could be read. Want of memory is passed on.
+/// Tests whether a batch could be read. Errors: `Memory` alone: any other error says that no batch can be read.
 fn is_batch_readable<T: Drop>(read: Result<T>) -> Result<bool> {
     match read {
         Ok(_) => Ok(true),
@@ -466,13 +476,13 @@ fn is_batch_readable<T: Drop>(read: Result<T>) -> Result<bool> {
     }
 }
 
-/// Returns a copy of a file as a part.
-fn part_with_file(file: &LogFile) -> Result<FilePart> {
+/// Returns a copy of a file as a part. Errors: `Memory`; that of a file that is too long for a part.
+fn part_with_copy_of_file(file: &LogFile) -> Result<FilePart> {
     FilePart::new(file.id, Version::V2, 0, file.bytes.clone()?)
 }
 
 /// Returns the entries of a table as `[first,end)`, where `end` is the index after the last one, and the value of the key `k`
-/// as `k=value`; an empty text for `None`.
+/// as `k=value`; an empty text for `None`. Errors: `Memory`.
 pub fn table_text(alloc: Global, table: Option<&MemTable>) -> Result<String> {
     let mut text = String::new(alloc);
     let Some(table) = table else {

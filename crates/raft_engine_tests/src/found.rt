@@ -15,12 +15,20 @@ use std::alloc::Global;
 use std::thread::Threads;
 
 /// Returns the append file of an engine that wrote [1,3), `k=v` and [3,9): batches of 33, 28 and 41 bytes.
+///
+/// # Errors
+///
+/// Those of the engine's calls; `Memory`.
 pub fn file_of_three_batches(alloc: Global) -> Result<LogFiles> {
     let mut engine = new_engine(alloc)?;
     write_file_of_three_batches(alloc, &mut engine)
 }
 
 /// Writes [1,3), `k=v` and [3,9), a batch each, and returns a copy of the append file.
+///
+/// # Errors
+///
+/// Those of the engine's calls; `Memory`.
 fn write_file_of_three_batches(
     alloc: Global,
     engine: &mut Engine<MemoryFiles>,
@@ -32,12 +40,20 @@ fn write_file_of_three_batches(
 }
 
 /// Returns the four append files of an engine that wrote [1,3), `k=v`, [3,9) and [9,12), each to a file of its own.
+///
+/// # Errors
+///
+/// Those of the engine's calls; `Memory`.
 pub fn four_files_of_a_batch(alloc: Global) -> Result<LogFiles> {
     let mut engine = new_engine(alloc)?;
     write_four_batches(alloc, &mut engine)
 }
 
 /// Writes [1,3), `k=v`, [3,9) and [9,12), each to an append file of its own, and returns copies of these.
+///
+/// # Errors
+///
+/// Those of the engine's calls; `Memory`.
 fn write_four_batches(alloc: Global, engine: &mut Engine<MemoryFiles>) -> Result<LogFiles> {
     write_parts(alloc, engine, &[Entries(1, 3)], true)?;
     rotate(engine)?;
@@ -91,6 +107,10 @@ fn renumber_last_file(mut files: LogFiles, seq: FileSeq) -> LogFiles {
 }
 
 /// Returns an append file that begins as those of the raft-engine of TiKV do.
+///
+/// # Errors
+///
+/// `Memory` alone.
 fn of_engine(alloc: Global) -> Result<LogFiles> {
     let mut bytes = Vec::from_slice(
         alloc,
@@ -111,6 +131,10 @@ fn cut_last_file(mut files: LogFiles, len: usize) -> LogFiles {
 }
 
 /// Returns `files` without those that have these `numbers`.
+///
+/// # Errors
+///
+/// `Memory` alone.
 fn drop_numbered_files(alloc: Global, files: LogFiles, numbers: &[FileSeq]) -> Result<LogFiles> {
     let mut left = Vec::new(alloc);
     for file in files {
@@ -255,7 +279,11 @@ fn rows_of_modes() -> &'static [(RecoveryMode, Change, Answer)] {
     &ROWS_OF_MODES
 }
 
-/// Tests whether an opening returned `Corruption` with this text. Any other error is passed on.
+/// Tests whether an opening returned `Corruption` with this text.
+///
+/// # Errors
+///
+/// That of the opening, unless it is `Corruption`.
 pub fn is_corruption_with_text<T: Drop>(opened: Result<T>, text: &str) -> Result<bool> {
     match opened {
         Ok(_) => Ok(false),
@@ -264,7 +292,11 @@ pub fn is_corruption_with_text<T: Drop>(opened: Result<T>, text: &str) -> Result
     }
 }
 
-/// Tests whether an opening returned `InvalidArgument` with this text. Any other error is passed on.
+/// Tests whether an opening returned `InvalidArgument` with this text.
+///
+/// # Errors
+///
+/// That of the opening, unless it is `InvalidArgument`.
 pub fn is_invalid_argument_with_text<T: Drop>(opened: Result<T>, text: &str) -> Result<bool> {
     match opened {
         Ok(_) => Ok(false),
@@ -274,6 +306,10 @@ pub fn is_invalid_argument_with_text<T: Drop>(opened: Result<T>, text: &str) -> 
 }
 
 /// Tests whether an engine that is opened over `files` holds `text`.
+///
+/// # Errors
+///
+/// Those of the opening; `Memory`.
 fn does_open_with_text<R: Threads + Sync>(
     rt: &R,
     alloc: Global,
@@ -285,6 +321,10 @@ fn does_open_with_text<R: Threads + Sync>(
 }
 
 /// Tests whether an opening of the changed files of `row` gives what the row says.
+///
+/// # Errors
+///
+/// That of the opening, unless it is one that the row says; those of writing the files; `Memory`.
 fn is_row_answered<R: Threads + Sync>(
     rt: &R,
     alloc: Global,
@@ -313,6 +353,10 @@ fn found_files_are_opened_or_refused(rt: HostRuntime) {
 }
 
 /// Opens an engine over append files in `mode`.
+///
+/// # Errors
+///
+/// Those of the opening; `Memory`.
 fn open_engine_in_mode<R: Threads + Sync>(
     rt: &R,
     alloc: Global,
@@ -324,6 +368,10 @@ fn open_engine_in_mode<R: Threads + Sync>(
 }
 
 /// Tests whether an engine that is opened over `files` in `mode` holds `text`.
+///
+/// # Errors
+///
+/// Those of the opening; `Memory`.
 fn is_held_in_mode<R: Threads + Sync>(
     rt: &R,
     alloc: Global,
@@ -336,6 +384,10 @@ fn is_held_in_mode<R: Threads + Sync>(
 }
 
 /// Tests whether an opening of the changed files of `row`, in the row's mode, gives what the row says.
+///
+/// # Errors
+///
+/// That of the opening, unless it is one that the row says; those of writing the files; `Memory`.
 fn is_row_answered_in_mode<R: Threads + Sync>(
     rt: &R,
     alloc: Global,

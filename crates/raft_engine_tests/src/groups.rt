@@ -20,12 +20,20 @@ use std::thread::Threads;
 type Batches = &'static [&'static [&'static [Part]]];
 
 /// Returns the bytes of a batch that is signed for rewrite file `seq`.
+///
+/// # Errors
+///
+/// Those of making and signing the batch; `Memory`.
 fn signed_batch_bytes(alloc: Global, seq: FileSeq, parts: &[Part]) -> Result<Vec<u8>> {
     let batch = batch_of_parts(alloc, parts)?;
     bytes_signed_for(alloc, batch, FileId::new(LogQueue::Rewrite, seq))
 }
 
 /// Returns rewrite files with these batches, numbered from 1 on.
+///
+/// # Errors
+///
+/// Those of making and signing the batches; `Memory`.
 fn files_with_batches(alloc: Global, files: Batches) -> Result<LogFiles> {
     let mut made = Vec::new(alloc);
     let mut seq = 1;
@@ -37,6 +45,10 @@ fn files_with_batches(alloc: Global, files: Batches) -> Result<LogFiles> {
 }
 
 /// Returns the bytes of rewrite file `seq` with these batches.
+///
+/// # Errors
+///
+/// Those of making and signing the batches; `Memory`.
 fn file_bytes_with_batches(alloc: Global, seq: FileSeq, batches: &[&[Part]]) -> Result<Vec<u8>> {
     let mut bytes = Vec::new(alloc);
     for parts in batches {
@@ -119,6 +131,10 @@ static OUT: [Batches; 6] = [
 ];
 
 /// Opens an engine over rewrite files alone.
+///
+/// # Errors
+///
+/// Those of the opening; `Memory`.
 fn open_rewrite_files<R: Threads + Sync>(
     rt: &R,
     alloc: Global,
@@ -133,6 +149,10 @@ fn open_rewrite_files<R: Threads + Sync>(
 }
 
 /// Moves all to a new rewrite file, and purges the older ones. Returns whether one rewrite file is left.
+///
+/// # Errors
+///
+/// Those of the engine's calls; `Memory`.
 fn move_and_purge(engine: &mut Engine<MemoryFiles>) -> Result<bool> {
     rewrite_again(engine)?;
     purge_rewrite_files(engine)?;
@@ -141,6 +161,10 @@ fn move_and_purge(engine: &mut Engine<MemoryFiles>) -> Result<bool> {
 
 /// Tests whether an engine that is opened over these rewrite files holds `left`, and a restart finds it too, also after a move
 /// and a purge; and whether the engine goes on then.
+///
+/// # Errors
+///
+/// Those of the engine's calls and of the opening; `Memory`.
 fn are_groups_held<R: Threads + Sync>(
     rt: &R,
     alloc: Global,
@@ -153,6 +177,10 @@ fn are_groups_held<R: Threads + Sync>(
 
 /// Tests whether `engine` holds `left`, and restarts find it: at once, after a move and a purge, and after one more
 /// write.
+///
+/// # Errors
+///
+/// Those of the engine's calls and of the opening; `Memory`.
 fn is_text_held<R: Threads + Sync>(
     rt: &R,
     alloc: Global,
@@ -174,7 +202,7 @@ fn is_text_held<R: Threads + Sync>(
 
 /// Tests that groups whose batches follow one another are found, and stay when they move.
 #[test]
-fn groups_in_rows_are_found(rt: HostRuntime) {
+fn whole_groups_are_found(rt: HostRuntime) {
     for (row, (files, left)) in ROWS.iter().enumerate() {
         assert!(rt;
             holds!(are_groups_held(&rt, rt.alloc(), *files, left)),
@@ -184,6 +212,10 @@ fn groups_in_rows_are_found(rt: HostRuntime) {
 }
 
 /// Tests whether an opening refuses these rewrite files with `InvalidArgument`.
+///
+/// # Errors
+///
+/// That of the opening, unless it is `InvalidArgument`; `Memory`.
 fn are_rewrite_files_refused<R: Threads + Sync>(
     rt: &R,
     alloc: Global,
@@ -194,7 +226,7 @@ fn are_rewrite_files_refused<R: Threads + Sync>(
 
 /// Tests that rewrite files are refused in which the batches of a group don't follow one another.
 #[test]
-fn groups_out_of_rows_are_refused(rt: HostRuntime) {
+fn interleaved_groups_are_refused(rt: HostRuntime) {
     for (row, files) in OUT.iter().enumerate() {
         assert!(rt;
             holds!(are_rewrite_files_refused(&rt, rt.alloc(), *files)),
@@ -216,6 +248,10 @@ static PREFIX_ROWS: [(&[Part], &str); 6] = [
 
 /// Tests whether an engine that is opened over a rewrite file of these bytes holds `left`, and goes on. The bytes may end in
 /// the midst of a batch.
+///
+/// # Errors
+///
+/// Those of the engine's calls and of the opening; `Memory`.
 fn is_prefix_held<R: Threads + Sync>(
     rt: &R,
     alloc: Global,
@@ -227,6 +263,10 @@ fn is_prefix_held<R: Threads + Sync>(
 }
 
 /// Opens an engine over a rewrite file of these bytes.
+///
+/// # Errors
+///
+/// Those of the opening; `Memory`.
 fn open_file_of_bytes<R: Threads + Sync>(
     rt: &R,
     alloc: Global,
@@ -237,6 +277,10 @@ fn open_file_of_bytes<R: Threads + Sync>(
 }
 
 /// Tests whether `engine` holds `left`, moves and purges, and a restart finds `left` then.
+///
+/// # Errors
+///
+/// Those of the engine's calls and of the opening; `Memory`.
 fn does_engine_go_on<R: Threads + Sync>(
     rt: &R,
     alloc: Global,
@@ -252,6 +296,10 @@ fn does_engine_go_on<R: Threads + Sync>(
 
 /// Appends the bytes `next`, which are a batch, to `bytes`, one after another. Tests before each of them whether an engine
 /// over the bytes so far holds `left`.
+///
+/// # Errors
+///
+/// Those of the engine's calls and of the opening; `Memory`. `bytes` then has what was appended so far.
 fn is_each_prefix_held<R: Threads + Sync>(
     rt: &R,
     alloc: Global,
@@ -270,6 +318,10 @@ fn is_each_prefix_held<R: Threads + Sync>(
 
 /// Appends the batches of [`PREFIX_ROWS`] to `bytes`. Tests at each length of the file whether an engine over it holds what the
 /// whole batches leave.
+///
+/// # Errors
+///
+/// Those of the engine's calls and of the opening; `Memory`.
 fn are_prefixes_of_batches_held<R: Threads + Sync>(
     rt: &R,
     alloc: Global,
@@ -287,6 +339,10 @@ fn are_prefixes_of_batches_held<R: Threads + Sync>(
 }
 
 /// Tests at each length of a file of the batches of [`PREFIX_ROWS`] whether an engine over it holds what the whole batches leave.
+///
+/// # Errors
+///
+/// Those of the engine's calls and of the opening; `Memory`.
 fn are_all_prefixes_held<R: Threads + Sync>(rt: &R, alloc: Global) -> Result<bool> {
     let mut bytes = Vec::new(alloc);
     are_prefixes_of_batches_held(rt, alloc, &mut bytes)

@@ -24,6 +24,10 @@ const BY_FOUR: Way = Way {
 static ROWS: [(usize, &str); 3] = [(0, "[1,1201)"), (1, "[1,801)"), (1_400_000, "[1,401)")];
 
 /// Returns an append file of three batches of more than a MiB each, without its last `lacks` bytes.
+///
+/// # Errors
+///
+/// Those of the engine's calls; `Memory`.
 fn long_file_lacking(alloc: Global, lacks: usize) -> Result<LogFiles> {
     let mut engine = new_engine(alloc)?;
     write_long_batches(alloc, &mut engine)?;
@@ -36,6 +40,10 @@ fn long_file_lacking(alloc: Global, lacks: usize) -> Result<LogFiles> {
 }
 
 /// Writes three batches of 400 long entries each, from index 1 on.
+///
+/// # Errors
+///
+/// Those of the engine's calls; `Memory`.
 fn write_long_batches(alloc: Global, engine: &mut Engine<MemoryFiles>) -> Result<()> {
     write_parts(alloc, engine, &[Large(1, 401)], false)?;
     write_parts(alloc, engine, &[Large(401, 801)], false)?;
@@ -43,6 +51,10 @@ fn write_long_batches(alloc: Global, engine: &mut Engine<MemoryFiles>) -> Result
 }
 
 /// Tests whether four workers open the long file, without as many bytes as the row says, and find the row's text.
+///
+/// # Errors
+///
+/// Those of the engine's calls and of the opening; `Memory`.
 fn is_row_opened<R: Threads + Sync>(rt: &R, alloc: Global, row: &(usize, &str)) -> Result<bool> {
     let engine = open_in_way(
         rt,
@@ -74,6 +86,10 @@ fn first_batch_len(files: &LogFiles) -> usize {
 }
 
 /// Tests whether an opening by two workers names the second batch, if its entries are damaged.
+///
+/// # Errors
+///
+/// Those of the engine's calls and of the opening; `Memory`.
 fn is_second_batch_named<R: Threads + Sync>(rt: &R, alloc: Global) -> Result<bool> {
     let files = long_file_lacking(alloc, 0)?;
     let second = first_batch_len(&files);

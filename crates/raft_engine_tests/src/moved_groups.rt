@@ -20,7 +20,11 @@ const TEXT: &str = "[1,4)k=v";
 
 type Marker = Option<(u64, AtomicGroupStatus)>;
 
-/// Makes an engine that wrote these records, and moved them to its first rewrite file.
+/// Makes an engine that wrote entries of more than half a batch each and `k=v`, and moved them to its first rewrite file.
+///
+/// # Errors
+///
+/// Those of the engine's calls; `Memory`.
 fn engine_with_large_regions(alloc: Global) -> Result<Engine<MemoryFiles>> {
     let mut engine = new_engine(alloc)?;
     write_and_move_large_regions(alloc, &mut engine)?;
@@ -28,6 +32,10 @@ fn engine_with_large_regions(alloc: Global) -> Result<Engine<MemoryFiles>> {
 }
 
 /// Writes entries of more than half a batch each and `k=v`, and moves them to the first rewrite file.
+///
+/// # Errors
+///
+/// Those of the engine's calls; `Memory`.
 fn write_and_move_large_regions(alloc: Global, engine: &mut Engine<MemoryFiles>) -> Result<()> {
     write_each(alloc, engine, &[Medium(1, 2), Medium(2, 3), Medium(3, 4)])?;
     write_parts(alloc, engine, &[Put("v")], false)?;
@@ -36,6 +44,10 @@ fn write_and_move_large_regions(alloc: Global, engine: &mut Engine<MemoryFiles>)
 }
 
 /// Returns for each of the first five batches of a rewrite file the group marker with which it begins, or `None`.
+///
+/// # Errors
+///
+/// Those of reading the batches, and of a first item that is no marker but has a marker's key; `Memory`.
 fn markers_of_part(alloc: Global, part: &FilePart) -> Result<Vec<Marker>> {
     let mut markers = Vec::new(alloc);
     let mut at = 0;
@@ -52,6 +64,10 @@ fn markers_of_part(alloc: Global, part: &FilePart) -> Result<Vec<Marker>> {
 }
 
 /// Returns the markers with which the batches of the last rewrite file begin.
+///
+/// # Errors
+///
+/// Those of [`markers_of_part`]; `Memory`.
 fn markers_of_last_file(alloc: Global, engine: &Engine<MemoryFiles>) -> Result<Vec<Marker>> {
     let Some((seq, bytes)) = copy_files(engine, LogQueue::Rewrite)?.pop() else {
         return Ok(Vec::new(alloc));
@@ -61,11 +77,19 @@ fn markers_of_last_file(alloc: Global, engine: &Engine<MemoryFiles>) -> Result<V
 }
 
 /// Tests whether the last rewrite file has two batches, none of them of a group.
+///
+/// # Errors
+///
+/// Those of [`markers_of_last_file`].
 fn has_two_batches(alloc: Global, engine: &Engine<MemoryFiles>) -> Result<bool> {
     Ok(markers_of_last_file(alloc, engine)?.as_slice() == [None, None].as_slice())
 }
 
 /// Tests whether the last rewrite file has just a group of the number `seq`, with two parts.
+///
+/// # Errors
+///
+/// Those of [`markers_of_last_file`].
 fn has_group(alloc: Global, engine: &Engine<MemoryFiles>, seq: u64) -> Result<bool> {
     let group = [
         Some((seq, Begin)),
@@ -78,6 +102,10 @@ fn has_group(alloc: Global, engine: &Engine<MemoryFiles>, seq: u64) -> Result<bo
 
 /// Tests whether the records move in two batches, then in a group, and then in another group once the older file is deleted;
 /// and whether a restart finds them after each move.
+///
+/// # Errors
+///
+/// Those of the engine's calls and of the opening; `Memory`.
 fn do_records_move_in_groups<R: Threads + Sync>(rt: &R, alloc: Global) -> Result<bool> {
     let mut engine = engine_with_large_regions(alloc)?;
     do_records_move_in_two_groups(rt, alloc, &mut engine)
@@ -85,6 +113,10 @@ fn do_records_move_in_groups<R: Threads + Sync>(rt: &R, alloc: Global) -> Result
 
 /// Tests whether the records of `engine` move in two batches, then in group 2, and then in one more group, and
 /// restarts find them.
+///
+/// # Errors
+///
+/// Those of the engine's calls and of the opening; `Memory`.
 fn do_records_move_in_two_groups<R: Threads + Sync>(
     rt: &R,
     alloc: Global,

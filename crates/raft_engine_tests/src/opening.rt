@@ -26,6 +26,10 @@ const IN_OTHER_VERSION: Way = Way {
 };
 
 /// Opens an engine over copies of the files of both queues, in the given way.
+///
+/// # Errors
+///
+/// `Memory` for the copies. What the opening answers is in the result.
 fn open_copies_in_way<R: Threads + Sync>(
     rt: &R,
     alloc: Global,
@@ -37,12 +41,20 @@ fn open_copies_in_way<R: Threads + Sync>(
 }
 
 /// Returns the append file of an engine that wrote [1,3), `k=v` and a third batch, which lacks its last byte.
+///
+/// # Errors
+///
+/// Those of the engine's calls; `Memory`.
 fn torn_file(alloc: Global) -> Result<LogFiles> {
     let mut engine = new_engine(alloc)?;
     write_and_tear(alloc, &mut engine)
 }
 
 /// Writes three batches, and returns a copy of the append file without its last byte.
+///
+/// # Errors
+///
+/// Those of the engine's calls; `Memory`.
 fn write_and_tear(alloc: Global, engine: &mut Engine<MemoryFiles>) -> Result<LogFiles> {
     write_parts(alloc, engine, &[Entries(1, 3)], true)?;
     write_parts(alloc, engine, &[Put("v")], true)?;
@@ -55,13 +67,21 @@ fn write_and_tear(alloc: Global, engine: &mut Engine<MemoryFiles>) -> Result<Log
     Ok(append)
 }
 
-/// Returns that file with a byte of its first batch changed.
+/// Returns the append file of [`torn_file`], with a bit of its first batch changed.
+///
+/// # Errors
+///
+/// Those of the engine's calls; `Memory`.
 fn damaged_file(alloc: Global) -> Result<LogFiles> {
     let files = torn_file(alloc)?;
     Ok(flip_bit_of_first_file(files, 24))
 }
 
-/// Returns the files that a refused opening hands back, or `None` if it succeeded. Want of memory is passed on.
+/// Returns the files that a refused opening hands back, or `None` if it succeeded.
+///
+/// # Errors
+///
+/// `Memory` alone: any other error hands the files back.
 fn files_handed_back(opened: Opened) -> Result<Option<MemoryFiles>> {
     match opened {
         Ok(_) => Ok(None),
@@ -73,6 +93,10 @@ fn files_handed_back(opened: Opened) -> Result<Option<MemoryFiles>> {
 }
 
 /// Tests whether files can be opened in the right way, and hold what was written before the torn batch.
+///
+/// # Errors
+///
+/// Those of the opening; `Memory`.
 fn are_opened_with_prefix<R: Threads + Sync>(
     rt: &R,
     alloc: Global,
@@ -83,6 +107,10 @@ fn are_opened_with_prefix<R: Threads + Sync>(
 }
 
 /// Tests whether the append file still has each byte of the torn file.
+///
+/// # Errors
+///
+/// Those of [`torn_file`].
 fn is_torn_file_left(alloc: Global, files: &MemoryFiles) -> Result<bool> {
     let torn = torn_file(alloc)?;
     match (files.files(LogQueue::Append).last(), torn.last()) {
@@ -93,6 +121,10 @@ fn is_torn_file_left(alloc: Global, files: &MemoryFiles) -> Result<bool> {
 
 /// Tests whether an opening in this wrong way refuses the torn file and leaves it as it is, and one in the right way opens it
 /// then.
+///
+/// # Errors
+///
+/// Those of the engine's calls and of the opening; `Memory`.
 fn is_wrong_way_refused<R: Threads + Sync>(rt: &R, alloc: Global, way: Way) -> Result<bool> {
     match files_handed_back(open_in_way(rt, alloc, way, torn_file(alloc)?, Vec::new(alloc))?)? {
         Some(files) => is_left_and_opened(rt, alloc, &files),
@@ -101,6 +133,10 @@ fn is_wrong_way_refused<R: Threads + Sync>(rt: &R, alloc: Global, way: Way) -> R
 }
 
 /// Tests whether the append file is as it was, and can be opened in the right way.
+///
+/// # Errors
+///
+/// Those of the engine's calls and of the opening; `Memory`.
 fn is_left_and_opened<R: Threads + Sync>(
     rt: &R,
     alloc: Global,
@@ -110,6 +146,10 @@ fn is_left_and_opened<R: Threads + Sync>(
 }
 
 /// Tests whether an opening refuses a damaged rewrite file, and leaves the torn append file as it is.
+///
+/// # Errors
+///
+/// Those of the engine's calls and of the opening; `Memory`.
 fn is_damaged_rewrite_file_refused<R: Threads + Sync>(rt: &R, alloc: Global) -> Result<bool> {
     match files_handed_back(open_in_way(
         rt,
@@ -129,6 +169,10 @@ fn last_file_len(files: &LogFiles) -> u64 {
 }
 
 /// Returns how many bytes the first two batches of the torn file have.
+///
+/// # Errors
+///
+/// Those of the engine's calls; `Memory`.
 fn whole_batches_len(alloc: Global) -> Result<u64> {
     let mut engine = new_engine(alloc)?;
     write_parts(alloc, &mut engine, &[Entries(1, 3)], true)?;
@@ -149,6 +193,10 @@ fn is_tail_of_file_1(tail: Option<&CutTail>, whole: u64, len: u64) -> bool {
 
 /// Tests whether an opening tells which torn tail it cuts off the append queue, and that it cuts nothing off the rewrite
 /// queue.
+///
+/// # Errors
+///
+/// Those of the engine's calls and of the opening; `Memory`.
 fn is_cut_tail_told<R: Threads + Sync>(rt: &R, alloc: Global) -> Result<bool> {
     let append = torn_file(alloc)?;
     let len = last_file_len(&append);
@@ -167,6 +215,10 @@ fn an_opening_tells_which_tail_it_cuts_off(rt: HostRuntime) {
 }
 
 /// Tests whether an opening in the mode that cuts off damage tells that it cuts off all of a file whose first byte is changed.
+///
+/// # Errors
+///
+/// Those of the engine's calls and of the opening; `Memory`.
 fn is_cut_damage_told<R: Threads + Sync>(rt: &R, alloc: Global) -> Result<bool> {
     let append = flip_bit_of_first_file(torn_file(alloc)?, 0);
     let len = last_file_len(&append);
@@ -182,6 +234,10 @@ fn an_opening_tells_that_it_cuts_off_damage(rt: HostRuntime) {
 }
 
 /// Returns the torn file with another number.
+///
+/// # Errors
+///
+/// Those of the engine's calls; `Memory`.
 fn renumbered_torn_file(alloc: Global) -> Result<LogFiles> {
     let mut append = torn_file(alloc)?;
     if let Some(last) = append.last_mut() {
@@ -190,7 +246,11 @@ fn renumbered_torn_file(alloc: Global) -> Result<LogFiles> {
     Ok(append)
 }
 
-/// Tests whether an opening refuses append files. Want of memory is passed on.
+/// Tests whether an opening refuses append files.
+///
+/// # Errors
+///
+/// `Memory` alone: any other error says that they are refused.
 fn are_append_files_refused<R: Threads + Sync>(
     rt: &R,
     alloc: Global,
@@ -203,6 +263,10 @@ fn are_append_files_refused<R: Threads + Sync>(
 /// Tests whether an opening refuses a file whose first byte is changed, so that its header names more bytes than there are,
 /// and a file that got another number: after the first byte stand sound batches, or batches that are signed for the old
 /// number.
+///
+/// # Errors
+///
+/// Those of the engine's calls and of the opening; `Memory`.
 fn is_damage_refused_as_no_tail<R: Threads + Sync>(rt: &R, alloc: Global) -> Result<bool> {
     Ok(
         are_append_files_refused(rt, alloc, flip_bit_of_first_file(torn_file(alloc)?, 0))?
@@ -217,6 +281,10 @@ fn damage_is_refused_as_no_torn_tail(rt: HostRuntime) {
 }
 
 /// Tests whether an opening without workers, one in another version, and one of a damaged rewrite file are refused.
+///
+/// # Errors
+///
+/// Those of the engine's calls and of the opening; `Memory`.
 fn are_all_wrong_ways_refused<R: Threads + Sync>(rt: &R, alloc: Global) -> Result<bool> {
     Ok(
         is_wrong_way_refused(rt, alloc, WITHOUT_WORKERS)?

@@ -32,6 +32,10 @@ struct File {
 }
 
 /// Returns the bytes of an append file of many batches, and the offset of each.
+///
+/// # Errors
+///
+/// Those of making and signing the batches; `Memory`.
 fn write_file_of_pages(alloc: Global) -> Result<File> {
     let id = FileId::new(LogQueue::Append, 1);
     let mut bytes = Vec::new(alloc);
@@ -46,6 +50,10 @@ fn write_file_of_pages(alloc: Global) -> Result<File> {
 }
 
 /// Returns the file with a page of zeros from position `at` on.
+///
+/// # Errors
+///
+/// `Memory` alone.
 fn zero_page(alloc: Global, file: &File, at: usize) -> Result<LogFiles> {
     let mut bytes = Vec::from_slice(alloc, file.bytes.as_slice())?;
     for byte in bytes.iter_mut().skip(at).take(PAGE) {
@@ -61,6 +69,10 @@ fn is_batch_named(damaged: &[DamagedBatch], offset: u64) -> bool {
 
 /// Tests whether each entry of the opened engine can be read or has its batch named, and not both. The batches begin at
 /// `offsets`, and the engine has the entries of the first ones.
+///
+/// # Errors
+///
+/// That of reading an entry, unless it is `Corruption`; `Memory`.
 fn are_entries_read_or_named(opened: &mut Opened<MemoryFiles>, offsets: &[u64]) -> Result<bool> {
     let last = opened.engine.last_index(REGION).unwrap_or(0);
     let mut are_so = last <= BATCHES;
@@ -89,6 +101,10 @@ struct Counts {
 }
 
 /// Counts an opening. Returns whether it was refused as damage, or gives each entry or names its batch.
+///
+/// # Errors
+///
+/// That of the opening or of reading an entry, unless it is `Corruption`; `Memory`.
 fn count_opening(opened: OpenedInMode, file: &File, counts: &mut Counts) -> Result<bool> {
     match opened {
         Ok(mut opened) => {
@@ -105,7 +121,11 @@ fn count_opening(opened: OpenedInMode, file: &File, counts: &mut Counts) -> Resu
 
 /// Opens the file with a page of zeros at `place`, and counts the opening. Tests whether it was refused, or each
 /// entry can be read or has its batch named.
-fn is_zeroed_place_fine<R: Threads + Sync>(
+///
+/// # Errors
+///
+/// Those of [`count_opening`]; `Memory`.
+fn is_zeroed_page_refused_read_or_named<R: Threads + Sync>(
     rt: &R,
     alloc: Global,
     file: &File,
@@ -119,7 +139,14 @@ fn is_zeroed_place_fine<R: Threads + Sync>(
 }
 
 /// Tests whether a page of zeros at each place is refused, read or named, and all three happen often enough.
-fn are_all_zeroed_places_fine<R: Threads + Sync>(rt: &R, alloc: Global) -> Result<bool> {
+///
+/// # Errors
+///
+/// Those of [`write_file_of_pages`] and [`is_zeroed_page_refused_read_or_named`].
+fn are_all_zeroed_pages_refused_read_or_named<R: Threads + Sync>(
+    rt: &R,
+    alloc: Global,
+) -> Result<bool> {
     let file = write_file_of_pages(alloc)?;
     let mut counts = Counts {
         opened: 0,
@@ -127,7 +154,7 @@ fn are_all_zeroed_places_fine<R: Threads + Sync>(rt: &R, alloc: Global) -> Resul
         refused: 0,
     };
     for place in 0..PLACES {
-        if !is_zeroed_place_fine(rt, alloc, &file, place, &mut counts)? {
+        if !is_zeroed_page_refused_read_or_named(rt, alloc, &file, place, &mut counts)? {
             return Ok(false);
         }
     }
@@ -141,5 +168,5 @@ fn are_all_zeroed_places_fine<R: Threads + Sync>(rt: &R, alloc: Global) -> Resul
 /// Tests that an opening never loses an entry silently if a page of the last file has zeros.
 #[test]
 fn what_a_page_of_zeros_leaves_is_read_or_named(rt: HostRuntime) {
-    assert!(rt; holds!(are_all_zeroed_places_fine(&rt, rt.alloc())));
+    assert!(rt; holds!(are_all_zeroed_pages_refused_read_or_named(&rt, rt.alloc())));
 }

@@ -63,6 +63,10 @@ static PURGES: [Purge; 7] = [
 ];
 
 /// Makes an engine that wrote each batch of a row, and began a new file after each.
+///
+/// # Errors
+///
+/// Those of the engine's calls; `Memory`.
 fn engine_with_batches(alloc: Global, row: &Purge) -> Result<Engine<MemoryFiles>> {
     let mut engine = new_engine(alloc)?;
     write_batches_and_rotate(alloc, &mut engine, row.batches)?;
@@ -70,6 +74,10 @@ fn engine_with_batches(alloc: Global, row: &Purge) -> Result<Engine<MemoryFiles>
 }
 
 /// Writes each of `batches`, and begins a new append file after each.
+///
+/// # Errors
+///
+/// Those of the engine's calls; `Memory`.
 fn write_batches_and_rotate(
     alloc: Global,
     engine: &mut Engine<MemoryFiles>,
@@ -83,6 +91,10 @@ fn write_batches_and_rotate(
 }
 
 /// Tests whether a recovery of these files gives `left`.
+///
+/// # Errors
+///
+/// Those of the recovery; `Memory`.
 fn is_text_recovered<R: Threads + Sync>(
     rt: &R,
     alloc: Global,
@@ -96,12 +108,20 @@ fn is_text_recovered<R: Threads + Sync>(
 
 /// Tests whether a purge deletes as many files as the row says, a second purge deletes none, and the engine and its files
 /// still have what is left.
+///
+/// # Errors
+///
+/// Those of the engine's calls and of the recovery; `Memory`.
 fn is_row_purged<R: Threads + Sync>(rt: &R, alloc: Global, row: &Purge) -> Result<bool> {
     let mut engine = engine_with_batches(alloc, row)?;
     is_row_purged_in(rt, alloc, &mut engine, row)
 }
 
 /// Tests whether two purges of `engine` delete what `row` says and nothing more, and what is left can be recovered.
+///
+/// # Errors
+///
+/// Those of the engine's calls and of the recovery; `Memory`.
 fn is_row_purged_in<R: Threads + Sync>(
     rt: &R,
     alloc: Global,

@@ -15,7 +15,7 @@ use raft_records::{Command, Error, LogBatch, Result};
 use std::alloc::Global;
 use std::thread::Threads;
 
-/// Tests whether `get_entry` returns this text for the entry `index` of region 7.
+/// Tests whether `get_entry` returns this text for the entry `index` of region 7. Errors: those of [`get_entry`].
 fn is_entry_read(engine: &mut Engine<MemoryFiles>, index: u64, text: &str) -> Result<bool> {
     match get_entry(engine, 7, index)? {
         Some(bytes) => Ok(bytes.as_slice() == text.as_bytes()),
@@ -23,12 +23,13 @@ fn is_entry_read(engine: &mut Engine<MemoryFiles>, index: u64, text: &str) -> Re
     }
 }
 
-/// Tests whether `region` has no entry `index`.
+/// Tests whether `region` has no entry `index`. Errors: those of [`get_entry`].
 fn has_no_entry(engine: &mut Engine<MemoryFiles>, region: u64, index: u64) -> Result<bool> {
     Ok(get_entry(engine, region, index)?.is_none())
 }
 
-/// Tests whether each of [`TEXTS`] is returned when it is read alone, and `None` where there is no entry.
+/// Tests whether each of [`TEXTS`] is returned when it is read alone, and `None` where there is no entry. Errors: those of
+/// [`get_entry`].
 fn are_texts_read_alone(engine: &mut Engine<MemoryFiles>) -> Result<bool> {
     for (index, text) in (1u64..).zip(&TEXTS) {
         if !is_entry_read(engine, index, text)? {
@@ -38,7 +39,7 @@ fn are_texts_read_alone(engine: &mut Engine<MemoryFiles>) -> Result<bool> {
     Ok(has_no_entry(engine, 7, 0)? && has_no_entry(engine, 7, 6)? && has_no_entry(engine, 8, 1)?)
 }
 
-/// Tests whether one fetch appends all of [`TEXTS`] to what was there before.
+/// Tests whether one fetch appends all of [`TEXTS`] to what was there before. Errors: those of [`fetch_entries`]; `Memory`.
 fn are_texts_read_together(alloc: Global, engine: &mut Engine<MemoryFiles>) -> Result<bool> {
     let mut entries = vec![in alloc; Vec::from_slice(alloc, b"zero")?]?;
     let count = fetch_entries(engine, 7, (1, 6), None, &mut entries)?;
@@ -61,19 +62,21 @@ fn are_zero_and_texts(entries: &[Vec<u8>]) -> bool {
     true
 }
 
-/// Tests whether each of [`TEXTS`] is read alone, and all together.
+/// Tests whether each of [`TEXTS`] is read alone, and all together. Errors: those of [`get_entry`] and [`fetch_entries`];
+/// `Memory`.
 fn are_texts_read(alloc: Global, engine: &mut Engine<MemoryFiles>) -> Result<bool> {
     Ok(are_texts_read_alone(engine)? && are_texts_read_together(alloc, engine)?)
 }
 
 /// Tests whether all texts come back once they were written, once they have moved to the rewrite queue, and once the files
-/// were opened again.
+/// were opened again. Errors: those of the engine's calls; `Memory`.
 fn are_texts_read_in_all_states<R: Threads + Sync>(rt: &R, alloc: Global) -> Result<bool> {
     let mut engine = engine_with_texts(alloc)?;
     are_moved_texts_read(rt, alloc, &mut engine)
 }
 
-/// Tests whether all texts are read before and after they move, and by an engine that is opened again.
+/// Tests whether all texts are read before and after they move, and by an engine that is opened again. Errors: those of the
+/// engine's calls; `Memory`.
 fn are_moved_texts_read<R: Threads + Sync>(
     rt: &R,
     alloc: Global,
@@ -89,7 +92,7 @@ fn are_moved_texts_read<R: Threads + Sync>(
     are_reopened_texts_read(rt, alloc, engine)
 }
 
-/// Tests whether an engine that is opened over copies of the files reads all texts.
+/// Tests whether an engine that is opened over copies of the files reads all texts. Errors: the engine's, `Memory`.
 fn are_reopened_texts_read<R: Threads + Sync>(
     rt: &R,
     alloc: Global,
@@ -105,7 +108,8 @@ fn entries_are_read_as_they_were_written(rt: HostRuntime) {
     assert!(rt; holds!(are_texts_read_in_all_states(&rt, rt.alloc())));
 }
 
-/// Returns how many entries of region 7 a fetch of this range and size returns.
+/// Returns how many entries of region 7 a fetch of this range and size returns. Errors: those of [`fetch_entries`]; `Failed` if
+/// it returns another number than it appends.
 fn count_fetched(
     alloc: Global,
     engine: &mut Engine<MemoryFiles>,
@@ -121,7 +125,8 @@ fn count_fetched(
     Ok(count)
 }
 
-/// Tests how many of the entries, which have 3, 3, 5, 0 and 4 bytes, a fetch returns with several maximal sizes.
+/// Tests how many of the entries, which have 3, 3, 5, 0 and 4 bytes, a fetch returns with several maximal sizes. Errors: those
+/// of [`count_fetched`].
 fn are_fetches_limited_in(alloc: Global, engine: &mut Engine<MemoryFiles>) -> Result<bool> {
     Ok(
         count_fetched(alloc, engine, 1, 6, Some(0))? == 1
@@ -132,7 +137,7 @@ fn are_fetches_limited_in(alloc: Global, engine: &mut Engine<MemoryFiles>) -> Re
     )
 }
 
-/// Tests [`are_fetches_limited_in`] with an engine that wrote all texts.
+/// Tests whether an engine with all texts fetches what fits into a maximal size, and at least one. Errors: the engine's, `Memory`.
 fn are_fetches_limited(alloc: Global) -> Result<bool> {
     let mut engine = engine_with_texts(alloc)?;
     are_fetches_limited_in(alloc, &mut engine)
@@ -144,7 +149,7 @@ fn fetches_end_at_a_maximal_size(rt: HostRuntime) {
     assert!(rt; holds!(are_fetches_limited(rt.alloc())));
 }
 
-/// Writes a compaction of region 7 to index 3.
+/// Writes a compaction of region 7 to index 3. Errors: those of the engine's calls; `Memory`.
 fn compact_region_7(alloc: Global, engine: &mut Engine<MemoryFiles>) -> Result<()> {
     let mut batch = LogBatch::default(alloc);
     batch.add_command(7, Command::Compact { index: 3 })?;
@@ -162,7 +167,7 @@ fn is_refused_as_not_found(answer: Result<usize>) -> bool {
 }
 
 /// Tests which fetches are refused if region 7 has the entries [3,6): nothing is appended then, and the engine stays intact.
-/// An empty range gives no entries, nor does a region without a table.
+/// An empty range gives no entries, nor does a region without a table. Errors: those of the engine's calls; `Memory`.
 fn are_ranges_refused_in(
     engine: &mut Engine<MemoryFiles>,
     entries: &mut Vec<Vec<u8>>,
@@ -182,7 +187,7 @@ fn are_ranges_refused_in(
     )
 }
 
-/// Compacts region 7, and tests which fetches are refused then.
+/// Compacts region 7, and tests which fetches are refused then. Errors: those of the engine's calls; `Memory`.
 fn are_ranges_refused_once_compacted(
     alloc: Global,
     engine: &mut Engine<MemoryFiles>,
@@ -192,7 +197,7 @@ fn are_ranges_refused_once_compacted(
     are_ranges_refused_in(engine, &mut entries)
 }
 
-/// Tests [`are_ranges_refused_once_compacted`] with an engine that wrote all texts.
+/// Tests which fetches an engine that wrote all texts refuses once region 7 is compacted. Errors: the engine's, `Memory`.
 fn are_ranges_refused(alloc: Global) -> Result<bool> {
     let mut engine = engine_with_texts(alloc)?;
     are_ranges_refused_once_compacted(alloc, &mut engine)
@@ -205,13 +210,13 @@ fn ranges_without_entries_are_refused(rt: HostRuntime) {
 }
 
 /// Opens an engine over the files of [`engine_with_texts`], with the first byte of the first entry changed: it stands after the 16
-/// bytes of the batch's header.
+/// bytes of the batch's header. Errors: those of the engine's calls; `Memory`.
 fn open_damaged_texts<R: Threads + Sync>(rt: &R, alloc: Global) -> Result<Engine<MemoryFiles>> {
     let engine = engine_with_texts(alloc)?;
     open_with_changed_byte(rt, alloc, &engine)
 }
 
-/// Opens an engine over copies of the files, with the byte 16 of the first one changed.
+/// Opens an engine over copies of the files, with the byte 16 of the first one changed. Errors: those of the opening; `Memory`.
 fn open_with_changed_byte<R: Threads + Sync>(
     rt: &R,
     alloc: Global,
@@ -221,14 +226,16 @@ fn open_with_changed_byte<R: Threads + Sync>(
     open_copies(rt, alloc, append, copy_files(engine, LogQueue::Rewrite)?)
 }
 
-/// Tests whether a fetch of all entries is refused as damage, and appends none.
+/// Tests whether a fetch of all entries is refused as damage, and appends none. Errors: that of the fetch, unless it is
+/// `Corruption`; `Memory`.
 fn is_fetch_of_all_refused(alloc: Global, engine: &mut Engine<MemoryFiles>) -> Result<bool> {
     let mut entries = Vec::new(alloc);
     let refused = is_corruption(fetch_entries(engine, 7, (1, 6), None, &mut entries))?;
     Ok(refused && entries.is_empty())
 }
 
-/// Tests whether `engine` refuses the damaged entry, alone and in a fetch, and returns the others.
+/// Tests whether `engine` refuses the damaged entry, alone and in a fetch, and returns the others. Errors: those of reads that
+/// are refused for another reason than damage; `Memory`.
 fn is_damage_found_in(alloc: Global, engine: &mut Engine<MemoryFiles>) -> Result<bool> {
     let alone = is_corruption(get_entry(engine, 7, 1))?;
     Ok(
@@ -239,7 +246,8 @@ fn is_damage_found_in(alloc: Global, engine: &mut Engine<MemoryFiles>) -> Result
     )
 }
 
-/// Tests whether a damaged entry isn't returned, and the engine stays intact and returns the others.
+/// Tests whether a damaged entry isn't returned, and the engine stays intact and returns the others. Errors: those of the
+/// engine's calls; `Memory`.
 fn is_damage_found<R: Threads + Sync>(rt: &R, alloc: Global) -> Result<bool> {
     let mut engine = open_damaged_texts(rt, alloc)?;
     is_damage_found_in(alloc, &mut engine)
@@ -252,14 +260,14 @@ fn damaged_entries_are_not_read(rt: HostRuntime) {
 }
 
 /// Tests whether an engine goes on after the read of a damaged entry was refused: it writes, syncs and begins a file, and a
-/// restart finds what isn't damaged.
+/// restart finds what isn't damaged. Errors: those of the engine's calls; `Memory`.
 fn does_engine_go_on_after_damage<R: Threads + Sync>(rt: &R, alloc: Global) -> Result<bool> {
     let mut engine = open_damaged_texts(rt, alloc)?;
     does_damaged_engine_go_on(rt, alloc, &mut engine)
 }
 
 /// Reads the damaged entry, writes one more, and begins a file. Tests whether a restart finds the five that are
-/// whole.
+/// whole. Errors: those of the engine's calls; `Memory`.
 fn does_damaged_engine_go_on<R: Threads + Sync>(
     rt: &R,
     alloc: Global,
@@ -273,7 +281,8 @@ fn does_damaged_engine_go_on<R: Threads + Sync>(
     Ok(count_fetched_reopened(rt, alloc, engine)? == 5)
 }
 
-/// Returns how many of the entries from index 2 on an engine returns that is opened over copies of the files.
+/// Returns how many of the entries from index 2 on an engine returns that is opened over copies of the files. Errors: those
+/// of the engine's calls; `Memory`.
 fn count_fetched_reopened<R: Threads + Sync>(
     rt: &R,
     alloc: Global,
@@ -358,7 +367,7 @@ impl EngineFiles for CountedFiles {
     }
 }
 
-/// Makes a new engine over files that count their reads.
+/// Makes a new engine over files that count their reads. Errors: those of [`Engine::new`].
 pub fn new_engine_counting_reads(alloc: Global) -> Result<Engine<CountedFiles>> {
     let files = CountedFiles {
         files: MemoryFiles::new(alloc),
@@ -367,7 +376,8 @@ pub fn new_engine_counting_reads(alloc: Global) -> Result<Engine<CountedFiles>> 
     Engine::new(alloc, Version::V2, files)
 }
 
-/// Tests how many reads are made for entries of both batches, for one entry, and for one that isn't there.
+/// Tests how many reads are made for entries of both batches, for one entry, and for one that isn't there. Errors: those of
+/// the engine's calls; `Memory`.
 fn are_reads_counted(
     engine: &mut Engine<CountedFiles>,
     entries: &mut Vec<Vec<u8>>,
@@ -381,7 +391,8 @@ fn are_reads_counted(
     Ok(count == 5 && together == 2 && found && alone == 3 && none && all == 3)
 }
 
-/// Writes four entries in one batch and two in the next. Tests whether the engine reads each block once.
+/// Writes four entries in one batch and two in the next. Tests whether the engine reads each block once. Errors: those of the
+/// engine's calls; `Memory`.
 fn are_written_and_counted(alloc: Global, engine: &mut Engine<CountedFiles>) -> Result<bool> {
     write_parts(alloc, engine, &[Part::Entries(1, 5)], false)?;
     write_parts(alloc, engine, &[Part::Entries(5, 7)], false)?;
@@ -389,7 +400,7 @@ fn are_written_and_counted(alloc: Global, engine: &mut Engine<CountedFiles>) -> 
     are_reads_counted(engine, &mut entries)
 }
 
-/// Tests [`are_written_and_counted`] with a new engine.
+/// Tests whether a new engine reads each block of two batches once. Errors: those of the engine's calls; `Memory`.
 fn are_blocks_read_once(alloc: Global) -> Result<bool> {
     let mut engine = new_engine_counting_reads(alloc)?;
     are_written_and_counted(alloc, &mut engine)
@@ -413,7 +424,7 @@ fn put_key(alloc: Global, batch: &mut LogBatch, key: &[u8]) -> Result<()> {
     batch.put(REGION, Vec::from_slice(alloc, key)?, Vec::new(alloc))
 }
 
-/// Returns a batch that puts the keys `3`, `1` and `2`.
+/// Returns a batch that puts the keys `3`, `1` and `2`. Errors: those of [`put_keys`].
 fn batch_of_keys(alloc: Global) -> Result<LogBatch> {
     let mut batch = LogBatch::default(alloc);
     put_keys(alloc, &mut batch)?;
@@ -431,19 +442,19 @@ fn put_keys(alloc: Global, batch: &mut LogBatch) -> Result<()> {
     put_key(alloc, batch, b"2")
 }
 
-/// Returns an engine with the keys `1`, `2` and `3`.
+/// Returns an engine with the keys `1`, `2` and `3`. Errors: those of the engine's calls; `Memory`.
 fn engine_with_keys(alloc: Global) -> Result<Engine<MemoryFiles>> {
     let mut engine = new_engine(alloc)?;
     write_keys(alloc, &mut engine)?;
     Ok(engine)
 }
 
-/// Writes the batch of [`batch_of_keys`].
+/// Writes the batch of [`batch_of_keys`]. Errors: those of the engine's calls; `Memory`.
 fn write_keys(alloc: Global, engine: &mut Engine<MemoryFiles>) -> Result<()> {
     write_batch(engine, batch_of_keys(alloc)?, false)
 }
 
-/// Returns the keys of a region that a scan visits, in order, as the digits of a number.
+/// Returns the keys of a region that a scan visits, in order, as the digits of a number. Errors: those of [`Engine::scan`].
 fn scan_keys_as_digits(
     engine: &Engine<MemoryFiles>,
     region: u64,
@@ -459,7 +470,8 @@ fn scan_keys_as_digits(
     Ok(seen)
 }
 
-/// Tests whether scans visit the keys of `engine` in both orders and from a key on, and none of another region.
+/// Tests whether scans visit the keys of `engine` in both orders and from a key on, and none of another region. Errors: those
+/// of [`Engine::scan`].
 fn are_keys_scanned_in(engine: &Engine<MemoryFiles>) -> Result<bool> {
     Ok(
         scan_keys_as_digits(engine, REGION, None, false)? == 123
@@ -469,7 +481,7 @@ fn are_keys_scanned_in(engine: &Engine<MemoryFiles>) -> Result<bool> {
     )
 }
 
-/// Tests [`are_keys_scanned_in`] with an engine that wrote three keys.
+/// Tests whether scans visit the three keys that an engine wrote, in both orders. Errors: the engine's, `Memory`.
 fn are_keys_scanned(alloc: Global) -> Result<bool> {
     let engine = engine_with_keys(alloc)?;
     are_keys_scanned_in(&engine)

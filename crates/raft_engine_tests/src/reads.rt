@@ -9,12 +9,20 @@ use raft_engine::Engine;
 use std::alloc::Global;
 
 /// Writes these batches to one append file, and moves them to the rewrite queue. Returns how many reads that makes.
+///
+/// # Errors
+///
+/// Those of the engine's calls; `Memory`.
 fn count_reads_of_move(alloc: Global, batches: &[&[Part]]) -> Result<usize> {
     let mut engine = new_engine_counting_reads(alloc)?;
     count_reads_in(alloc, &mut engine, batches)
 }
 
 /// Writes `batches`, and moves them to the rewrite queue. Returns how many reads that made.
+///
+/// # Errors
+///
+/// Those of the engine's calls; `Memory`.
 fn count_reads_in(
     alloc: Global,
     engine: &mut Engine<CountedFiles>,
@@ -28,6 +36,10 @@ fn count_reads_in(
 }
 
 /// Tests whether a move reads one block for one batch, and three for three.
+///
+/// # Errors
+///
+/// Those of the engine's calls; `Memory`.
 fn are_reads_few(alloc: Global) -> Result<bool> {
     Ok(
         count_reads_of_move(alloc, &[&[Entries(1, 9)]])? == 1

@@ -16,7 +16,7 @@ use raft_records::Result;
 use std::alloc::Global;
 use std::thread::Threads;
 
-/// Tests whether the tables of the engine hold `text`.
+/// Tests whether the tables of the engine hold `text`. Errors: `Memory` alone.
 pub fn has_text(alloc: Global, engine: &Engine<MemoryFiles>, text: &str) -> Result<bool> {
     Ok(table_text(alloc, engine.accessor().get(REGION))?.as_str() == text)
 }
@@ -85,14 +85,14 @@ static CHANGES: [Change; 10] = [
 ];
 
 /// Opens an engine over files of both queues, in which [1,10) and `k=v` have moved to a rewrite file and their append file is
-/// deleted.
+/// deleted. Errors: those of the store's steps and of the opening; `Memory`.
 fn open_moved_files<R: Threads + Sync>(rt: &R, alloc: Global) -> Result<Engine<MemoryFiles>> {
     let mut store = Histories::new(alloc)?;
     open_moved_files_of(rt, alloc, &mut store)
 }
 
 /// Has `store` write [1,10) and `k=v`, move them, and delete their append file. Opens an engine over copies of its
-/// files.
+/// files. Errors: those of the store's steps and of the opening; `Memory`.
 fn open_moved_files_of<R: Threads + Sync>(
     rt: &R,
     alloc: Global,
@@ -105,19 +105,22 @@ fn open_moved_files_of<R: Threads + Sync>(
     open_copies(rt, alloc, append, store.copy_files(LogQueue::Rewrite)?)
 }
 
-/// Makes an engine that wrote [1,10) and `k=v`, moved them to the rewrite queue, and deleted their append file.
+/// Makes an engine that wrote [1,10) and `k=v`, moved them to the rewrite queue, and deleted their append file. Errors:
+/// those of the engine's calls; `Memory`.
 pub fn engine_with_moved_records(alloc: Global) -> Result<Engine<MemoryFiles>> {
     engine_with_moved_parts(alloc, &[Entries(1, 10), Put("v")])
 }
 
-/// Makes an engine that wrote a batch of `parts`, moved its records to the rewrite queue, and deleted their append file.
+/// Makes an engine that wrote a batch of `parts`, moved its records to the rewrite queue, and deleted their append
+/// file. Errors: those of the engine's calls; `Memory`.
 pub fn engine_with_moved_parts(alloc: Global, parts: &[Part]) -> Result<Engine<MemoryFiles>> {
     let mut engine = new_engine(alloc)?;
     write_move_and_purge(alloc, &mut engine, parts)?;
     Ok(engine)
 }
 
-/// Writes a batch of `parts`, moves it to the rewrite queue, and deletes its append file.
+/// Writes a batch of `parts`, moves it to the rewrite queue, and deletes its append file. Errors: those of the engine's
+/// calls; `Memory`.
 fn write_move_and_purge(
     alloc: Global,
     engine: &mut Engine<MemoryFiles>,
@@ -130,7 +133,8 @@ fn write_move_and_purge(
     Ok(())
 }
 
-/// Writes the batches of a change to the last append file, and begins the next one.
+/// Writes the batches of a change to the last append file, and begins the next one. Errors: those of the engine's
+/// calls; `Memory`.
 fn write_change(alloc: Global, engine: &mut Engine<MemoryFiles>, change: &Change) -> Result<()> {
     for parts in change.batches {
         write_parts(alloc, engine, parts, false)?;
@@ -143,7 +147,8 @@ fn has_append_files(engine: &Engine<MemoryFiles>, count: usize) -> bool {
     count_files(engine, LogQueue::Append) == count
 }
 
-/// Tests whether an engine that is opened over copies of the files holds `text`.
+/// Tests whether an engine that is opened over copies of the files holds `text`. Errors: those of the opening;
+/// `Memory`.
 pub fn is_found_reopened<R: Threads + Sync>(
     rt: &R,
     alloc: Global,
@@ -154,14 +159,14 @@ pub fn is_found_reopened<R: Threads + Sync>(
     has_text(alloc, &found, text)
 }
 
-/// Tests whether a purge leaves `files` of two append files.
+/// Tests whether a purge leaves `files` of two append files. Errors: those of the engine's calls; `Memory`.
 fn does_purge_leave(engine: &mut Engine<MemoryFiles>, files: usize) -> Result<bool> {
     let deleted = purge_append_files(engine)?;
     Ok(deleted.saturating_add(files) == 2 && has_append_files(engine, files))
 }
 
 /// Makes a change. Tests whether what it takes away stays away, and what it leaves stays: in restarts before and after a
-/// purge, and in the engine.
+/// purge, and in the engine. Errors: those of the engine's calls and of the opening; `Memory`.
 fn does_change_stay<R: Threads + Sync>(
     rt: &R,
     alloc: Global,
@@ -180,7 +185,8 @@ fn does_change_stay<R: Threads + Sync>(
     Ok(has_text(alloc, engine, change.left)? && is_found_reopened(rt, alloc, engine, change.left)?)
 }
 
-/// Tests whether `change` stays, made in an engine that found its records in files.
+/// Tests whether `change` stays, made in an engine that found its records in files. Errors: those of the engine's calls
+/// and of the opening; `Memory`.
 fn does_change_of_found_stay<R: Threads + Sync>(
     rt: &R,
     alloc: Global,
@@ -190,7 +196,8 @@ fn does_change_of_found_stay<R: Threads + Sync>(
     does_change_stay(rt, alloc, &mut engine, change)
 }
 
-/// Tests whether `change` stays, made in an engine that moved its records.
+/// Tests whether `change` stays, made in an engine that moved its records. Errors: those of the engine's calls and of
+/// the opening; `Memory`.
 fn does_change_of_moved_stay<R: Threads + Sync>(
     rt: &R,
     alloc: Global,
@@ -201,6 +208,7 @@ fn does_change_of_moved_stay<R: Threads + Sync>(
 }
 
 /// Tests whether what a change leaves stays, in an engine that found its records in files, and in one that moved them.
+/// Errors: those of the engine's calls and of the opening; `Memory`.
 fn does_change_stay_in_both<R: Threads + Sync>(
     rt: &R,
     alloc: Global,
@@ -240,14 +248,16 @@ struct Prefixes {
     ends: Vec<usize>,
 }
 
-/// Returns an engine that wrote the batches of [`WRITES`], and where each of them ends in its file.
+/// Returns an engine that wrote the batches of [`WRITES`], and where each of them ends in its file. Errors: those of
+/// the engine's calls; `Memory`.
 fn write_prefixes(alloc: Global) -> Result<Prefixes> {
     let mut engine = new_engine(alloc)?;
     let ends = write_each_and_measure(alloc, &mut engine)?;
     Ok(Prefixes { engine, ends })
 }
 
-/// Writes the batches of [`WRITES`]. Returns the length of the file in bytes after each.
+/// Writes the batches of [`WRITES`]. Returns the length of the file in bytes after each. Errors: those of the engine's
+/// calls; `Memory`.
 fn write_each_and_measure(alloc: Global, engine: &mut Engine<MemoryFiles>) -> Result<Vec<usize>> {
     let mut ends = Vec::new(alloc);
     for parts in &WRITES {
@@ -276,7 +286,7 @@ fn count_whole_batches(fronts: &Prefixes, len: usize) -> usize {
     count
 }
 
-/// Returns what the first `count` batches leave.
+/// Returns the text of what the first `count` batches of [`WRITES`] leave.
 fn text_left_by(count: usize) -> &'static str {
     match count {
         0 => "",
@@ -287,7 +297,8 @@ fn text_left_by(count: usize) -> &'static str {
     }
 }
 
-/// Opens an engine over copies of the files, of which the append file is cut to `len` bytes.
+/// Opens an engine over copies of the files, of which the append file is cut to `len` bytes. Errors: those of the
+/// opening; `Memory`.
 fn open_prefix<R: Threads + Sync>(
     rt: &R,
     alloc: Global,
@@ -303,7 +314,7 @@ fn open_prefix<R: Threads + Sync>(
     )
 }
 
-/// Returns copies of the append files, of which the last one is cut to `len` bytes.
+/// Returns copies of the append files, of which the last one is cut to `len` bytes. Errors: `Memory` alone.
 fn copy_prefix(engine: &Engine<MemoryFiles>, len: usize) -> Result<LogFiles> {
     let mut append = copy_files(engine, LogQueue::Append)?;
     if let Some(last) = append.last_mut() {
@@ -313,7 +324,7 @@ fn copy_prefix(engine: &Engine<MemoryFiles>, len: usize) -> Result<LogFiles> {
 }
 
 /// Replaces all that an engine holds by `k=x`, moves that to the rewrite queue, and purges the append files. Returns how many
-/// files were deleted.
+/// files were deleted. Errors: those of the engine's calls; `Memory`.
 fn replace_all_and_purge(alloc: Global, engine: &mut Engine<MemoryFiles>) -> Result<usize> {
     write_parts(alloc, engine, &[Clean, Put("x")], true)?;
     rotate(engine)?;
@@ -322,7 +333,7 @@ fn replace_all_and_purge(alloc: Global, engine: &mut Engine<MemoryFiles>) -> Res
 }
 
 /// Tests whether an engine that is opened over the first `len` bytes of the file holds what the whole batches leave, and goes
-/// on.
+/// on. Errors: those of the engine's calls and of the opening; `Memory`.
 fn is_prefix_found<R: Threads + Sync>(
     rt: &R,
     alloc: Global,
@@ -339,6 +350,7 @@ fn is_prefix_found<R: Threads + Sync>(
 }
 
 /// Tests whether `engine` holds `left`, replaces it, deletes one append file, and a restart finds what it wrote.
+/// Errors: those of the engine's calls and of the opening; `Memory`.
 fn does_engine_go_on<R: Threads + Sync>(
     rt: &R,
     alloc: Global,
@@ -351,7 +363,8 @@ fn does_engine_go_on<R: Threads + Sync>(
     is_found_reopened(rt, alloc, engine, "k=x")
 }
 
-/// Tests at each length of the file whether an engine over it holds what the whole batches leave.
+/// Tests at each length of the file whether an engine over it holds what the whole batches leave. Errors: those of the
+/// engine's calls and of the opening; `Memory`.
 fn are_all_prefixes_found<R: Threads + Sync>(
     rt: &R,
     alloc: Global,
@@ -365,7 +378,8 @@ fn are_all_prefixes_found<R: Threads + Sync>(
     Ok(true)
 }
 
-/// Tests [`are_all_prefixes_found`] with a file of the batches of [`WRITES`].
+/// Tests at each length of a file of the batches of [`WRITES`] whether an engine over it holds what its whole batches
+/// leave. Errors: those of the engine's calls and of the opening; `Memory`.
 fn are_prefixes_of_file_found<R: Threads + Sync>(rt: &R, alloc: Global) -> Result<bool> {
     let fronts = write_prefixes(alloc)?;
     are_all_prefixes_found(rt, alloc, &fronts)
@@ -377,13 +391,15 @@ fn each_prefix_of_a_file_is_found(rt: HostRuntime) {
     assert!(rt; holds!(are_prefixes_of_file_found(&rt, rt.alloc())));
 }
 
-/// Tests whether an opening refuses a file whose first batch is damaged.
+/// Tests whether an opening refuses a file whose first batch is damaged. Errors: that of the opening, unless it is
+/// `Corruption`; `Memory`.
 fn is_damage_refused<R: Threads + Sync>(rt: &R, alloc: Global, fronts: &Prefixes) -> Result<bool> {
     let append = flip_bit_of_first_file(copy_files(&fronts.engine, LogQueue::Append)?, 24);
     is_corruption(open_copies(rt, alloc, append, Vec::new(alloc)))
 }
 
-/// Tests whether an opening refuses files with the same number twice.
+/// Tests whether an opening refuses files with the same number twice. Errors: that of the opening, unless it is
+/// `Corruption`; `Memory`.
 fn are_equal_numbers_refused<R: Threads + Sync>(
     rt: &R,
     alloc: Global,
@@ -394,13 +410,15 @@ fn are_equal_numbers_refused<R: Threads + Sync>(
     is_corruption(open_copies(rt, alloc, append, Vec::new(alloc)))
 }
 
-/// Tests whether a damaged first batch and equal file numbers are refused.
+/// Tests whether a damaged first batch and equal file numbers are refused. Errors: that of an opening, unless it is
+/// `Corruption`; `Memory`.
 fn are_both_refused<R: Threads + Sync>(rt: &R, alloc: Global, fronts: &Prefixes) -> Result<bool> {
     Ok(is_damage_refused(rt, alloc, fronts)? && are_equal_numbers_refused(rt, alloc, fronts)?)
 }
 
-/// Tests [`are_both_refused`] with a file of the batches of [`WRITES`].
-fn is_what_no_crash_leaves_refused<R: Threads + Sync>(rt: &R, alloc: Global) -> Result<bool> {
+/// Tests whether openings refuse a file of [`WRITES`] whose first batch is damaged, and two files of one number. Errors:
+/// that of an opening, unless it is `Corruption`; those of writing the file; `Memory`.
+fn is_damage_or_equal_number_refused<R: Threads + Sync>(rt: &R, alloc: Global) -> Result<bool> {
     let fronts = write_prefixes(alloc)?;
     are_both_refused(rt, alloc, &fronts)
 }
@@ -408,5 +426,5 @@ fn is_what_no_crash_leaves_refused<R: Threads + Sync>(rt: &R, alloc: Global) -> 
 /// Tests that an opening refuses files that no crash leaves.
 #[test]
 fn what_no_crash_leaves_is_refused(rt: HostRuntime) {
-    assert!(rt; holds!(is_what_no_crash_leaves_refused(&rt, rt.alloc())));
+    assert!(rt; holds!(is_damage_or_equal_number_refused(&rt, rt.alloc())));
 }

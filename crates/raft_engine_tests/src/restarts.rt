@@ -15,21 +15,29 @@ use std::alloc::Global;
 use std::thread::Threads;
 
 /// Cites the law that says what an opening of the files of `engine` gives.
-fn state_that_what_is_left_is_opened(engine: &Engine<MemoryFiles>) {
+fn cite_law_of_opening(engine: &Engine<MemoryFiles>) {
     engine.what_is_left_is_opened();
 }
 
 /// Opens an engine over copies of the files of another one, and cites the law that says what is found then.
-fn reopen_and_state<R: Threads + Sync>(
+///
+/// # Errors
+///
+/// Those of the opening; `Memory`.
+fn reopen_and_cite_law<R: Threads + Sync>(
     rt: &R,
     alloc: Global,
     engine: &Engine<MemoryFiles>,
 ) -> Result<Engine<MemoryFiles>> {
-    state_that_what_is_left_is_opened(engine);
+    cite_law_of_opening(engine);
     reopen_over_copies(rt, alloc, engine)
 }
 
 /// Tests whether each of two restarts has what was written before it, also what was written after the first restart.
+///
+/// # Errors
+///
+/// Those of the engine's calls and of the opening; `Memory`.
 fn do_restarts_find_all<R: Threads + Sync>(rt: &R, alloc: Global) -> Result<bool> {
     let mut engine = new_engine(alloc)?;
     write_parts(alloc, &mut engine, &[Entries(1, 6), Put("v")], true)?;
@@ -37,6 +45,10 @@ fn do_restarts_find_all<R: Threads + Sync>(rt: &R, alloc: Global) -> Result<bool
 }
 
 /// Tests whether `engine` holds what was written before its own opening, and so do the two restarts after it.
+///
+/// # Errors
+///
+/// Those of the engine's calls and of the opening; `Memory`.
 fn is_all_found_by_first<R: Threads + Sync>(
     rt: &R,
     alloc: Global,
@@ -46,24 +58,32 @@ fn is_all_found_by_first<R: Threads + Sync>(
 }
 
 /// Opens the files of `engine` again, writes a batch, and tests whether one more restart finds all.
+///
+/// # Errors
+///
+/// Those of the engine's calls and of the opening; `Memory`.
 fn is_all_found_by_second<R: Threads + Sync>(
     rt: &R,
     alloc: Global,
     engine: &Engine<MemoryFiles>,
 ) -> Result<bool> {
-    let mut second = reopen_and_state(rt, alloc, engine)?;
+    let mut second = reopen_and_cite_law(rt, alloc, engine)?;
     write_parts(alloc, &mut second, &[Compact(3), Put("w")], true)?;
     is_all_found_by_third(rt, alloc, &second)
 }
 
 /// Tests whether a restart of the files of `second` finds what both wrote.
+///
+/// # Errors
+///
+/// Those of the engine's calls and of the opening; `Memory`.
 fn is_all_found_by_third<R: Threads + Sync>(
     rt: &R,
     alloc: Global,
     second: &Engine<MemoryFiles>,
 ) -> Result<bool> {
-    let third = reopen_and_state(rt, alloc, second)?;
-    state_that_what_is_left_is_opened(&third);
+    let third = reopen_and_cite_law(rt, alloc, second)?;
+    cite_law_of_opening(&third);
     has_text(alloc, &third, "[3,6)k=w")
 }
 
@@ -139,6 +159,10 @@ static REMOVALS: [Removal; 8] = [
 ];
 
 /// Makes an engine with the records of a removal in its rewrite file, and the batches in the last append file.
+///
+/// # Errors
+///
+/// Those of the engine's calls; `Memory`.
 fn engine_with_removal(alloc: Global, removal: &Removal) -> Result<Engine<MemoryFiles>> {
     let mut engine = engine_with_moved_parts(alloc, removal.moved)?;
     write_batches(alloc, &mut engine, removal.batches)?;
@@ -146,6 +170,10 @@ fn engine_with_removal(alloc: Global, removal: &Removal) -> Result<Engine<Memory
 }
 
 /// Writes each of `batches`, and syncs it.
+///
+/// # Errors
+///
+/// Those of the engine's calls; `Memory`.
 fn write_batches(
     alloc: Global,
     engine: &mut Engine<MemoryFiles>,
@@ -158,17 +186,25 @@ fn write_batches(
 }
 
 /// Opens an engine over copies of the files of [`engine_with_removal`].
+///
+/// # Errors
+///
+/// Those of the engine's calls and of the opening; `Memory`.
 fn reopen_with_removal<R: Threads + Sync>(
     rt: &R,
     alloc: Global,
     removal: &Removal,
 ) -> Result<Engine<MemoryFiles>> {
     let engine = engine_with_removal(alloc, removal)?;
-    reopen_and_state(rt, alloc, &engine)
+    reopen_and_cite_law(rt, alloc, &engine)
 }
 
 /// Tests whether what was taken away stays away: in a restart, in a purge of the file with the batches, and in one more
 /// restart.
+///
+/// # Errors
+///
+/// Those of the engine's calls and of the opening; `Memory`.
 fn does_removal_stay<R: Threads + Sync>(rt: &R, alloc: Global, removal: &Removal) -> Result<bool> {
     let mut engine = reopen_with_removal(rt, alloc, removal)?;
     does_removal_stay_in(rt, alloc, &mut engine, removal)
@@ -176,6 +212,10 @@ fn does_removal_stay<R: Threads + Sync>(rt: &R, alloc: Global, removal: &Removal
 
 /// Tests whether `engine` holds what `removal` leaves, and a restart finds it after a purge, which deletes as many
 /// files as the removal says.
+///
+/// # Errors
+///
+/// Those of the engine's calls and of the opening; `Memory`.
 fn does_removal_stay_in<R: Threads + Sync>(
     rt: &R,
     alloc: Global,
@@ -190,6 +230,10 @@ fn does_removal_stay_in<R: Threads + Sync>(
 
 /// Tests whether what was taken away stays away if what is left moves before the purge, which then deletes the file with the
 /// batches in any case.
+///
+/// # Errors
+///
+/// Those of the engine's calls and of the opening; `Memory`.
 fn does_removal_stay_after_move<R: Threads + Sync>(
     rt: &R,
     alloc: Global,
@@ -200,6 +244,10 @@ fn does_removal_stay_after_move<R: Threads + Sync>(
 }
 
 /// Moves what is left, and purges. Tests whether a restart finds what `removal` leaves.
+///
+/// # Errors
+///
+/// Those of the engine's calls and of the opening; `Memory`.
 fn does_removal_stay_after_move_in<R: Threads + Sync>(
     rt: &R,
     alloc: Global,
@@ -210,6 +258,10 @@ fn does_removal_stay_after_move_in<R: Threads + Sync>(
 }
 
 /// Tests whether what was taken away stays away, with and without a move before the purge.
+///
+/// # Errors
+///
+/// Those of the engine's calls and of the opening; `Memory`.
 fn does_removal_stay_in_both<R: Threads + Sync>(
     rt: &R,
     alloc: Global,

@@ -35,7 +35,8 @@ cleaned 8
 live 0 2
 ";
 
-/// Returns a batch of an entry and a key value of region 7.
+/// Returns an open batch with entry 1 of region 7, whose bytes are `x`, and a put of `k=v`. Errors: those of the batch's calls;
+/// `Memory`.
 pub(crate) fn batch_of_entry_and_key(alloc: Global) -> Result<LogBatch> {
     let mut batch = batch_with_entry(alloc, 7, 1, Vec::from_slice(alloc, b"x")?)?;
     batch.put(
@@ -46,15 +47,15 @@ pub(crate) fn batch_of_entry_and_key(alloc: Global) -> Result<LogBatch> {
     Ok(batch)
 }
 
-/// Returns a batch that cleans region 8.
+/// Returns an open batch with a `Clean` of region 8. Errors: `Memory`.
 pub(crate) fn batch_cleaning_region_8(alloc: Global) -> Result<LogBatch> {
     let mut batch = LogBatch::default(alloc);
     batch.add_command(8, Command::Clean)?;
     Ok(batch)
 }
 
-/// Gives the items of a batch their places in file 4 of the rewrite queue.
-fn give_places(mut batch: LogBatch) -> Result<LogBatch> {
+/// Gives the items of a batch their places in file 4 of the rewrite queue. Errors: `Failed` for one that isn't open; `Memory`; `Full`.
+fn with_places_in_rewrite_file_4(mut batch: LogBatch) -> Result<LogBatch> {
     if !batch.is_open() {
         return Err(Error::Failed);
     }
@@ -69,7 +70,7 @@ fn give_places(mut batch: LogBatch) -> Result<LogBatch> {
     Ok(batch)
 }
 
-/// Tests whether the tables of `accessor` are printed as `lines`.
+/// Tests whether the tables of `accessor` are printed as `lines`. Errors: `Memory`.
 pub(crate) fn are_lines_printed(
     alloc: Global,
     accessor: &MemTableAccessor,
@@ -79,13 +80,14 @@ pub(crate) fn are_lines_printed(
 }
 
 /// Returns an engine with two append files: the first has [`batch_of_entry_and_key`], the second [`batch_cleaning_region_8`].
+/// Errors: those of the engine's calls; `Memory`.
 pub(crate) fn engine_with_two_files(alloc: Global) -> Result<Engine<MemoryFiles>> {
     let mut engine = new_engine(alloc)?;
     write_both_files(alloc, &mut engine)?;
     Ok(engine)
 }
 
-/// Writes two batches, each to an append file of its own.
+/// Writes two batches, each to an append file of its own. Errors: those of the engine's calls; `Memory`.
 fn write_both_files(alloc: Global, engine: &mut Engine<MemoryFiles>) -> Result<()> {
     write_batch(engine, batch_of_entry_and_key(alloc)?, false)?;
     rotate(engine)?;
@@ -93,16 +95,16 @@ fn write_both_files(alloc: Global, engine: &mut Engine<MemoryFiles>) -> Result<(
 }
 
 /// Cites the law that says what a recovery of the files of `engine` gives.
-fn state_that_what_was_written_is_recovered(engine: &Engine<MemoryFiles>) {
+fn cite_law_of_recovery(engine: &Engine<MemoryFiles>) {
     engine.what_was_written_is_recovered();
 }
 
-/// Returns copies of the files of `queue`, each as a segment.
+/// Returns copies of the files of `queue`, each as a segment. Errors: `Memory`.
 fn copy_segments(engine: &Engine<MemoryFiles>, queue: LogQueue) -> Result<Vec<Segment>> {
     engine.segments(queue)
 }
 
-/// Returns the tables that a recovery of the append files by `workers` threads gives.
+/// Returns the tables that a recovery of the append files by `workers` threads gives. Errors: those of the recovery; `Memory`.
 fn recover_by_workers<R: Threads + Sync>(
     rt: &R,
     alloc: Global,
@@ -113,7 +115,8 @@ fn recover_by_workers<R: Threads + Sync>(
     recover(rt, alloc, append.as_slice(), LogQueue::Append, workers)
 }
 
-/// Tests whether a recovery of the append files by `workers` threads gives the tables that were written.
+/// Tests whether a recovery of the append files by `workers` threads gives the tables that were written. Errors: those of the
+/// recovery; `Memory`.
 fn is_recovered_by_workers<R: Threads + Sync>(
     rt: &R,
     alloc: Global,
@@ -124,7 +127,7 @@ fn is_recovered_by_workers<R: Threads + Sync>(
     are_lines_printed(alloc, &tables, WRITTEN)
 }
 
-/// Returns the tables that a recovery of both queues gives.
+/// Returns the tables that a recovery of both queues gives. Errors: those of the recovery; `Memory`.
 fn recover_both_queues<R: Threads + Sync>(
     rt: &R,
     alloc: Global,
@@ -135,7 +138,7 @@ fn recover_both_queues<R: Threads + Sync>(
     recover_both(rt, alloc, rewrite.as_slice(), append.as_slice(), 2)
 }
 
-/// Tests whether a recovery of both queues gives the tables that were written.
+/// Tests whether a recovery of both queues gives the tables that were written. Errors: those of the recovery; `Memory`.
 fn is_recovered_from_both<R: Threads + Sync>(
     rt: &R,
     alloc: Global,
@@ -146,19 +149,20 @@ fn is_recovered_from_both<R: Threads + Sync>(
 }
 
 /// Tests whether an engine has the tables that were written, and so have recoveries of its append files and of both queues.
+/// Errors: those of the engine's calls and of the recovery; `Memory`.
 fn are_written_tables_recovered<R: Threads + Sync>(rt: &R, alloc: Global) -> Result<bool> {
     let engine = engine_with_two_files(alloc)?;
     are_tables_recovered_from(rt, alloc, &engine)
 }
 
 /// Tests whether `engine` has the tables that were written, and recoveries by one and four workers, and of both
-/// queues, give them.
+/// queues, give them. Errors: those of the recovery; `Memory`.
 fn are_tables_recovered_from<R: Threads + Sync>(
     rt: &R,
     alloc: Global,
     engine: &Engine<MemoryFiles>,
 ) -> Result<bool> {
-    state_that_what_was_written_is_recovered(engine);
+    cite_law_of_recovery(engine);
     Ok(
         engine.is_intact()
             && are_lines_printed(alloc, engine.accessor(), WRITTEN)?
@@ -168,7 +172,7 @@ fn are_tables_recovered_from<R: Threads + Sync>(
     )
 }
 
-/// Returns the append files of an engine, with their bytes.
+/// Returns the append files of an engine, with their bytes. Errors: `Memory`.
 pub(crate) fn copy_append_files(alloc: Global, engine: &Engine<MemoryFiles>) -> Result<LogFiles> {
     let segments = copy_segments(engine, LogQueue::Append)?;
     let mut files = Vec::new(alloc);
@@ -178,7 +182,7 @@ pub(crate) fn copy_append_files(alloc: Global, engine: &Engine<MemoryFiles>) -> 
     Ok(files)
 }
 
-/// Appends copies of the parts of `segment` to `files`, each as a file.
+/// Appends copies of the parts of `segment` to `files`, each as a file. Errors: `Memory`.
 fn push_segment_files(alloc: Global, files: &mut LogFiles, segment: &[FilePart]) -> Result<()> {
     for part in segment {
         files.push((part.id().seq, Vec::from_slice(alloc, part.bytes())?))?;
@@ -186,7 +190,7 @@ fn push_segment_files(alloc: Global, files: &mut LogFiles, segment: &[FilePart])
     Ok(())
 }
 
-/// Returns the append files of the engine of [`engine_with_two_files`].
+/// Returns the append files of the engine of [`engine_with_two_files`]. Errors: those of the engine's calls; `Memory`.
 fn copy_written_files(alloc: Global) -> Result<LogFiles> {
     let engine = engine_with_two_files(alloc)?;
     copy_append_files(alloc, &engine)
@@ -201,19 +205,20 @@ fn last_append_seq(engine: &Engine<MemoryFiles>) -> Option<FileSeq> {
 }
 
 /// Tests whether an engine that is opened over the append files alone has the tables that were written, and so has a recovery
-/// of its append files.
+/// of its append files. Errors: those of the engine's calls, the opening and the recovery; `Memory`.
 fn is_opened_with_written_tables<R: Threads + Sync>(rt: &R, alloc: Global) -> Result<bool> {
     let engine = open_copies(rt, alloc, copy_written_files(alloc)?, Vec::new(alloc))?;
     has_written_tables(rt, alloc, &engine)
 }
 
-/// Tests whether `engine` has the tables that were written, and recoveries of its append files give them.
+/// Tests whether `engine` has the tables that were written, and recoveries of its append files give them. Errors: those of
+/// the recovery; `Memory`.
 fn has_written_tables<R: Threads + Sync>(
     rt: &R,
     alloc: Global,
     engine: &Engine<MemoryFiles>,
 ) -> Result<bool> {
-    state_that_what_was_written_is_recovered(engine);
+    cite_law_of_recovery(engine);
     Ok(
         engine.is_intact()
             && last_append_seq(engine) == Some(2)
@@ -222,45 +227,48 @@ fn has_written_tables<R: Threads + Sync>(
     )
 }
 
-/// Returns the tables that a recovery of the append files of [`engine_with_two_files`] gives.
+/// Returns the tables that a recovery of the append files of [`engine_with_two_files`] gives. Errors: those of the engine's
+/// calls and of the recovery; `Memory`.
 fn recover_written_tables<R: Threads + Sync>(rt: &R, alloc: Global) -> Result<MemTableAccessor> {
     let engine = engine_with_two_files(alloc)?;
     recover_by_workers(rt, alloc, &engine, 1)
 }
 
-/// Moves the records of region 7 in `tables` to file 4 of the rewrite queue.
+/// Moves the records of region 7 in `tables` to file 4 of the rewrite queue. Errors: those of the tables; `Memory`.
 fn rewrite_records(alloc: Global, tables: &mut MemTableAccessor) -> Result<()> {
-    let mut moved = give_places(batch_of_entry_and_key(alloc)?)?;
+    let mut moved = with_places_in_rewrite_file_4(batch_of_entry_and_key(alloc)?)?;
     tables.apply_rewrite_writes(moved.drain(), Some(1), 4)
 }
 
-/// Takes the cleaned regions of `tables`. Tests whether there were some.
+/// Takes the cleaned regions of `tables`. Tests whether there were some. Errors: those of the tables; `Memory`.
 fn are_cleaned_regions_handed_out(tables: &mut MemTableAccessor) -> Result<bool> {
     let logs = tables.take_cleaned_region_logs()?;
     Ok(!logs.is_empty())
 }
 
 /// Moves the records in `tables`. Tests whether they hand out the cleaned regions, and print the lines after the
-/// move.
+/// move. Errors: those of the tables; `Memory`.
 fn are_records_rewritten(alloc: Global, tables: &mut MemTableAccessor) -> Result<bool> {
     rewrite_records(alloc, tables)?;
     Ok(are_cleaned_regions_handed_out(tables)? && are_lines_printed(alloc, tables, REWRITTEN)?)
 }
 
-/// Tests whether recovered tables take a rewriting that moves their records, and hand out the cleaned regions.
-fn is_rewriting_taken<R: Threads + Sync>(rt: &R, alloc: Global) -> Result<bool> {
+/// Tests whether recovered tables take a rewriting that moves their records, and hand out the cleaned regions. Errors: those
+/// of the engine's calls, the recovery and the tables; `Memory`.
+fn do_recovered_tables_take_rewriting<R: Threads + Sync>(rt: &R, alloc: Global) -> Result<bool> {
     let mut tables = recover_written_tables(rt, alloc)?;
     are_records_rewritten(alloc, &mut tables)
 }
 
 /// Tests whether an engine moves its records to file 4 of the rewrite queue, and a recovery of its append files still gives
-/// the places that they had there.
+/// the places that they had there. Errors: the engine's, the opening's, the recovery's, `Memory`.
 fn are_records_moved_to_file_4<R: Threads + Sync>(rt: &R, alloc: Global) -> Result<bool> {
     let mut engine = open_with_rewrite_file_4(rt, alloc)?;
     do_records_move(rt, alloc, &mut engine)
 }
 
-/// Opens an engine over the append files of [`engine_with_two_files`], and an empty rewrite file 4.
+/// Opens an engine over the append files of [`engine_with_two_files`], and an empty rewrite file 4. Errors: those of the
+/// engine's calls; `Memory`.
 fn open_with_rewrite_file_4<R: Threads + Sync>(
     rt: &R,
     alloc: Global,
@@ -270,14 +278,14 @@ fn open_with_rewrite_file_4<R: Threads + Sync>(
 }
 
 /// Moves the records of append file 1. Tests whether `engine` has them in the rewrite queue, and its append files
-/// still give them.
+/// still give them. Errors: those of the engine's calls and of the recovery; `Memory`.
 fn do_records_move<R: Threads + Sync>(
     rt: &R,
     alloc: Global,
     engine: &mut Engine<MemoryFiles>,
 ) -> Result<bool> {
     rewrite_up_to(engine, 1)?;
-    state_that_what_was_written_is_recovered(engine);
+    cite_law_of_recovery(engine);
     Ok(
         are_lines_printed(alloc, engine.accessor(), MOVED)?
             && is_recovered_by_workers(rt, alloc, engine, 4)?,
@@ -299,7 +307,7 @@ fn written_files_are_opened_with_their_tables(rt: HostRuntime) {
 /// Tests that tables of a recovery take a rewriting, and hand out their cleaned regions.
 #[test]
 fn recovered_tables_take_a_rewriting(rt: HostRuntime) {
-    assert!(rt; holds!(is_rewriting_taken(&rt, rt.alloc())));
+    assert!(rt; holds!(do_recovered_tables_take_rewriting(&rt, rt.alloc())));
 }
 
 /// Tests that an engine moves records to the rewrite file that it found, and its append files still have them.
@@ -309,15 +317,16 @@ fn an_engine_moves_records_to_the_rewrite_queue(rt: HostRuntime) {
 }
 
 /// Tests whether files refuse to begin an append file with the number `seq`, which isn't above that of the last one, and stay
-/// as they are.
+/// as they are. Errors: those of the engine's calls; `Memory`.
 fn is_number_refused(alloc: Global, seq: FileSeq) -> Result<bool> {
     let engine = engine_with_two_files(alloc)?;
     let mut files = MemoryFiles::found(copy_files(&engine, LogQueue::Append)?, Vec::new(alloc));
-    are_files_left(alloc, &mut files, &engine, seq)
+    are_files_unchanged_by_refused_rotation(alloc, &mut files, &engine, seq)
 }
 
-/// Tests whether `files` refuse to begin the append file `seq`, and have the same files as before.
-fn are_files_left(
+/// Tests whether `files` refuse to begin the append file `seq`, and have the same files as before. Errors: that of the files,
+/// unless it is `InvalidArgument`; `Memory`.
+fn are_files_unchanged_by_refused_rotation(
     alloc: Global,
     files: &mut MemoryFiles,
     engine: &Engine<MemoryFiles>,
@@ -350,8 +359,8 @@ static NUMBERS: [(&[FileSeq], bool); 8] = [
 ];
 
 /// Tests whether an engine can be opened over empty append files with these numbers, or they are refused as damage, as
-/// `is_opened` says.
-fn is_opened_or_refused<R: Threads + Sync>(
+/// `is_opened` says. Errors: that of the opening, unless it is `Corruption`; `Memory`.
+fn are_file_numbers_accepted_as_expected<R: Threads + Sync>(
     rt: &R,
     alloc: Global,
     numbers: &[FileSeq],
@@ -370,20 +379,20 @@ fn is_opened_or_refused<R: Threads + Sync>(
 fn files_are_opened_whose_numbers_are_consecutive(rt: HostRuntime) {
     for (numbers, is_opened) in &NUMBERS {
         assert!(rt;
-            holds!(is_opened_or_refused(&rt, rt.alloc(), numbers, *is_opened)),
+            holds!(are_file_numbers_accepted_as_expected(&rt, rt.alloc(), numbers, *is_opened)),
             "{numbers:?}"
         );
     }
 }
 
-/// Tests whether an engine goes on to 300 append files.
-fn has_many_files(alloc: Global) -> Result<bool> {
+/// Tests whether an engine goes on to 300 append files. Errors: those of the engine's calls; `Memory`.
+fn can_have_300_files(alloc: Global) -> Result<bool> {
     let mut engine = new_engine(alloc)?;
-    begins_many_files(&mut engine)
+    does_rotate_to_300_files(&mut engine)
 }
 
-/// Begins append files up to number 300. Tests whether all of them are there.
-fn begins_many_files(engine: &mut Engine<MemoryFiles>) -> Result<bool> {
+/// Begins append files up to number 300. Tests whether all of them are there. Errors: those of [`rotate`]; `Memory`.
+fn does_rotate_to_300_files(engine: &mut Engine<MemoryFiles>) -> Result<bool> {
     for _ in 2..=300 {
         rotate(engine)?;
     }
@@ -396,10 +405,10 @@ fn begins_many_files(engine: &mut Engine<MemoryFiles>) -> Result<bool> {
 /// Tests that an engine can have hundreds of append files.
 #[test]
 fn an_engine_goes_on_to_300_append_files(rt: HostRuntime) {
-    assert!(rt; holds!(has_many_files(rt.alloc())));
+    assert!(rt; holds!(can_have_300_files(rt.alloc())));
 }
 
-/// Returns a batch with one entry of region 7, which has this text.
+/// Returns a batch with one entry of region 7, which has this text. Errors: those of [`batch_with_entry`].
 pub(crate) fn batch_with_text(alloc: Global, index: u64, text: &str) -> Result<LogBatch> {
     batch_with_entry(alloc, 7, index, Vec::from_slice(alloc, text.as_bytes())?)
 }
@@ -407,14 +416,14 @@ pub(crate) fn batch_with_text(alloc: Global, index: u64, text: &str) -> Result<L
 /// The texts of the entries from index 1 on, two in each file.
 pub(crate) static TEXTS: [&str; 5] = ["one", "two", "three", "", "five"];
 
-/// Returns an engine that wrote [`TEXTS`] as entries of region 7, a batch each.
+/// Returns an engine that wrote [`TEXTS`] as entries of region 7, a batch each. Errors: those of the engine's calls; `Memory`.
 pub(crate) fn engine_with_texts(alloc: Global) -> Result<Engine<MemoryFiles>> {
     let mut engine = new_engine(alloc)?;
     write_each_text(alloc, &mut engine)?;
     Ok(engine)
 }
 
-/// Writes each of [`TEXTS`] as an entry, and begins a new file after each second one.
+/// Writes each of [`TEXTS`] as an entry, and begins a new file after each second one. Errors: the engine's, `Memory`.
 fn write_each_text(alloc: Global, engine: &mut Engine<MemoryFiles>) -> Result<()> {
     for (index, text) in (1u64..).zip(&TEXTS) {
         write_batch(engine, batch_with_text(alloc, index, text)?, false)?;
@@ -425,7 +434,8 @@ fn write_each_text(alloc: Global, engine: &mut Engine<MemoryFiles>) -> Result<()
     Ok(())
 }
 
-/// Tests whether the append files have this text at the place that the engine's table has for the entry `index`.
+/// Tests whether the append files have this text at the place that the engine's table has for the entry `index`. Errors:
+/// `Corruption` if the block at the place is damaged; `Memory`.
 fn is_text_at_place(
     alloc: Global,
     engine: &Engine<MemoryFiles>,
@@ -453,7 +463,8 @@ fn is_text_at_place(
     Ok(false)
 }
 
-/// Tests whether a file has this text at the place of an entry.
+/// Tests whether a file has this text at the place of an entry. Errors: `Corruption` if the block at the place is damaged;
+/// `Memory`.
 fn is_text_in_part(
     alloc: Global,
     part: &FilePart,
@@ -465,7 +476,8 @@ fn is_text_in_part(
     Ok(entry_bytes(alloc, block, entry)? == text.as_bytes())
 }
 
-/// Tests whether the append files of `engine` have each of [`TEXTS`] at the place of its entry.
+/// Tests whether the append files of `engine` have each of [`TEXTS`] at the place of its entry. Errors: those of
+/// [`is_text_at_place`].
 fn are_texts_at_places_of(alloc: Global, engine: &Engine<MemoryFiles>) -> Result<bool> {
     for (index, text) in (1u64..).zip(&TEXTS) {
         if !is_text_at_place(alloc, engine, index, text)? {
@@ -475,7 +487,7 @@ fn are_texts_at_places_of(alloc: Global, engine: &Engine<MemoryFiles>) -> Result
     Ok(true)
 }
 
-/// Tests whether the append files have each of [`TEXTS`] at the place of its entry.
+/// Tests whether the append files have each of [`TEXTS`] at the place of its entry. Errors: the engine's, `Memory`.
 fn are_texts_at_places(alloc: Global) -> Result<bool> {
     let engine = engine_with_texts(alloc)?;
     are_texts_at_places_of(alloc, &engine)

@@ -25,31 +25,31 @@ struct UnreadFiles {
 impl EngineFiles for UnreadFiles {
     ghost asked = { λ files. files.asked.asks };
 
-    /// Notes the call. The bytes are kept nowhere.
+    /// Notes that `bytes` are appended to `queue`, and keeps them nowhere. Never fails.
     fn append(&mut self, queue: LogQueue, bytes: &[u8]) -> std::result::Result<(), AppendError> {
         self.asked.put(queue, bytes);
         Ok(())
     }
 
-    /// Notes the call.
+    /// Notes that the file `seq` of `queue` is begun. Never fails.
     fn rotate(&mut self, queue: LogQueue, seq: FileSeq) -> Result<()> {
         self.asked.begin(queue, seq);
         Ok(())
     }
 
-    /// Notes the call.
+    /// Notes that `queue` is synced. Never fails.
     fn sync(&mut self, queue: LogQueue) -> Result<()> {
         self.asked.sync(queue);
         Ok(())
     }
 
-    /// Notes the call.
+    /// Notes that the oldest file of `queue` is deleted. Never fails.
     fn delete_oldest(&mut self, queue: LogQueue) -> Result<()> {
         self.asked.delete(queue);
         Ok(())
     }
 
-    /// Notes the call.
+    /// Notes that the last file of `queue` is cut to `len` bytes. Never fails.
     fn truncate(&mut self, queue: LogQueue, len: u64) -> Result<()> {
         self.asked.cut(queue, len);
         Ok(())
@@ -128,6 +128,10 @@ static ROWS: [Row; 5] = [
 static SECOND: [Part; 3] = [Large(401, 801), Large(801, 2401), Large(2401, 2801)];
 
 /// Returns the bytes of two append files: the first has one batch, the second those of [`SECOND`].
+///
+/// # Errors
+///
+/// Those of the engine's calls; `Failed` if there are fewer than two files; `Memory`.
 fn bytes_of_two_files(alloc: Global) -> Result<(Vec<u8>, Vec<u8>)> {
     let mut engine = new_engine(alloc)?;
     write_parts(alloc, &mut engine, &[Large(1, 401)], false)?;
@@ -146,7 +150,16 @@ fn bytes_of_two_files(alloc: Global) -> Result<(Vec<u8>, Vec<u8>)> {
 }
 
 /// Returns the two files as a row says: the second one lacks bytes, and reads fail.
-fn two_files_of_row(alloc: Global, first: &[u8], second: &[u8], row: &Row) -> Result<TwoFiles> {
+///
+/// # Errors
+///
+/// `Memory` alone.
+fn with_missing_bytes_of_row(
+    alloc: Global,
+    first: &[u8],
+    second: &[u8],
+    row: &Row,
+) -> Result<TwoFiles> {
     let (left, _) = second.split_at(second.len().saturating_sub(row.0));
     Ok(TwoFiles {
         first: Vec::from_slice(alloc, first)?,
@@ -156,6 +169,10 @@ fn two_files_of_row(alloc: Global, first: &[u8], second: &[u8], row: &Row) -> Re
 }
 
 /// Opens an engine over the two files in pieces, with four workers.
+///
+/// # Errors
+///
+/// Those of [`open_in_pieces`], with the files that weren't opened.
 fn open_two_files<R: Threads + Sync>(
     rt: &R,
     alloc: Global,
@@ -180,7 +197,11 @@ fn file_size(seq: FileSeq, len: usize) -> FileSize {
     }
 }
 
-/// Tests whether the two files are opened as a row says, or a read fails. Any other error is passed on.
+/// Tests whether the two files are opened as a row says, or a read fails.
+///
+/// # Errors
+///
+/// That of the opening, unless a read failed; `Memory`.
 fn is_row_opened<R: Threads + Sync>(
     rt: &R,
     alloc: Global,
@@ -199,10 +220,14 @@ fn is_row_opened<R: Threads + Sync>(
 }
 
 /// Tests whether the two files are opened as each row says.
+///
+/// # Errors
+///
+/// Those of [`bytes_of_two_files`], and of an opening in which no read failed; `Memory`.
 fn are_rows_opened<R: Threads + Sync>(rt: &R, alloc: Global) -> Result<bool> {
     let (first, second) = bytes_of_two_files(alloc)?;
     for row in &ROWS {
-        let held = two_files_of_row(alloc, first.as_slice(), second.as_slice(), row)?;
+        let held = with_missing_bytes_of_row(alloc, first.as_slice(), second.as_slice(), row)?;
         if !is_row_opened(rt, alloc, &held, row)? {
             return Ok(false);
         }

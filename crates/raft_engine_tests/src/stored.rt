@@ -14,6 +14,10 @@ use std::alloc::Global;
 use std::thread::Threads;
 
 /// Returns an engine with two append files, of a batch each.
+///
+/// # Errors
+///
+/// Those of the engine's calls; `Memory`.
 fn engine_with_two_batches(alloc: Global) -> Result<Engine<MemoryFiles>> {
     let mut engine = new_engine(alloc)?;
     write_two_batches(alloc, &mut engine)?;
@@ -21,6 +25,10 @@ fn engine_with_two_batches(alloc: Global) -> Result<Engine<MemoryFiles>> {
 }
 
 /// Writes two batches, each to an append file of its own, and syncs them.
+///
+/// # Errors
+///
+/// Those of the engine's calls; `Memory`.
 fn write_two_batches(alloc: Global, engine: &mut Engine<MemoryFiles>) -> Result<()> {
     write_batch(engine, batch_of_entry_and_key(alloc)?, true)?;
     rotate(engine)?;
@@ -29,6 +37,10 @@ fn write_two_batches(alloc: Global, engine: &mut Engine<MemoryFiles>) -> Result<
 }
 
 /// Returns the append files that this engine must have: each batch in a file of its own, and nothing else.
+///
+/// # Errors
+///
+/// Those of making and signing the batches; `Memory`.
 fn expected_files(alloc: Global) -> Result<LogFiles> {
     let first = bytes_signed_for(
         alloc,
@@ -44,6 +56,10 @@ fn expected_files(alloc: Global) -> Result<LogFiles> {
 }
 
 /// Returns copies of the files of `queue`.
+///
+/// # Errors
+///
+/// `Memory` alone.
 fn copy_queue_files(
     alloc: Global,
     engine: &Engine<MemoryFiles>,
@@ -57,12 +73,20 @@ fn copy_queue_files(
 }
 
 /// Tests whether the append files have just the bytes of the batches, and a recovery gives the tables of the engine.
+///
+/// # Errors
+///
+/// Those of the engine's calls and of the recovery; `Memory`.
 fn are_batches_found<R: Threads + Sync>(rt: &R, alloc: Global) -> Result<bool> {
     let engine = engine_with_two_batches(alloc)?;
     has_files_and_tables(rt, alloc, &engine)
 }
 
 /// Tests whether `engine` has just the files and the tables that were written, and a recovery gives these.
+///
+/// # Errors
+///
+/// Those of [`has_files`], and of the recovery; `Memory`.
 fn has_files_and_tables<R: Threads + Sync>(
     rt: &R,
     alloc: Global,
@@ -77,12 +101,20 @@ fn has_files_and_tables<R: Threads + Sync>(
 }
 
 /// Tests whether the append files are just those of [`expected_files`].
+///
+/// # Errors
+///
+/// Those of [`expected_files`]; `Memory`.
 fn has_files(alloc: Global, engine: &Engine<MemoryFiles>) -> Result<bool> {
     let append = copy_queue_files(alloc, engine, LogQueue::Append)?;
     Ok(append == expected_files(alloc)?)
 }
 
 /// Tests whether a recovery of the files of `engine` gives the tables that were written.
+///
+/// # Errors
+///
+/// Those of the recovery; `Memory`.
 fn are_tables_recovered<R: Threads + Sync>(
     rt: &R,
     alloc: Global,
@@ -106,6 +138,10 @@ fn what_an_engine_wrote_is_found(rt: HostRuntime) {
 }
 
 /// Tests what an engine returns of region 7, and of a region that isn't there.
+///
+/// # Errors
+///
+/// Those of the engine's calls; `Memory`.
 fn are_reads_right(alloc: Global) -> Result<bool> {
     let engine = engine_with_two_batches(alloc)?;
     Ok(has_value(&engine) && has_indexes(&engine))
@@ -132,6 +168,10 @@ fn an_engine_returns_what_it_has_of_a_region(rt: HostRuntime) {
 }
 
 /// Tests whether an engine refuses an entry that would leave a hole, asks nothing of its files then, and serves on.
+///
+/// # Errors
+///
+/// Those of the engine's calls, but for the `Corruption` that is to be returned; `Memory`.
 fn is_hole_refused(alloc: Global) -> Result<bool> {
     let mut engine = engine_with_two_batches(alloc)?;
     is_hole_refused_in(alloc, &mut engine)
@@ -139,6 +179,10 @@ fn is_hole_refused(alloc: Global) -> Result<bool> {
 
 /// Tests whether `engine` refuses an entry that leaves a hole, leaves its files as they were, and takes the next
 /// entry.
+///
+/// # Errors
+///
+/// Those of the engine's calls, but for the `Corruption` that is to be returned; `Memory`.
 fn is_hole_refused_in(alloc: Global, engine: &mut Engine<MemoryFiles>) -> Result<bool> {
     if !is_corruption(write_batch(engine, batch_with_text(alloc, 3, "three")?, true))? {
         return Ok(false);

@@ -78,6 +78,10 @@ fn have_same_bytes(some: &LogFiles, others: &LogFiles) -> bool {
 }
 
 /// Tests whether two engines have the same files of `queue`.
+///
+/// # Errors
+///
+/// `Memory` alone.
 fn has_same_files_in_queue(
     engine: &Engine<MemoryFiles>,
     other: &Engine<MemoryFiles>,
@@ -87,6 +91,10 @@ fn has_same_files_in_queue(
 }
 
 /// Tests whether two engines have the same files in both queues.
+///
+/// # Errors
+///
+/// `Memory` alone.
 fn have_same_files(engine: &Engine<MemoryFiles>, other: &Engine<MemoryFiles>) -> Result<bool> {
     Ok(
         has_same_files_in_queue(engine, other, LogQueue::Append)?
@@ -95,6 +103,10 @@ fn have_same_files(engine: &Engine<MemoryFiles>, other: &Engine<MemoryFiles>) ->
 }
 
 /// Tests whether an engine that is opened over copies of the files holds `left`, and has asked for no change of these files.
+///
+/// # Errors
+///
+/// Those of the opening; `Memory`.
 fn is_opened_unchanged<R: Threads + Sync>(
     rt: &R,
     alloc: Global,
@@ -107,6 +119,10 @@ fn is_opened_unchanged<R: Threads + Sync>(
 
 /// Opens an engine over copies of the files, and purges its append files. Tests whether that tells the rewrite queue what the
 /// removal says, and a further opening tells nothing more.
+///
+/// # Errors
+///
+/// Those of the engine's calls and of the opening; `Memory`.
 fn is_removal_told_by_purge<R: Threads + Sync>(
     rt: &R,
     alloc: Global,
@@ -119,6 +135,10 @@ fn is_removal_told_by_purge<R: Threads + Sync>(
 
 /// Begins an append file of `opened`, and purges. Tests whether one file is deleted, the rewrite queue has been told,
 /// and a restart finds what `removal` leaves.
+///
+/// # Errors
+///
+/// Those of the engine's calls and of the opening; `Memory`.
 fn is_removal_told_in<R: Threads + Sync>(
     rt: &R,
     alloc: Global,
@@ -136,7 +156,12 @@ fn is_removal_told_in<R: Threads + Sync>(
     )
 }
 
-/// Tests [`is_removal_told_later_in`] with an engine that moved its records.
+/// Tests whether an opening of files to which the batch of `removal` was written changes nothing, and a purge then tells
+/// the rewrite queue what the removal says.
+///
+/// # Errors
+///
+/// Those of the engine's calls and of the opening; `Memory`.
 fn is_removal_told_later<R: Threads + Sync>(
     rt: &R,
     alloc: Global,
@@ -147,6 +172,10 @@ fn is_removal_told_later<R: Threads + Sync>(
 }
 
 /// Writes the batch of `removal`. Tests whether an opening changes nothing, and a purge tells the rewrite queue.
+///
+/// # Errors
+///
+/// Those of the engine's calls and of the opening; `Memory`.
 fn is_removal_told_later_in<R: Threads + Sync>(
     rt: &R,
     alloc: Global,
@@ -173,12 +202,20 @@ fn an_opening_leaves_files_as_they_were(rt: HostRuntime) {
 }
 
 /// Tests whether an empty rewrite queue is told nothing of what the append queue takes away.
+///
+/// # Errors
+///
+/// Those of the engine's calls and of the opening; `Memory`.
 fn is_empty_queue_told_nothing<R: Threads + Sync>(rt: &R, alloc: Global) -> Result<bool> {
     let mut engine = new_engine(alloc)?;
     is_empty_queue_told_nothing_in(rt, alloc, &mut engine)
 }
 
 /// Writes records and a `Clean` to `engine`. Tests whether a purge of an engine over its files tells nothing.
+///
+/// # Errors
+///
+/// Those of the engine's calls and of the opening; `Memory`.
 fn is_empty_queue_told_nothing_in<R: Threads + Sync>(
     rt: &R,
     alloc: Global,
@@ -192,6 +229,10 @@ fn is_empty_queue_told_nothing_in<R: Threads + Sync>(
 
 /// Begins an append file of `opened`, and purges. Tests whether one file is deleted, and the rewrite queue is as that
 /// of `engine`.
+///
+/// # Errors
+///
+/// Those of the engine's calls; `Memory`.
 fn does_purge_tell_nothing(
     opened: &mut Engine<MemoryFiles>,
     engine: &Engine<MemoryFiles>,
@@ -211,6 +252,10 @@ fn an_empty_rewrite_queue_is_told_nothing(rt: HostRuntime) {
 
 /// Tests whether an opening tells the rewrite queue at once that its entries are dropped, if the appended ones begin after a
 /// hole; and whether a further opening tells nothing more.
+///
+/// # Errors
+///
+/// Those of the engine's calls and of the opening; `Memory`.
 fn is_dropped_prefix_told_at_once<R: Threads + Sync>(rt: &R, alloc: Global) -> Result<bool> {
     let rewritten = engine_with_moved_parts(alloc, &[Entries(1, 5)])?;
     let rewrite = copy_files(&rewritten, LogQueue::Rewrite)?;
@@ -221,6 +266,10 @@ fn is_dropped_prefix_told_at_once<R: Threads + Sync>(rt: &R, alloc: Global) -> R
 }
 
 /// Writes [10,12), and returns a copy of the append files.
+///
+/// # Errors
+///
+/// Those of the engine's calls; `Memory`.
 fn files_appended_behind_hole(alloc: Global, engine: &mut Engine<MemoryFiles>) -> Result<LogFiles> {
     write_parts(alloc, engine, &[Entries(10, 12)], true)?;
     copy_files(engine, LogQueue::Append)
@@ -228,6 +277,10 @@ fn files_appended_behind_hole(alloc: Global, engine: &mut Engine<MemoryFiles>) -
 
 /// Tests whether `opened` has told its rewrite queue more than `rewritten` had, and holds [10,12), and a further
 /// opening changes nothing.
+///
+/// # Errors
+///
+/// Those of the opening; `Memory`.
 fn is_hole_told<R: Threads + Sync>(
     rt: &R,
     alloc: Global,

@@ -13,6 +13,10 @@ use std::alloc::Global;
 type Counts = (usize, usize, usize);
 
 /// Returns the counts of the tables of a context.
+///
+/// # Errors
+///
+/// Those of [`MemTableRecoverContext::finish`].
 fn counts_of_context(context: MemTableRecoverContext) -> Result<Counts> {
     let accessor = context.finish()?;
     let stats = accessor.stats();
@@ -95,6 +99,10 @@ fn rows_of_contexts() -> &'static [Row] {
 
 /// Returns the counts of a row's contexts: the newer one is merged into the older one, or put over it, if it is of the
 /// append queue.
+///
+/// # Errors
+///
+/// Those of the contexts' calls; `Memory`.
 fn counts_after_merge(alloc: Global, row: &Row) -> Result<Counts> {
     let (queue, older, newer, _) = *row;
     let mut context = context_of_words(alloc, queue, older)?;

@@ -8,6 +8,10 @@ use raft_records::{FilePart, LogBatch, LogFileContext, ReadBatch, Version, next_
 use std::alloc::Global;
 
 /// Makes the bytes of a batch, and returns them as the only ones of a file.
+///
+/// # Errors
+///
+/// Those of [`LogBatch::finish_populate`]; `Memory`.
 pub(crate) fn file_with_batch(alloc: Global, file: FileId, mut batch: LogBatch) -> Result<FilePart>
     requires { batch.stage ≡ is_open }
 {
@@ -18,6 +22,10 @@ pub(crate) fn file_with_batch(alloc: Global, file: FileId, mut batch: LogBatch) 
 }
 
 /// Replays the batch of a file.
+///
+/// # Errors
+///
+/// Those of reading the batch, and of [`MemTableRecoverContext::replay`].
 pub(crate) fn replay_file(context: &mut MemTableRecoverContext, file: &FilePart) -> Result<()> {
     if let Some((batch, _)) = next_batch(file, 0)? {
         context.replay(batch, file.id())?;
@@ -26,6 +34,10 @@ pub(crate) fn replay_file(context: &mut MemTableRecoverContext, file: &FilePart)
 }
 
 /// Returns a context that has replayed the batches of these files.
+///
+/// # Errors
+///
+/// Those of [`replay_file`]; `Memory`.
 pub(crate) fn context_of_files(
     alloc: Global,
     files: &[FilePart],
@@ -38,7 +50,11 @@ pub(crate) fn context_of_files(
 }
 
 /// Reads the batch of a file, and replays it, without a copy of its items, as one of the file `id`.
-pub(crate) fn read_and_replay(
+///
+/// # Errors
+///
+/// Those of [`ReadBatch::read_next`] and [`MemTableRecoverContext::replay_read`].
+pub(crate) fn replay_without_copy(
     context: &mut MemTableRecoverContext,
     file: &FilePart,
     id: FileId,

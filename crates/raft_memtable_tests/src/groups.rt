@@ -18,6 +18,10 @@ pub(crate) fn rewrite_file(seq: u64) -> FileId {
 }
 
 /// Adds a group marker of a group with a status to a batch.
+///
+/// # Errors
+///
+/// Those of the builder's calls. The batch is still open then.
 pub(crate) fn add_marker(
     alloc: Global,
     group: u64,
@@ -39,6 +43,10 @@ pub(crate) fn add_marker(
 }
 
 /// Returns a part with a batch that has a group marker and puts a key of a region.
+///
+/// # Errors
+///
+/// Those of making the batch and its bytes; `Memory`.
 pub(crate) fn part_with_marker(
     alloc: Global,
     group: u64,
@@ -61,7 +69,7 @@ pub(crate) fn part_with_marker(
 pub(crate) type Effect = ([bool; 4], Option<(u64, u64)>);
 
 /// Returns which keys the table of a region has, and the files of its last group.
-pub(crate) fn effect_on_region(accessor: &MemTableAccessor, region: u64) -> Effect {
+pub(crate) fn keys_and_group_of_region(accessor: &MemTableAccessor, region: u64) -> Effect {
     match accessor.get(region) {
         Some(table) => (
             KEYS.map(|key| table.get(key.as_slice()).is_some()),

@@ -1,7 +1,7 @@
 //! Tests contexts with many regions, many groups, long stretches, many deleted keys, long runs and many batches.
 
 use crate::files::{context_of_files, file_with_batch, replay_file};
-use crate::groups::{add_marker, effect_on_region, part_with_marker, rewrite_file};
+use crate::groups::{add_marker, keys_and_group_of_region, part_with_marker, rewrite_file};
 use crate::overlays::{Word, context_of_words};
 use AtomicGroupStatus::{Begin, End};
 use raft_memtable::{
@@ -29,6 +29,10 @@ const BATCHES: u64 = 100_000;
 
 /// Returns a context that has replayed a batch with this status for each group: from `first_group` on to the last one,
 /// and then the others, in the files from `first_seq` on. The batch of group n puts a key of region n.
+///
+/// # Errors
+///
+/// Those of the contexts' calls; `Memory`.
 fn context_with_groups(
     alloc: Global,
     status: AtomicGroupStatus,
@@ -50,6 +54,10 @@ fn context_with_groups(
 
 /// Tests whether all groups take effect in a merge with a context that ends them, the second half of them first, so
 /// that some groups are within others, and some begin before another one and end within it.
+///
+/// # Errors
+///
+/// Those of the contexts' calls; `Memory`.
 fn do_all_groups_take_effect(alloc: Global) -> Result<bool> {
     let mut context = context_with_groups(alloc, Begin, b"k1", 1, 0)?;
     context.merge(
@@ -61,7 +69,8 @@ fn do_all_groups_take_effect(alloc: Global) -> Result<bool> {
     for group in 0..GROUPS {
         let end = group.saturating_add(GROUPS / 2) % GROUPS;
         let files = (group.saturating_add(1), end.saturating_add(101));
-        all &= effect_on_region(&accessor, group) == ([true, true, false, false], Some(files));
+        all &= keys_and_group_of_region(&accessor, group)
+            == ([true, true, false, false], Some(files));
     }
     Ok(all)
 }
@@ -78,6 +87,10 @@ use Change::{Delete, Put};
 
 /// Adds a change of the key with a number to a batch. The key is the eight bytes of the number; that with the number 0
 /// is empty.
+///
+/// # Errors
+///
+/// `Failed` if the batch isn't open; those of the batch's call; `Memory`. The batch has the items that it had then.
 fn add_key_change(
     alloc: Global,
     batch: &mut LogBatch,
@@ -104,6 +117,10 @@ fn add_key_change(
 
 /// Returns a part whose batch changes the keys with these numbers in region 5, if `is_of_one_region`, else the empty
 /// key in the regions with these numbers; with a group marker of group 9, if a status is given.
+///
+/// # Errors
+///
+/// Those of making the batch and its bytes; `Memory`.
 fn part_with_changes(
     alloc: Global,
     file: FileId,
@@ -139,6 +156,10 @@ fn table_and_key_counts(accessor: &MemTableAccessor) -> (u64, usize) {
 }
 
 /// Replays two parts in a context each, merges these, and returns the tables.
+///
+/// # Errors
+///
+/// Those of the contexts' calls; `Memory`.
 fn merge_parts(
     alloc: Global,
     queue: LogQueue,
@@ -157,6 +178,10 @@ fn has_first_and_last_key(accessor: &MemTableAccessor) -> bool {
 }
 
 /// Tests whether a group of many items takes effect as a whole when a batch with as many items ends it.
+///
+/// # Errors
+///
+/// Those of the contexts' calls; `Memory`.
 fn does_long_group_take_effect(alloc: Global) -> Result<bool> {
     let begun = part_with_changes(alloc, rewrite_file(1), Some(Begin), 0..LONG, true, Put(1))?;
     let ended = part_with_changes(
@@ -178,6 +203,10 @@ const APPENDED: FileId = FileId {
 };
 
 /// Tests whether contexts that put a key of many regions each, half of which are the same, are merged.
+///
+/// # Errors
+///
+/// Those of the contexts' calls; `Memory`.
 fn are_regions_merged(alloc: Global) -> Result<bool> {
     let older = part_with_changes(alloc, APPENDED, None, 0..REGIONS, false, Put(1))?;
     let newer = part_with_changes(
@@ -194,6 +223,10 @@ fn are_regions_merged(alloc: Global) -> Result<bool> {
 
 /// Returns a context that has read changes of keys in region 5: each row changes the keys with the numbers from its
 /// first on and below its second.
+///
+/// # Errors
+///
+/// Those of the contexts' calls; `Memory`.
 fn context_with_changes(
     alloc: Global,
     rows: &[(u64, u64, Change)],
@@ -208,6 +241,10 @@ fn context_with_changes(
 
 /// Returns a context that has put keys, from the empty one on, and deleted as many others, merged with a newer one that
 /// has deleted all that were put but the last.
+///
+/// # Errors
+///
+/// Those of the contexts' calls; `Memory`.
 fn context_with_deletions(alloc: Global) -> Result<MemTableRecoverContext> {
     let older = [
         (0, DELETED + 1, Put(1 << 16)),
@@ -221,6 +258,10 @@ fn context_with_deletions(alloc: Global) -> Result<MemTableRecoverContext> {
 
 /// Tests whether the keys that both contexts delete, the empty one among them, are removed, also if an older context
 /// has put them, and the other key stays.
+///
+/// # Errors
+///
+/// Those of the contexts' calls; `Memory`.
 fn are_deletions_merged(alloc: Global) -> Result<bool> {
     let mut context = context_with_changes(alloc, &[(DELETED + 1, 2 * DELETED + 1, Put(1))])?;
     context.merge(context_with_deletions(alloc)?, LogQueue::Append)?;
@@ -281,6 +322,10 @@ fn rows_of_long_runs() -> &'static [(LogQueue, LogQueue, Shape)] {
 
 /// Reads an older and a newer long run in a context each. Returns both merged, or, if they are of different queues, the
 /// newer one put over the older one.
+///
+/// # Errors
+///
+/// Those of the contexts' calls; `Memory`.
 fn context_of_both_runs(
     alloc: Global,
     older: LogQueue,
@@ -298,6 +343,10 @@ fn context_of_both_runs(
 
 /// Tests whether long runs are merged and put over each other as the rows say, and two long runs that one context reads
 /// give the same.
+///
+/// # Errors
+///
+/// Those of the contexts' calls; `Memory`.
 fn are_long_runs_merged(alloc: Global) -> Result<bool> {
     for &(older, newer, merged) in rows_of_long_runs() {
         if indexes_and_counts(&context_of_both_runs(alloc, older, newer)?.finish()?) != merged {
@@ -309,6 +358,10 @@ fn are_long_runs_merged(alloc: Global) -> Result<bool> {
 }
 
 /// Returns a context that has replayed many batches, each a compaction of region 5 that wasn't read from a file.
+///
+/// # Errors
+///
+/// Those of the contexts' calls; `Memory`.
 fn context_of_many_batches(alloc: Global) -> Result<MemTableRecoverContext> {
     let mut context = MemTableRecoverContext::new(alloc)?;
     for _ in 0..BATCHES {
@@ -320,13 +373,21 @@ fn context_of_many_batches(alloc: Global) -> Result<MemTableRecoverContext> {
 }
 
 /// Tests whether two contexts of many batches are merged, and have a single table then.
+///
+/// # Errors
+///
+/// Those of the contexts' calls; `Memory`.
 fn are_many_batches_merged(alloc: Global) -> Result<bool> {
     let mut context = context_of_many_batches(alloc)?;
     context.merge(context_of_many_batches(alloc)?, LogQueue::Append)?;
     Ok(table_and_key_counts(&context.finish()?) == (1, 0))
 }
 
-/// Tests all merges of large contexts.
+/// Tests whether large contexts are merged: with many groups, keys, regions, deletions and batches, and with long runs.
+///
+/// # Errors
+///
+/// Those of the contexts' calls; `Memory`.
 fn are_all_large_contexts_merged(alloc: Global) -> Result<bool> {
     Ok(
         do_all_groups_take_effect(alloc)?

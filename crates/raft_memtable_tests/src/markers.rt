@@ -1,7 +1,7 @@
 //! Tests all lists of four group markers, read by one context and by several that are merged.
 
-use crate::files::{context_of_files, read_and_replay};
-use crate::groups::{Effect, KEYS, effect_on_region, part_with_marker};
+use crate::files::{context_of_files, replay_without_copy};
+use crate::groups::{Effect, KEYS, keys_and_group_of_region, part_with_marker};
 use AtomicGroupStatus::{Begin, End, Middle};
 use raft_memtable::{LogQueue, MemTableAccessor, MemTableRecoverContext, Result};
 use raft_records::{AtomicGroupStatus, FilePart};
@@ -82,6 +82,10 @@ fn whole_groups_in_rows_of_markers_are_found(rt: HostRuntime) {
 }
 
 /// Returns four batches with these group markers of group 9, in the files 1 to 4: each puts a key in region 5.
+///
+/// # Errors
+///
+/// Those of [`part_with_marker`]; `Memory`.
 fn parts_with_markers(alloc: Global, statuses: &Statuses) -> Result<Vec<FilePart>> {
     let mut parts = Vec::new(alloc);
     let mut seq = 1u64;
@@ -93,6 +97,10 @@ fn parts_with_markers(alloc: Global, statuses: &Statuses) -> Result<Vec<FilePart
 }
 
 /// Returns contexts that have replayed so many of the batches each, one after the other.
+///
+/// # Errors
+///
+/// Those of [`context_of_files`]; `Memory`.
 fn contexts_of_parts(
     alloc: Global,
     parts: &[FilePart],
@@ -108,7 +116,11 @@ fn contexts_of_parts(
     Ok(contexts)
 }
 
-/// Merges into the context at a position its newer neighbor.
+/// Merges into the context at position `at` its newer neighbor, which is taken out; does nothing where there is none.
+///
+/// # Errors
+///
+/// Those of [`MemTableRecoverContext::merge`]. The neighbor is dropped then.
 fn merge_at(contexts: &mut Vec<MemTableRecoverContext>, at: usize) -> Result<()> {
     if at < contexts.len().saturating_sub(1) {
         let newer = contexts.remove(at + 1);
@@ -118,6 +130,10 @@ fn merge_at(contexts: &mut Vec<MemTableRecoverContext>, at: usize) -> Result<()>
 }
 
 /// Returns the tables of batches that are read and merged as `cutting` says; `None` where that leaves several contexts.
+///
+/// # Errors
+///
+/// Those of the contexts' calls; `Memory`.
 fn tables_at_cutting(
     alloc: Global,
     parts: &[FilePart],
@@ -137,22 +153,30 @@ fn tables_at_cutting(
 /// Tests whether the tables have this effect, and nothing else.
 fn have_effect(tables: &MemTableAccessor, effect: Effect) -> bool {
     let records = effect.0.iter().filter(|has| **has).count();
-    effect_on_region(tables, 5) == effect
+    keys_and_group_of_region(tables, 5) == effect
         && tables.get(9).is_none()
         && tables.stats().live_entries(LogQueue::Rewrite) == records
         && tables.is_empty() == (records == 0)
 }
 
 /// Returns the tables of batches that one context replays without copies of their items.
+///
+/// # Errors
+///
+/// Those of the contexts' calls; `Memory`.
 fn tables_of_one_context(alloc: Global, parts: &[FilePart]) -> Result<MemTableAccessor> {
     let mut context = MemTableRecoverContext::new(alloc)?;
     for part in parts {
-        read_and_replay(&mut context, part, part.id())?;
+        replay_without_copy(&mut context, part, part.id())?;
     }
     context.finish()
 }
 
 /// Tests whether these group markers have the effect that they should have, however the batches are read and merged.
+///
+/// # Errors
+///
+/// Those of making the batches, and of reading and merging them; `Memory`.
 fn has_expected_effect(alloc: Global, statuses: &Statuses) -> Result<bool> {
     let parts = parts_with_markers(alloc, statuses)?;
     let effect = expected_effect(statuses);
@@ -166,6 +190,10 @@ fn has_expected_effect(alloc: Global, statuses: &Statuses) -> Result<bool> {
 }
 
 /// Tests whether all lists of group markers that begin with these two have the effects that they should have.
+///
+/// # Errors
+///
+/// Those of [`has_expected_effect`].
 fn have_all_lists_expected_effects(
     alloc: Global,
     first: AtomicGroupStatus,

@@ -12,6 +12,10 @@ const REGIONS: usize = 300;
 const LIMIT: u64 = 60_000;
 
 /// Returns regions that all belong to slot 5.
+///
+/// # Errors
+///
+/// `Memory` alone.
 fn regions_of_slot(alloc: Global) -> Result<Vec<u64>> {
     let mut regions = Vec::new(alloc);
     for region in 0..LIMIT {
@@ -23,6 +27,10 @@ fn regions_of_slot(alloc: Global) -> Result<Vec<u64>> {
 }
 
 /// Returns a context that has replayed a batch, in append file `seq`, with a compaction of each region.
+///
+/// # Errors
+///
+/// Those of the contexts' calls; `Memory`.
 fn context_with_compactions(
     alloc: Global,
     regions: &[u64],
@@ -39,6 +47,10 @@ fn context_with_compactions(
 
 /// Tests whether all regions have a region mark and a table once an older context, with the first `older` regions, is
 /// merged with a newer one.
+///
+/// # Errors
+///
+/// Those of the contexts' calls; `Memory`.
 fn are_regions_merged(alloc: Global, older: usize) -> Result<bool> {
     let regions = regions_of_slot(alloc)?;
     let first = regions.get(..older).unwrap_or(&[]);

@@ -28,6 +28,10 @@ pub(crate) enum Word {
 use Word::{Clean, Compact, Delete, Put, Run, Truncate};
 
 /// Adds an item for what a word does to a region.
+///
+/// # Errors
+///
+/// Those of the batch's call; `Memory`. The batch is still open then.
 fn add_word(alloc: Global, region: u64, word: Word, batch: &mut LogBatch) -> Result<()>
     requires { batch.old.stage ≡ is_open }
     ensures { OnOk result (batch.new.stage ≡ is_open) }
@@ -54,6 +58,10 @@ fn add_word(alloc: Global, region: u64, word: Word, batch: &mut LogBatch) -> Res
 }
 
 /// Returns a part with a batch of what a word does to a region.
+///
+/// # Errors
+///
+/// Those of making the batch and its bytes; `Memory`.
 fn part_with_word(alloc: Global, region: u64, word: Word, file: FileId) -> Result<FilePart> {
     let mut batch = LogBatch::default(alloc);
     add_word(alloc, region, word, &mut batch)?;
@@ -61,6 +69,10 @@ fn part_with_word(alloc: Global, region: u64, word: Word, file: FileId) -> Resul
 }
 
 /// Replays a batch for each word, each in a file of its own.
+///
+/// # Errors
+///
+/// That of the first batch that is refused; no further one is replayed then. `Memory`.
 fn replay_words(
     alloc: Global,
     context: &mut MemTableRecoverContext,
@@ -78,6 +90,10 @@ fn replay_words(
 }
 
 /// Returns a context that has read batches of a queue with these words on region 1.
+///
+/// # Errors
+///
+/// Those of the contexts' calls; `Memory`.
 pub(crate) fn context_of_words(
     alloc: Global,
     queue: LogQueue,
@@ -354,6 +370,10 @@ fn rows_of_overlays() -> &'static [Row] {
 
 /// Returns a context of the rewrite queue with these words on region 1, entries of region 2, and a group of region 3
 /// that waits for its end.
+///
+/// # Errors
+///
+/// Those of the contexts' calls; `Memory`.
 fn rewrite_context_with_neighbors(alloc: Global, words: &[Word]) -> Result<MemTableRecoverContext> {
     let mut context = MemTableRecoverContext::new(alloc)?;
     replay_words(alloc, &mut context, LogQueue::Rewrite, 2, &[BESIDE])?;
@@ -364,6 +384,10 @@ fn rewrite_context_with_neighbors(alloc: Global, words: &[Word]) -> Result<MemTa
 }
 
 /// Returns the context of words of the rewrite queue, over which that of words of the append queue was put.
+///
+/// # Errors
+///
+/// Those of the contexts' calls; `Memory`.
 fn overlay_of_words(
     alloc: Global,
     rewritten: &[Word],
@@ -375,6 +399,10 @@ fn overlay_of_words(
 }
 
 /// Tests whether region 1 has what a row says.
+///
+/// # Errors
+///
+/// Those of the contexts' calls; `Memory`.
 fn overlay_row_holds(alloc: Global, row: &Row) -> Result<bool> {
     let tables = overlay_of_words(alloc, row.rewritten, row.appended)?.finish()?;
     Ok(shape_of_region_1(&tables) == row.shape)

@@ -31,13 +31,21 @@ const BLOCK: FileBlockHandle = FileBlockHandle {
     len: 7,
 };
 
-/// Returns these bytes as the part of that file from offset 100 on.
+/// Returns `bytes` as the part of [`FILE`] from offset 100 on.
+///
+/// # Errors
+///
+/// `Memory` alone: the bytes end far below the highest offset.
 pub(crate) fn part_with_bytes(alloc: Global, bytes: &[u8]) -> Result<FilePart> {
     FilePart::new(FILE, Version::V1, 100, Vec::from_slice(alloc, bytes)?)
 }
 
 /// Reads the batch at byte `at` of a part. Returns how many items it has, and where the next batch begins; `None` at
 /// the end of the part and behind it.
+///
+/// # Errors
+///
+/// Those of [`next_batch`].
 fn count_items_at(part: &FilePart, at: usize) -> Result<Option<(usize, usize)>> {
     if at > part.bytes().len() {
         return Ok(None);
@@ -56,6 +64,10 @@ fn batches_are_read_one_after_another(rt: HostRuntime) {
 
 /// Tests that the batches of `BATCHES` are read one after another, and that a part knows its file and lends its
 /// entries.
+///
+/// # Errors
+///
+/// Those of reading the batches, their blocks and their entries; `Memory`.
 fn check_batches_in_order(rt: &impl Abort, alloc: Global) -> Result<()> {
     let part = part_with_bytes(alloc, BATCHES)?;
     for &(at, read) in &[(0, Some((1, FIRST))), (FIRST, Some((1, 58))), (58, None)] {
@@ -67,6 +79,10 @@ fn check_batches_in_order(rt: &impl Abort, alloc: Global) -> Result<()> {
 }
 
 /// Tests whether a part lends the entry bytes of its first batch, and the bytes of each of its entries.
+///
+/// # Errors
+///
+/// Those of reading the batch, its block and its entries; `Memory`.
 fn lends_entry_bytes(alloc: Global, part: &FilePart) -> Result<bool> {
     let Some((batch, _)) = next_batch(part, 0)? else {
         return Ok(false);
@@ -80,6 +96,10 @@ fn lends_entry_bytes(alloc: Global, part: &FilePart) -> Result<bool> {
 }
 
 /// Tests whether a part lends the block of two entries, and it the bytes of each.
+///
+/// # Errors
+///
+/// Those of [`entries_block_in`] and [`entry_bytes`].
 fn are_both_entries_lent(alloc: Global, part: &FilePart, entries: &[EntryIndex]) -> Result<bool> {
     let [first, second] = entries else {
         return Ok(false);
@@ -97,6 +117,10 @@ fn are_both_entries_lent(alloc: Global, part: &FilePart, entries: &[EntryIndex])
 }
 
 /// Tests whether the first batch and its clone know the file that it was read from, until an item is added.
+///
+/// # Errors
+///
+/// Those of reading the batch; `Memory`.
 fn knows_its_file(part: &FilePart) -> Result<bool> {
     let Some((mut batch, _)) = next_batch(part, 0)? else {
         return Ok(false);
@@ -116,6 +140,10 @@ fn damaged_batches_are_refused(rt: HostRuntime) {
 /// Tests that a batch is refused which is cut short (unless nothing of it is left), or has a flipped bit (unless that
 /// is in its entry block, which isn't read); and that the readable prefix of such bytes ends with the last whole batch,
 /// with the error of the decoders.
+///
+/// # Errors
+///
+/// That of a read, unless it is `Corruption`; `Memory`.
 fn check_damaged_batches(rt: &impl Abort, alloc: Global) -> Result<()> {
     assert!(rt; count_items_at(&part_with_bytes(alloc, b"")?, 0)?.is_none());
     for len in 1..FIRST {
@@ -149,6 +177,10 @@ const SIGNED: &[u8; 24] =
 
 /// Tests whether `SIGNED` is read as a batch of append file `seq` in a version. It isn't where it is refused as
 /// `Corruption`.
+///
+/// # Errors
+///
+/// That of the read, unless it is `Corruption`; `Memory`.
 fn is_read_in(alloc: Global, seq: u64, version: Version) -> Result<bool> {
     let id = FileId::new(LogQueue::Append, seq);
     let part = FilePart::new(id, version, 100, Vec::from_slice(alloc, SIGNED)?)?;
@@ -166,6 +198,10 @@ fn signed_batches_are_read_in_their_files(rt: HostRuntime) {
 }
 
 /// Tests that a batch is read in the file that it was signed for, and in another whose number has the same low 32 bits.
+///
+/// # Errors
+///
+/// Those of [`is_read_in`].
 fn check_signed_batches(rt: &impl Abort, alloc: Global) -> Result<()> {
     for &(seq, version, is_read) in &[
         (12, Version::V2, true),
@@ -182,6 +218,10 @@ fn check_signed_batches(rt: &impl Abort, alloc: Global) -> Result<()> {
 }
 
 /// Tests whether the batch at the start of these bytes is refused as `Corruption`.
+///
+/// # Errors
+///
+/// That of the read, unless it is `Corruption`; `Memory`.
 fn is_first_batch_refused(alloc: Global, bytes: &[u8]) -> Result<bool> {
     match count_items_at(&part_with_bytes(alloc, bytes)?, 0) {
         Ok(_read) => Ok(false),
@@ -192,6 +232,10 @@ fn is_first_batch_refused(alloc: Global, bytes: &[u8]) -> Result<bool> {
 
 /// Flips the lowest bit of the byte at `at`, and tests whether the first batch is refused; or, if the byte is in its
 /// entry block, whether the batch is read and the block refused.
+///
+/// # Errors
+///
+/// That of a read, unless it is `Corruption`; `Memory`.
 fn is_flipped_bit_refused(alloc: Global, at: usize) -> Result<bool> {
     let mut bytes = *BATCHES;
     if let Some(byte) = bytes.get_mut(at) {
@@ -210,6 +254,10 @@ fn is_flipped_bit_refused(alloc: Global, at: usize) -> Result<bool> {
 }
 
 /// Tests whether the entry block of the first batch in these bytes is refused as `Corruption`.
+///
+/// # Errors
+///
+/// That of the read, unless it is `Corruption`.
 fn is_block_refused(alloc: Global, bytes: &[u8]) -> Result<bool> {
     let block = bytes.get(16..23).unwrap_or(&[]);
     match LogBatch::decode_entries_block(alloc, block, BLOCK, CompressionType::None) {
@@ -220,6 +268,10 @@ fn is_block_refused(alloc: Global, bytes: &[u8]) -> Result<bool> {
 }
 
 /// Tests whether the entry block of the first batch of a part is refused as `Corruption` when it is to be lent.
+///
+/// # Errors
+///
+/// That of the call, unless it is `Corruption`.
 fn is_block_refused_in(part: &FilePart) -> Result<bool> {
     match entries_block_in(part, BLOCK) {
         Ok(_lent) => Ok(false),
@@ -284,11 +336,19 @@ fn rows_without_block() -> &'static [PlaceRow] {
 }
 
 /// Tests whether no entry block is lent at the place of a row, with its error.
+///
+/// # Errors
+///
+/// That of the call, unless it is `Corruption` or `Codec`.
 fn is_no_block_lent(part: &FilePart, row: &PlaceRow) -> Result<bool> {
     is_corruption_with_text(entries_block_in(part, row.0), row.1)
 }
 
 /// Tests whether an entry of `len` bytes at an offset isn't found in three entry bytes, with the error `reason`.
+///
+/// # Errors
+///
+/// That of the call, unless it is `Corruption` or `Codec`.
 fn is_no_entry_found(alloc: Global, offset: u32, len: u32, reason: &str) -> Result<bool> {
     let entry = EntryIndex {
         index: 10,
@@ -306,6 +366,10 @@ fn entries_at_wrong_places_are_refused(rt: HostRuntime) {
 }
 
 /// Tests that entry blocks and entries at wrong places are refused, each with its text.
+///
+/// # Errors
+///
+/// Those of [`is_no_block_lent`] and [`is_no_entry_found`]; `Memory`.
 fn check_wrong_places(rt: &impl Abort, alloc: Global) -> Result<()> {
     let part = part_with_bytes(alloc, BATCHES)?;
     for row in rows_without_block() {
@@ -343,6 +407,10 @@ fn parts_end_at_the_last_offset(rt: HostRuntime) {
 }
 
 /// Tests that a part is refused if its end would be past the highest number.
+///
+/// # Errors
+///
+/// That of making a part, unless it is `InvalidArgument`; `Memory`.
 fn check_ends_of_parts(rt: &impl Abort, alloc: Global) -> Result<()> {
     let end = u64::MAX - 58;
     for &(offset, fits) in &[(end, true), (end + 1, false), (u64::MAX, false)] {
@@ -358,6 +426,10 @@ fn check_ends_of_parts(rt: &impl Abort, alloc: Global) -> Result<()> {
 
 /// Tests whether the first `front` bytes of the first `len` bytes of `BATCHES` are readable, and the next batch is
 /// refused for `reason`, or not at all if that is empty.
+///
+/// # Errors
+///
+/// That of the next batch, unless it is `Corruption`; `Memory`.
 fn is_prefix_readable(alloc: Global, len: usize, front: usize, reason: &str) -> Result<bool> {
     let bytes = BATCHES.get(..len).unwrap_or(&[]);
     is_prefix_of_part_readable(&part_with_bytes(alloc, bytes)?, front, reason)
@@ -365,6 +437,10 @@ fn is_prefix_readable(alloc: Global, len: usize, front: usize, reason: &str) -> 
 
 /// Tests whether the first `front` bytes of a part are readable, and the next batch is refused for `reason`, or not at
 /// all if that is empty.
+///
+/// # Errors
+///
+/// That of the next batch, unless it is `Corruption`.
 pub(crate) fn is_prefix_of_part_readable(
     part: &FilePart,
     front: usize,

@@ -91,6 +91,10 @@ fn item_batch_rows() -> &'static [Row] {
 }
 
 /// Returns a batch of a put and a delete.
+///
+/// # Errors
+///
+/// Those of the batch's calls; `Memory`.
 fn batch_of_put_and_delete(alloc: Global) -> Result<LogItemBatch> {
     let mut batch = LogItemBatch::with_capacity(alloc, 2)?;
     let key = Vec::from_slice(alloc, b"put")?;
@@ -112,6 +116,10 @@ pub(crate) fn entry_with_index(index: u64) -> EntryIndex
 }
 
 /// Returns a batch with three entries of region 7, into which one with two entries of region 8 was merged.
+///
+/// # Errors
+///
+/// Those of the batch's calls; `Memory`.
 fn batch_after_merge(alloc: Global) -> Result<LogItemBatch> {
     let mut batch = LogItemBatch::default(alloc);
     batch.add_entry_indexes(
@@ -135,6 +143,10 @@ fn batch_after_merge(alloc: Global) -> Result<LogItemBatch> {
 }
 
 /// Returns the batch that a row names.
+///
+/// # Errors
+///
+/// Those of the batch's calls; `Memory`.
 fn batch_of_row(alloc: Global, made: Made) -> Result<LogItemBatch> {
     match made {
         Made::Empty => Ok(LogItemBatch::default(alloc)),
@@ -143,7 +155,11 @@ fn batch_of_row(alloc: Global, made: Made) -> Result<LogItemBatch> {
     }
 }
 
-/// Makes the bytes of a batch for append file `seq` in a version, and returns them.
+/// Encodes `batch`, signs it for append file `seq` of this version, and returns the bytes.
+///
+/// # Errors
+///
+/// Those of [`LogItemBatch::encode`].
 fn sealed_bytes_in_file(
     alloc: Global,
     batch: &mut LogItemBatch,
@@ -158,6 +174,10 @@ fn sealed_bytes_in_file(
 }
 
 /// Tests whether the batch of a row has its size, its first index, its bytes and its number of items.
+///
+/// # Errors
+///
+/// Those of the batch's calls; `Memory`.
 fn row_holds(alloc: Global, row: &Row) -> Result<bool> {
     let (made, approximate_size, first_index, items, version, seq, bytes) = *row;
     let mut batch = batch_of_row(alloc, made)?;
@@ -176,7 +196,11 @@ fn item_batches_have_the_bytes_of_the_rows(rt: HostRuntime) {
     assert!(rt; again!(check_each_item_batch_row(&rt, rt.alloc())).is_ok());
 }
 
-/// Tests each row.
+/// Asserts that the batch of each row is as [`row_holds`] tests.
+///
+/// # Errors
+///
+/// Those of [`row_holds`].
 fn check_each_item_batch_row(rt: &impl Abort, alloc: Global) -> Result<()> {
     for row in item_batch_rows() {
         assert!(rt; row_holds(alloc, row)?, "of {:?}", row.6);

@@ -14,6 +14,10 @@ use std::io::ErrorKind;
 use std::process::Abort;
 
 /// Returns an item that changes a key of region 7.
+///
+/// # Errors
+///
+/// `Memory` alone.
 fn key_value(alloc: Global, op_type: OpType, key: &[u8], value: Option<&[u8]>) -> Result<LogItem> {
     let key = Vec::from_slice(alloc, key)?;
     let value = match value {
@@ -24,6 +28,10 @@ fn key_value(alloc: Global, op_type: OpType, key: &[u8], value: Option<&[u8]>) -
 }
 
 /// Returns the entries of a row: of each its index, its offset and its length.
+///
+/// # Errors
+///
+/// `Memory` alone.
 fn entries_of_row(alloc: Global, row: &[(u64, u32, u32)]) -> Result<Vec<EntryIndex>> {
     let mut entries = Vec::new(alloc);
     for &(index, entry_offset, entry_len) in row {
@@ -38,6 +46,10 @@ fn entries_of_row(alloc: Global, row: &[(u64, u32, u32)]) -> Result<Vec<EntryInd
 }
 
 /// Returns an item of region 7 with a content.
+///
+/// # Errors
+///
+/// `Memory` alone.
 fn item_with_content(alloc: Global, content: Content) -> Result<LogItem> {
     Ok(match content {
         Content::Clean => LogItem::new_command(7, Command::Clean),
@@ -52,6 +64,10 @@ fn item_with_content(alloc: Global, content: Content) -> Result<LogItem> {
 /// Tests whether an item with the content of a row is written behind two bytes as region, type and the bytes of the
 /// row, and read from these again, but for the value of a removal; or, where the row has no bytes, whether both the
 /// item and the content alone are refused, and nothing is written.
+///
+/// # Errors
+///
+/// That of writing or reading the item, unless it is an `InvalidArgument` of writing; `Memory`.
 fn content_row_holds(alloc: Global, row: &ContentRow) -> Result<bool> {
     let (content, bytes) = *row;
     let item = item_with_content(alloc, content)?;
@@ -72,6 +88,10 @@ fn content_row_holds(alloc: Global, row: &ContentRow) -> Result<bool> {
 }
 
 /// Writes a content without region and type.
+///
+/// # Errors
+///
+/// `InvalidArgument` if the content can't be written; `Memory`. `buf` is unchanged then.
 fn encode_content(content: &LogItemContent, buf: &mut Vec<u8>) -> Result<()> {
     match content {
         LogItemContent::EntryIndexes(entries) => entries.encode(buf),
@@ -82,6 +102,10 @@ fn encode_content(content: &LogItemContent, buf: &mut Vec<u8>) -> Result<()> {
 
 /// Tests whether a content without region and type is refused as `InvalidArgument`, and nothing is written behind two
 /// bytes.
+///
+/// # Errors
+///
+/// That of writing the content, unless it is `InvalidArgument`; `Memory`.
 fn is_content_unwritable(alloc: Global, content: &LogItemContent) -> Result<bool> {
     let mut buf = Vec::from_slice(alloc, b"ab")?;
     match encode_content(content, &mut buf) {
@@ -92,6 +116,10 @@ fn is_content_unwritable(alloc: Global, content: &LogItemContent) -> Result<bool
 }
 
 /// Tests whether an item is read from these bytes, and nothing is left.
+///
+/// # Errors
+///
+/// Those of [`LogItem::decode`].
 fn is_item_read(alloc: Global, item: &LogItem, bytes: &[u8]) -> Result<bool> {
     let mut rest = bytes;
     let mut size = 0;
@@ -101,6 +129,10 @@ fn is_item_read(alloc: Global, item: &LogItem, bytes: &[u8]) -> Result<bool> {
 
 /// Reads an item, or a content as that of region 7, at the start of `buf`, and moves `buf` behind it. `size` is how
 /// many entry bytes come before its entries, and then how many come before those of the next item.
+///
+/// # Errors
+///
+/// Those of the decoder. `buf` and `size` are unchanged then.
 fn decode_in_form(alloc: Global, form: Form, buf: &mut &[u8], size: &mut u32) -> Result<LogItem> {
     let content = match form {
         Form::Item => return LogItem::decode(alloc, buf, size),
@@ -115,6 +147,10 @@ fn decode_in_form(alloc: Global, form: Form, buf: &mut &[u8], size: &mut u32) ->
 }
 
 /// Tests whether an item, or its content alone if `form` says so, is written as these bytes.
+///
+/// # Errors
+///
+/// Those of the encoder; `Memory`.
 fn is_item_written_as(alloc: Global, form: Form, item: &LogItem, bytes: &[u8]) -> Result<bool> {
     let mut buf = Vec::new(alloc);
     match form {
@@ -125,6 +161,10 @@ fn is_item_written_as(alloc: Global, form: Form, item: &LogItem, bytes: &[u8]) -
 }
 
 /// Tests whether the clones of an item, of its content and of the parts of that are equal to what they are made of.
+///
+/// # Errors
+///
+/// `Memory` alone.
 fn are_clones_equal(item: &LogItem) -> Result<bool> {
     let is_content_cloned = match &item.content {
         LogItemContent::EntryIndexes(entries) => entries.clone()? == *entries,
@@ -148,6 +188,10 @@ fn is_expected_error(read: Read, e: &Error) -> bool {
 
 /// Tests whether what a row says is read at the start of its bytes, written as the same bytes, and cloned; or whether
 /// it is refused as the row says, and nothing is read.
+///
+/// # Errors
+///
+/// `Memory`, and those of writing the item again. Any error of reading is compared with the row's.
 fn read_row_holds(alloc: Global, row: &ReadRow) -> Result<bool> {
     let (form, bytes, read) = *row;
     let start = match form {
@@ -174,6 +218,10 @@ fn read_row_holds(alloc: Global, row: &ReadRow) -> Result<bool> {
 
 /// Tests whether the change of the group markers' key in a row is parsed as the group marker of the row, as none, or is
 /// refused for its reason.
+///
+/// # Errors
+///
+/// That of parsing the marker, unless it is the one of the row; `Memory`.
 fn marker_row_holds(alloc: Global, row: &MarkerRow) -> Result<bool> {
     let (op_type, value, marker) = *row;
     let item = key_value(alloc, op_type, &ATOMIC_GROUP_KEY, value)?;
@@ -185,6 +233,10 @@ fn marker_row_holds(alloc: Global, row: &MarkerRow) -> Result<bool> {
 }
 
 /// Tests whether a put is read in which the length of the value takes two bytes, where one would be enough.
+///
+/// # Errors
+///
+/// Those of the decoder; `Memory`.
 fn is_longer_length_read(alloc: Global) -> Result<bool> {
     let mut rest = b"\x01\x01k\x82\x00vv".as_slice();
     let mut size = 0;
@@ -198,7 +250,12 @@ fn items_have_the_bytes_of_the_rows(rt: HostRuntime) {
     assert!(rt; again!(check_each_item_row(&rt, rt.alloc())).is_ok());
 }
 
-/// Tests each row of contents, of bytes that are read, and of group markers.
+/// Asserts that each row of contents, of bytes that are read, and of group markers holds, and that a longer length is
+/// read.
+///
+/// # Errors
+///
+/// That of a call, unless its row expects it; `Memory`.
 fn check_each_item_row(rt: &impl Abort, alloc: Global) -> Result<()> {
     for (number, row) in rows::content_rows().iter().enumerate() {
         assert!(rt; content_row_holds(alloc, row)?, "content {number}");
@@ -214,6 +271,10 @@ fn check_each_item_row(rt: &impl Abort, alloc: Global) -> Result<()> {
 }
 
 /// Tests whether each shorter prefix of `whole` is refused, and nothing is read.
+///
+/// # Errors
+///
+/// `Memory` alone: any other error is looked at.
 fn are_prefixes_refused(alloc: Global, form: Form, whole: &[u8]) -> Result<bool> {
     for len in 0..whole.len() {
         if !is_refused_and_left(alloc, form, whole.get(..len).unwrap_or(whole))? {
@@ -225,6 +286,10 @@ fn are_prefixes_refused(alloc: Global, form: Form, whole: &[u8]) -> Result<bool>
 
 /// Tests whether bytes are refused as corrupt or as ending too early, and neither they nor the number of entry bytes
 /// has changed, also where there is no memory.
+///
+/// # Errors
+///
+/// `Memory` alone: any other error is looked at.
 fn is_refused_and_left(alloc: Global, form: Form, bytes: &[u8]) -> Result<bool> {
     let mut rest = bytes;
     let mut size = 1;
@@ -249,6 +314,10 @@ fn refusal_for_lacking(lacking: u8) -> Read {
 }
 
 /// Tests whether each shorter prefix of the bytes of a row is refused for what it lacks, and nothing is read.
+///
+/// # Errors
+///
+/// Those of [`read_row_holds`].
 fn prefix_row_holds(alloc: Global, row: &PrefixRow) -> Result<bool> {
     let (form, whole, lacking) = *row;
     for (len, letter) in lacking.iter().enumerate() {
@@ -261,6 +330,10 @@ fn prefix_row_holds(alloc: Global, row: &PrefixRow) -> Result<bool> {
 }
 
 /// Tests whether each shorter prefix of the bytes of an item, if it can be written, is refused.
+///
+/// # Errors
+///
+/// That of writing the item, unless it is `InvalidArgument`; `Memory`.
 fn are_item_prefixes_refused(alloc: Global, item: &LogItem) -> Result<bool> {
     let mut buf = Vec::new(alloc);
     match item.encode(&mut buf) {
@@ -271,6 +344,10 @@ fn are_item_prefixes_refused(alloc: Global, item: &LogItem) -> Result<bool> {
 }
 
 /// Tests whether each shorter prefix of the bytes that are read in a row, if they are, is refused.
+///
+/// # Errors
+///
+/// `Memory` alone.
 fn are_row_prefixes_refused(alloc: Global, row: &ReadRow) -> Result<bool> {
     let (form, bytes, read) = *row;
     match read {
@@ -283,6 +360,10 @@ fn are_row_prefixes_refused(alloc: Global, row: &ReadRow) -> Result<bool> {
 }
 
 /// Tests whether each shorter prefix of the bytes of the change in a row is refused.
+///
+/// # Errors
+///
+/// That of writing the change, unless it is `InvalidArgument`; `Memory`.
 fn are_marker_prefixes_refused(alloc: Global, row: &MarkerRow) -> Result<bool> {
     let (op_type, value, _) = *row;
     are_item_prefixes_refused(alloc, &key_value(alloc, op_type, &ATOMIC_GROUP_KEY, value)?)
@@ -294,7 +375,11 @@ fn shorter_prefixes_are_refused(rt: HostRuntime) {
     assert!(rt; again!(check_prefixes_of_all_rows(&rt, rt.alloc())).is_ok());
 }
 
-/// Tests that shorter prefixes of the bytes of all rows are refused.
+/// Asserts that shorter prefixes of the bytes of all rows are refused.
+///
+/// # Errors
+///
+/// That of writing an item, unless it is `InvalidArgument`; `Memory`.
 fn check_prefixes_of_all_rows(rt: &impl Abort, alloc: Global) -> Result<()> {
     for (number, row) in rows::content_rows().iter().enumerate() {
         let item = item_with_content(alloc, row.0)?;
@@ -318,6 +403,10 @@ fn check_prefixes_of_all_rows(rt: &impl Abort, alloc: Global) -> Result<()> {
 
 /// Tests whether a byte is read as it should be: 1 and 2 as the op types that are written as these bytes, any other
 /// byte not at all, with an error that names the byte.
+///
+/// # Errors
+///
+/// That of reading the byte, unless it is `Corruption`; `Memory`.
 fn is_op_type_byte_read_right(alloc: Global, byte: u8) -> Result<bool> {
     match OpType::from_u8(alloc, byte) {
         Ok(OpType::Put) => Ok(byte == 1 && OpType::Put.to_u8() == 1),
@@ -336,7 +425,11 @@ fn one_and_two_are_op_types(rt: HostRuntime) {
     assert!(rt; again!(check_each_op_type_byte(&rt, rt.alloc())).is_ok());
 }
 
-/// Tests each byte as an op type.
+/// Asserts for each byte that it is read right as an op type.
+///
+/// # Errors
+///
+/// Those of [`is_op_type_byte_read_right`].
 fn check_each_op_type_byte(rt: &impl Abort, alloc: Global) -> Result<()> {
     for byte in 0..=u8::MAX {
         assert!(rt; is_op_type_byte_read_right(alloc, byte)?, "{byte}");

@@ -24,7 +24,11 @@ const VALUE: usize = 1 << 16;
 /// The offset of its item batch: behind the header, the entry bytes and their checksum.
 const ITEM_OFFSET: usize = 16 + 5_000 * LENGTH + 4;
 
-/// Adds the entries to a batch, from index 1 on.
+/// Adds the [`ENTRIES`] large entries to `batch`, from index 1 on.
+///
+/// # Errors
+///
+/// Those of [`LogBatch::add_raw_entries`]; `Memory`. The batch is still open then.
 fn add_large_entries(alloc: Global, batch: &mut LogBatch) -> Result<()>
     requires { batch.old.stage ≡ is_open }
     ensures { OnOk result (batch.new.stage ≡ is_open) }
@@ -47,6 +51,10 @@ fn add_large_entries(alloc: Global, batch: &mut LogBatch) -> Result<()>
 }
 
 /// Makes the bytes of an open batch, and returns them as a part of version 2.
+///
+/// # Errors
+///
+/// `Failed` if the batch isn't open; those of [`LogBatch::finish_populate`] and [`FilePart::new`]; `Memory`.
 fn part_with_batch(alloc: Global, mut batch: LogBatch) -> Result<FilePart> {
     if !batch.is_open() {
         return Err(Error::Failed);
@@ -59,6 +67,10 @@ fn part_with_batch(alloc: Global, mut batch: LogBatch) -> Result<FilePart> {
 }
 
 /// Returns a part with the large batch alone.
+///
+/// # Errors
+///
+/// Those of [`add_large_entries`] and [`part_with_batch`]; `Memory`.
 fn part_with_large_batch(alloc: Global) -> Result<FilePart> {
     let mut batch = LogBatch::default(alloc);
     add_large_entries(alloc, &mut batch)?;
@@ -69,7 +81,7 @@ fn part_with_large_batch(alloc: Global) -> Result<FilePart> {
 }
 
 /// Tests whether there are `len` bytes, all of them equal to `byte`.
-fn are_equal_to(bytes: &[u8], len: usize, byte: u8) -> bool {
+fn are_all_bytes_equal(bytes: &[u8], len: usize, byte: u8) -> bool {
     for found in bytes {
         if *found != byte {
             return false;
@@ -79,6 +91,10 @@ fn are_equal_to(bytes: &[u8], len: usize, byte: u8) -> bool {
 }
 
 /// Tests whether each entry of the large batch in a part has its bytes.
+///
+/// # Errors
+///
+/// Those of [`LogBatch::decode_entries_block`].
 fn has_entry_bytes(alloc: Global, part: &FilePart) -> Result<bool> {
     let block = part.bytes().get(16..).unwrap_or(&[]);
     let place = FileBlockHandle {
@@ -90,7 +106,7 @@ fn has_entry_bytes(alloc: Global, part: &FilePart) -> Result<bool> {
     let mut index = 0u64;
     for text in entries.as_slice().chunks(LENGTH) {
         index = index.saturating_add(1);
-        if !are_equal_to(text, LENGTH, (index % 251) as u8) {
+        if !are_all_bytes_equal(text, LENGTH, (index % 251) as u8) {
             return Ok(false);
         }
     }
@@ -110,7 +126,7 @@ fn is_item_complete(item: &LogItem) -> bool {
             None => false,
         },
         LogItemContent::Kv(kv) => match &kv.value {
-            Some(value) => are_equal_to(value.as_slice(), VALUE, 0xab),
+            Some(value) => are_all_bytes_equal(value.as_slice(), VALUE, 0xab),
             None => false,
         },
         LogItemContent::Command(_) => false,
@@ -118,6 +134,10 @@ fn is_item_complete(item: &LogItem) -> bool {
 }
 
 /// Tests whether the large batch is read as it was made.
+///
+/// # Errors
+///
+/// Those of making and reading the batch; `Memory`.
 fn is_large_batch_read(alloc: Global) -> Result<bool> {
     let part = part_with_large_batch(alloc)?;
     let Some((batch, end)) = next_batch(&part, 0)? else {
@@ -133,7 +153,7 @@ fn is_large_batch_read(alloc: Global) -> Result<bool> {
 
 /// Tests that a batch of large items is read as it was made, with the bytes of each entry.
 #[test]
-fn large_batches_are_read_again(rt: HostRuntime) {
+fn large_batches_are_read_as_they_were_written(rt: HostRuntime) {
     assert!(rt; matches!(again!(is_large_batch_read(rt.alloc())), Ok(true)));
 }
 
@@ -141,6 +161,10 @@ fn large_batches_are_read_again(rt: HostRuntime) {
 const ITEMS: u64 = 10_000;
 
 /// Returns the batch with many items: each compacts a region, up to the number of the region.
+///
+/// # Errors
+///
+/// `Memory` alone: the batch stays open.
 fn batch_with_many_items(alloc: Global) -> Result<LogBatch> {
     let mut batch = LogBatch::default(alloc);
     for id in 0..ITEMS {
@@ -167,6 +191,10 @@ fn count_compactions(items: &[LogItem]) -> Option<u64> {
 }
 
 /// Tests whether the batch with many items is read as it was made.
+///
+/// # Errors
+///
+/// Those of making and reading the batch; `Memory`.
 fn are_many_items_read(alloc: Global) -> Result<bool> {
     let part = part_with_batch(alloc, batch_with_many_items(alloc)?)?;
     let Some((batch, end)) = next_batch(&part, 0)? else {
@@ -177,7 +205,7 @@ fn are_many_items_read(alloc: Global) -> Result<bool> {
 
 /// Tests that a batch of many items is read as it was made.
 #[test]
-fn many_items_are_read_again(rt: HostRuntime) {
+fn batches_of_many_items_are_read_as_they_were_written(rt: HostRuntime) {
     assert!(rt; matches!(again!(are_many_items_read(rt.alloc())), Ok(true)));
 }
 
@@ -188,6 +216,10 @@ const LONG: usize = 700_000;
 const BATCH: usize = 16 + 1 + 2 + 3 + 3 + LONG + 4;
 
 /// Appends the bytes of a long batch, signed for file 12.
+///
+/// # Errors
+///
+/// Those of [`part_with_batch`]; `Memory`. `bytes` is unchanged then.
 fn append_long_batch(alloc: Global, bytes: &mut Vec<u8>) -> Result<()> {
     let mut value = Vec::new(alloc);
     value.resize(LONG, 0xab)?;
@@ -198,6 +230,10 @@ fn append_long_batch(alloc: Global, bytes: &mut Vec<u8>) -> Result<()> {
 }
 
 /// Returns a part of file 12 with three long batches, without its last `missing` bytes.
+///
+/// # Errors
+///
+/// Those of [`append_long_batch`] and [`FilePart::new`].
 fn part_with_long_batches(alloc: Global, missing: usize) -> Result<FilePart> {
     let mut bytes = Vec::new(alloc);
     for _ in 0..3 {
@@ -209,11 +245,19 @@ fn part_with_long_batches(alloc: Global, missing: usize) -> Result<FilePart> {
 
 /// Tests whether a part of three long batches, without its last `missing` bytes, is readable up to `end`, and the batch
 /// there is refused for `reason`.
+///
+/// # Errors
+///
+/// Those of [`part_with_long_batches`] and [`is_prefix_of_part_readable`].
 fn is_readable_to(alloc: Global, missing: usize, end: usize, reason: &str) -> Result<bool> {
     is_prefix_of_part_readable(&part_with_long_batches(alloc, missing)?, end, reason)
 }
 
-/// Tests how far a part of three long batches is readable without its last bytes.
+/// Asserts how far a part of three long batches is readable without its last bytes.
+///
+/// # Errors
+///
+/// Those of [`is_readable_to`].
 fn check_long_parts(rt: &impl Abort, alloc: Global) -> Result<()> {
     for &(missing, end, reason) in &[
         (0, 3 * BATCH, ""),

@@ -64,14 +64,14 @@ const fn line_at(index: u64, text: &'static [u8]) -> Line {
     Line { index, text }
 }
 
-/// Returns a batch with a command for a region.
+/// Returns a batch with a command for a region. Errors: those of the batch's calls; `Memory`.
 fn batch_with_command(alloc: Global, region_id: u64, command: Command) -> Result<LogBatch> {
     let mut batch = LogBatch::default(alloc);
     batch.add_command(region_id, command)?;
     Ok(batch)
 }
 
-/// Returns a batch with a put and a delete.
+/// Returns a batch with a put and a delete. Errors: those of the batch's calls; `Memory`.
 fn batch_with_key_values(alloc: Global) -> Result<LogBatch> {
     let mut batch = LogBatch::with_capacity(alloc, 2)?;
     let key = Vec::from_slice(alloc, b"put")?;
@@ -80,7 +80,7 @@ fn batch_with_key_values(alloc: Global) -> Result<LogBatch> {
     Ok(batch)
 }
 
-/// Returns a batch with lines as the entries of a region.
+/// Returns a batch with lines as the entries of a region. Errors: those of the batch's calls; `Memory`.
 fn batch_with_lines(alloc: Global, region_id: u64, lines: &[Line]) -> Result<LogBatch>
     ensures { IfOk result (λ batch. batch.stage ≡ is_open) }
 {
@@ -89,7 +89,7 @@ fn batch_with_lines(alloc: Global, region_id: u64, lines: &[Line]) -> Result<Log
     Ok(batch)
 }
 
-/// Returns a batch with three entries, of which one has no bytes.
+/// Returns a batch with three entries, of which one has no bytes. Errors: those of the batch's calls; `Memory`.
 fn batch_with_raw_entries(alloc: Global) -> Result<LogBatch>
     ensures { IfOk result (λ batch. batch.stage ≡ is_open) }
 {
@@ -111,7 +111,7 @@ fn batch_with_raw_entries(alloc: Global) -> Result<LogBatch>
     Ok(batch)
 }
 
-/// Returns a batch with three entries, and one item of each other kind.
+/// Returns a batch with three entries, and one item of each other kind. Errors: those of the batch's calls; `Memory`.
 fn batch_with_each_kind_of_item(alloc: Global) -> Result<LogBatch>
     ensures { IfOk result (λ batch. batch.stage ≡ is_open) }
 {
@@ -128,7 +128,8 @@ fn batch_with_each_kind_of_item(alloc: Global) -> Result<LogBatch>
     Ok(batch)
 }
 
-/// Returns three entries of region 7, and two of region 8 in a batch that was merged after theirs.
+/// Returns three entries of region 7, and two of region 8 in a batch that was merged after theirs. Errors: those of the
+/// batch's calls; `Memory`.
 fn batch_after_merge(alloc: Global) -> Result<LogBatch> {
     let mut batch = LogBatch::default(alloc);
     let first = [line_at(10, b"x"), line_at(11, b"x"), line_at(12, b"x")];
@@ -138,7 +139,7 @@ fn batch_after_merge(alloc: Global) -> Result<LogBatch> {
     Ok(batch)
 }
 
-/// Returns a batch with a group marker of this status.
+/// Returns a batch with a group marker of this status. Errors: those of the builder's calls; `Memory`.
 fn batch_with_marker(alloc: Global, status: AtomicGroupStatus) -> Result<LogBatch> {
     let mut builder = AtomicGroupBuilder::with_id(9);
     let mut batch = LogBatch::default(alloc);
@@ -175,7 +176,8 @@ fn has_bytes_in_file<T: ReactiveBytes>(
 }
 
 /// Reads a batch back from its bytes in a file. Returns where its items begin, its entry bytes, and its items, or the
-/// error with which they can't be read; `None` where its header doesn't fit the bytes.
+/// error with which they can't be read; `None` where its header doesn't fit the bytes. Errors: those of reading the
+/// header and the block. That of reading the items is in the result.
 fn read_back(
     alloc: Global,
     bytes: &[u8],
@@ -198,7 +200,7 @@ fn read_back(
 }
 
 /// Tests whether a signed batch's header, entry bytes and item batch are read, as the row says, in the file that it is
-/// signed for.
+/// signed for. Errors: those of reading the batch.
 fn is_read_as_row_says(
     alloc: Global,
     batch: &LogBatch,
@@ -223,6 +225,7 @@ fn is_read_as_row_says(
 }
 
 /// Tests whether an open batch has the size of a row, and then its bytes in five files, from which it is read back.
+/// Errors: those of making the bytes and of reading them.
 fn is_row_made_and_read(alloc: Global, batch: &mut LogBatch, row: &Row) -> Result<bool> {
     if batch.ready() || !batch.is_open() || batch.approximate_size() != row.size {
         return Ok(false);
@@ -249,7 +252,8 @@ fn batches_are_made_and_read_as_in_the_rows(rt: HostRuntime) {
     assert!(rt; again!(check_each_log_batch_row(&rt, rt.alloc())).is_ok());
 }
 
-/// Tests the batch of each row.
+/// Asserts that the batch of each row is made and read as [`is_row_made_and_read`] tests. Errors: those of making the
+/// batches and of reading them; `Memory`.
 fn check_each_log_batch_row(rt: &impl Abort, alloc: Global) -> Result<()> {
     for (number, row) in rows::log_batch_rows().iter().enumerate() {
         let mut batch = open_batch_of_row(alloc, number)?;
@@ -258,7 +262,7 @@ fn check_each_log_batch_row(rt: &impl Abort, alloc: Global) -> Result<()> {
     Ok(())
 }
 
-/// Returns the open batch of the row at position `number`.
+/// Returns the open batch of the row at position `number`. Errors: those of the batch's calls; `Memory`.
 fn open_batch_of_row(alloc: Global, number: usize) -> Result<LogBatch> {
     match number {
         0 => Ok(LogBatch::default(alloc)),
@@ -275,7 +279,7 @@ fn open_batch_of_row(alloc: Global, number: usize) -> Result<LogBatch> {
     }
 }
 
-/// Returns why a call was refused, in a word; an empty text where it wasn't. `Memory` is passed on.
+/// Returns why a call was refused, in a word; an empty text where it wasn't. Errors: `Memory`, if the call returned that.
 fn refusal_of(called: Result<()>) -> Result<&'static str> {
     match called {
         Ok(()) => Ok(""),
@@ -286,7 +290,7 @@ fn refusal_of(called: Result<()>) -> Result<&'static str> {
     }
 }
 
-/// Adds an empty list of entries, given as bytes, to an open batch.
+/// Adds an empty list of entries, given as bytes, to an open batch. Errors: `Failed` if the batch isn't open; `Memory`.
 fn add_no_entries(alloc: Global, batch: &mut LogBatch) -> Result<()> {
     let (indexes, texts) = (Vec::new(alloc), Vec::new(alloc));
     if !batch.is_open() || indexes.len() != texts.len() || !is_consecutive(&indexes) {
@@ -295,7 +299,7 @@ fn add_no_entries(alloc: Global, batch: &mut LogBatch) -> Result<()> {
     batch.add_raw_entries(1, indexes, texts)
 }
 
-/// Makes the call with a number, one of ten, of which the last four aren't refused.
+/// Makes the call with a number, one of ten, of which the last four aren't refused. Errors: those of the call.
 fn make_numbered_call(alloc: Global, batch: &mut LogBatch, number: usize) -> Result<()> {
     if !batch.is_open() {
         return Ok(());
@@ -317,12 +321,12 @@ fn make_numbered_call(alloc: Global, batch: &mut LogBatch, number: usize) -> Res
 
 /// Tests for each addition to a batch why it is refused, if it is, and that a refused one leaves the batch as it was.
 #[test]
-fn refused_additions_leave_the_batch(rt: HostRuntime) {
+fn refused_additions_leave_the_batch_unchanged(rt: HostRuntime) {
     assert!(rt; again!(check_each_refused_addition(&rt, rt.alloc())).is_ok());
 }
 
 /// Tests whether the call with a number, on a batch with a command, is refused for `refusal` and leaves the batch as it
-/// was; or isn't refused, if `refusal` is empty.
+/// was; or isn't refused, if `refusal` is empty. Errors: `Memory`.
 fn is_refused_and_left(alloc: Global, number: usize, refusal: &str) -> Result<bool> {
     let mut batch = batch_with_command(alloc, 8, Command::Clean)?;
     let before = batch.clone()?;
@@ -331,7 +335,7 @@ fn is_refused_and_left(alloc: Global, number: usize, refusal: &str) -> Result<bo
     Ok(refusal_of(called)? == refusal && (refusal.is_empty() || is_left))
 }
 
-/// Tests for each call why it is refused, if it is, and which size the batch has then.
+/// Asserts for each addition why it is refused, if it is, and which size the batch has then. Errors: `Memory`.
 fn check_each_refused_addition(rt: &impl Abort, alloc: Global) -> Result<()> {
     for &(number, refusal, size) in &[
         (0, "invalid argument", 0),
@@ -358,8 +362,8 @@ fn check_each_refused_addition(rt: &impl Abort, alloc: Global) -> Result<()> {
 }
 
 /// Tests whether a batch whose bytes in a file are asked for is then equal to its clone that was signed for the same
-/// file.
-fn is_only_signed(alloc: Global) -> Result<bool> {
+/// file. Errors: those of the batch's calls; `Memory`.
+fn is_only_signed_by_asking_for_bytes(alloc: Global) -> Result<bool> {
     let mut batch = batch_with_each_kind_of_item(alloc)?;
     batch.finish_populate()?;
     let mut signed = batch.clone()?;
@@ -380,8 +384,13 @@ fn is_only_signed(alloc: Global) -> Result<bool> {
 
 /// Tests that asking a batch for its bytes in a file does no more than signing it for that file.
 #[test]
-fn asked_bytes_leave_the_batch(rt: HostRuntime) {
-    assert!(rt; matches!(again!(is_only_signed(rt.alloc())), Ok(true)));
+fn asking_for_bytes_only_signs_the_batch(rt: HostRuntime) {
+    assert!(rt;
+        matches!(
+            again!(is_only_signed_by_asking_for_bytes(rt.alloc())),
+            Ok(true)
+        )
+    );
 }
 
 /// The bytes, in file 12, of a batch that cleans region 8.
@@ -392,7 +401,8 @@ const BEFORE: &[u8] =
 const BEHIND: &[u8] =
     b"\x00\x00\x00\x00\x00\x00\x25\x00\x00\x00\x00\x00\x00\x00\x00\x17\x61\x62\x63\xc2\x41\x24\x35\x02\x08\x02\x01\x07\x01\x02\x0a\x02\x03\xfb\x71\x31\x94";
 
-/// Tests whether an open batch has this size, and whether a copy of it has these bytes in file 12.
+/// Tests whether an open batch has this size, and whether a copy of it has these bytes in file 12. Errors: those of the
+/// batch's calls; `Memory`.
 fn has_size_and_bytes(batch: &LogBatch, size: usize, bytes: &[u8]) -> Result<bool> {
     let mut copy = batch.clone()?;
     if !copy.is_open() || copy.approximate_size() != size {
@@ -406,8 +416,8 @@ fn has_size_and_bytes(batch: &LogBatch, size: usize, bytes: &[u8]) -> Result<boo
 }
 
 /// Tests whether a list whose second line can't be encoded is refused, and leaves an open batch with its items as it
-/// was.
-fn is_left_by_refusal(batch: &mut LogBatch) -> Result<bool> {
+/// was. Errors: `Memory`.
+fn is_left_unchanged_by_refusal(batch: &mut LogBatch) -> Result<bool> {
     let before = batch.clone()?;
     if !batch.is_open() {
         return Ok(false);
@@ -418,11 +428,11 @@ fn is_left_by_refusal(batch: &mut LogBatch) -> Result<bool> {
 }
 
 /// Tests whether a batch has the bytes that it had before, after a list that was refused; and after the next list those
-/// that it would have without the refusal. An empty list then adds nothing.
-fn goes_on_after_refusal(alloc: Global) -> Result<bool> {
+/// that it would have without the refusal. An empty list then adds nothing. Errors: those of the batch's calls; `Memory`.
+fn takes_items_after_refusal(alloc: Global) -> Result<bool> {
     let mut batch = LogBatch::default(alloc);
     batch.add_command(8, Command::Clean)?;
-    if !is_left_by_refusal(&mut batch)?
+    if !is_left_unchanged_by_refusal(&mut batch)?
         || !has_size_and_bytes(&batch, 42, BEFORE)?
         || !batch.is_open()
     {
@@ -435,11 +445,12 @@ fn goes_on_after_refusal(alloc: Global) -> Result<bool> {
 
 /// Tests that a list with a message that can't be encoded leaves the batch as it was, and that the batch goes on.
 #[test]
-fn refused_messages_leave_the_batch(rt: HostRuntime) {
-    assert!(rt; matches!(again!(goes_on_after_refusal(rt.alloc())), Ok(true)));
+fn refused_messages_leave_the_batch_unchanged(rt: HostRuntime) {
+    assert!(rt; matches!(again!(takes_items_after_refusal(rt.alloc())), Ok(true)));
 }
 
-/// Tests whether the builder of a group has the status of the last group marker that it has added.
+/// Tests whether the builder of a group has the status of the last group marker that it has added. Errors: those of the
+/// batch's calls; `Memory`.
 fn has_status_after_each_marker(alloc: Global) -> Result<bool> {
     let mut builder = AtomicGroupBuilder::with_id(9);
     let mut batch = LogBatch::default(alloc);
@@ -459,7 +470,8 @@ fn a_group_builder_has_the_status_of_its_last_marker(rt: HostRuntime) {
     assert!(rt; matches!(again!(has_status_after_each_marker(rt.alloc())), Ok(true)));
 }
 
-/// Tests whether clones of item batches are equal to what they are made of, until an item is added to them.
+/// Tests whether clones of item batches are equal to what they are made of, until an item is added to them. Errors:
+/// `Memory`.
 fn are_item_batch_clones_equal(alloc: Global) -> Result<bool> {
     let mut items = LogItemBatch::default(alloc);
     items.delete(1, Vec::new(alloc))?;
@@ -469,7 +481,8 @@ fn are_item_batch_clones_equal(alloc: Global) -> Result<bool> {
     Ok(same && more != items)
 }
 
-/// Tests whether clones of log batches are equal to what they are made of, until the bytes of one are made.
+/// Tests whether clones of log batches are equal to what they are made of, until the bytes of one are made. Errors: those
+/// of the batch's calls; `Memory`.
 fn are_log_batch_clones_equal(alloc: Global) -> Result<bool> {
     let mut batch = LogBatch::default(alloc);
     AtomicGroupBuilder::with_id(9).begin(&mut batch)?;
@@ -479,7 +492,7 @@ fn are_log_batch_clones_equal(alloc: Global) -> Result<bool> {
     Ok(same && copy != batch)
 }
 
-/// Tests both kinds of batches.
+/// Tests whether clones of item batches and of log batches are equal until one changes. Errors: the batches', `Memory`.
 fn are_all_clones_equal(alloc: Global) -> Result<bool> {
     Ok(are_item_batch_clones_equal(alloc)? && are_log_batch_clones_equal(alloc)?)
 }

@@ -9,6 +9,10 @@ use std::io;
 use std::io::{ErrorKind, Read, Write};
 
 /// Returns the bytes of a batch that puts a value of 100,000 bytes, in a file of version 1.
+///
+/// # Errors
+///
+/// `Memory` alone.
 fn long_batch_bytes(alloc: Global) -> Result<Vec<u8>> {
     let mut bytes = Vec::from_slice(alloc, b"\x01\x01\x03\x01\x01k\xa0\x8d\x06")?;
     bytes.resize(100_009, 0xab)?;
@@ -16,7 +20,11 @@ fn long_batch_bytes(alloc: Global) -> Result<Vec<u8>> {
     Ok(bytes)
 }
 
-/// Prints that batch, and returns the text, if it is the one of the batch.
+/// Prints the batch of [`long_batch_bytes`], and returns the text; `None` if it isn't that of [`batch_text`].
+///
+/// # Errors
+///
+/// Those of [`batch_text`] and [`print_batch`]; `Memory`.
 fn print_long_batch(alloc: Global) -> Result<Option<String>> {
     let context = LogFileContext::new(FileId::new(LogQueue::Append, 0), Version::V1);
     let bytes = long_batch_bytes(alloc)?;
@@ -69,7 +77,11 @@ impl Halting {
         }
     }
 
-    /// Counts a call, or returns its error: each second one is interrupted, and after `fails_behind` calls all fail.
+    /// Counts a call, unless it is interrupted, as the first and each second one after it are.
+    ///
+    /// # Errors
+    ///
+    /// `Interrupted` for these; `BrokenPipe` once `fails_behind` calls are counted.
     fn count_call(&mut self) -> io::Result<()> {
         self.is_interrupted = !self.is_interrupted;
         if self.is_interrupted {
@@ -114,7 +126,7 @@ impl Write for Halting {
         Ok(taken.len())
     }
 
-    /// Does nothing.
+    /// Does nothing, and never fails.
     fn flush(&mut self) -> io::Result<()> {
         Ok(())
     }
@@ -128,6 +140,10 @@ const LINES: &str = "1 clean\nitems 1 rest 0\n";
 
 /// Prints the batch with a reader that fails after so many reads and a writer that fails after so many writes. Returns
 /// what is written, and whether the error of one of them is passed on.
+///
+/// # Errors
+///
+/// That of printing, unless it is the `BrokenPipe` of the reader or the writer; `Memory`.
 fn print_with_failures(alloc: Global, reads: usize, writes: usize) -> Result<(Vec<u8>, bool)> {
     let context = LogFileContext::new(FileId::new(LogQueue::Append, 12), Version::V1);
     let mut reader = Halting::new(Vec::from_slice(alloc, CLEAN)?, reads);
@@ -141,12 +157,20 @@ fn print_with_failures(alloc: Global, reads: usize, writes: usize) -> Result<(Ve
 }
 
 /// Tests whether the first `len` bytes of the lines are written, and there is an error unless these are all.
+///
+/// # Errors
+///
+/// Those of [`print_with_failures`].
 fn are_first_lines_printed(alloc: Global, reads: usize, writes: usize, len: usize) -> Result<bool> {
     let (written, is_refused) = print_with_failures(alloc, reads, writes)?;
     Ok(LINES.as_bytes().get(..len) == Some(written.as_slice()) && is_refused == (len < LINES.len()))
 }
 
-/// Tests that nothing is written where a read fails, and that what earlier writes took is written where a write fails.
+/// Tests whether nothing is written where a read fails, and what earlier writes took is there where a write fails.
+///
+/// # Errors
+///
+/// Those of [`print_with_failures`].
 fn are_all_failures_returned(alloc: Global) -> Result<bool> {
     for reads in 0..4 {
         if !are_first_lines_printed(alloc, reads, 8, 0)? {

@@ -18,6 +18,10 @@ pub(crate) const FIRST: usize = 96;
 
 /// Reads the batch at byte `at` of a part in place of the one that `batch` has. Returns where the next batch begins;
 /// `None` at the end of the part and behind it.
+///
+/// # Errors
+///
+/// Those of [`ReadBatch::read_next`]. `batch` has no items then.
 fn read_at<'a>(batch: &mut ReadBatch<'a>, part: &'a FilePart, at: usize) -> Result<Option<usize>> {
     if at > part.bytes().len() {
         return Ok(None);
@@ -33,6 +37,10 @@ fn has_no_items(batch: &ReadBatch<'_>) -> bool {
 }
 
 /// Tests whether a batch has `count` items, those of the batch at byte `at` of a part, or none at the end of the part.
+///
+/// # Errors
+///
+/// Those of [`next_batch`]; `Memory`.
 fn has_items_at(
     alloc: Global,
     batch: &ReadBatch<'_>,
@@ -88,6 +96,10 @@ fn batches_are_read_in_place_of_one_another(rt: HostRuntime) {
 }
 
 /// Tests that each batch is read into the memory of the one before it, in any order.
+///
+/// # Errors
+///
+/// Those of reading the batches; `Memory`.
 fn check_batches_read_in_turn(rt: &impl Abort, alloc: Global) -> Result<()> {
     let part = part_with_bytes(alloc, BATCHES)?;
     let mut batch = ReadBatch::new(alloc, FILE);
@@ -112,6 +124,10 @@ fn damaged_batches_hold_no_items(rt: HostRuntime) {
 
 /// Tests that a batch with a flipped bit, anywhere but in its entry block, leaves no items when it is read in place of
 /// another one.
+///
+/// # Errors
+///
+/// Those of [`is_flipped_bit_refused`].
 fn check_damaged_batches_in_turn(rt: &impl Abort, alloc: Global) -> Result<()> {
     for at in (FIRST..FIRST + 16).chain(FIRST + 22..138) {
         assert!(rt; is_flipped_bit_refused(alloc, at)?, "at {at}");
@@ -121,6 +137,10 @@ fn check_damaged_batches_in_turn(rt: &impl Abort, alloc: Global) -> Result<()> {
 
 /// Flips the lowest bit of the byte at `at`, and tests whether the second batch is refused and leaves no items, and the
 /// first one is read before and again.
+///
+/// # Errors
+///
+/// Those of reading the first batch; `Memory`. Any error of reading the second is looked at.
 fn is_flipped_bit_refused(alloc: Global, at: usize) -> Result<bool> {
     let mut bytes = *BATCHES;
     if let Some(byte) = bytes.get_mut(at) {

@@ -271,6 +271,10 @@ fn refusal_rows() -> &'static [Row] {
 }
 
 /// Tests whether a result is `Corruption` with this text, or `Codec` if the text is empty.
+///
+/// # Errors
+///
+/// That of `answer`, unless it is `Corruption` or `Codec`.
 pub(crate) fn is_corruption_with_text<T: Drop>(answer: Result<T>, text: &str) -> Result<bool> {
     match answer {
         Ok(_read) => Ok(false),
@@ -281,6 +285,10 @@ pub(crate) fn is_corruption_with_text<T: Drop>(answer: Result<T>, text: &str) ->
 }
 
 /// Reads the start of `buf` in a form, and returns the entry bytes; none for a header.
+///
+/// # Errors
+///
+/// Those of the decoder; `Failed` for an item batch that has items.
 fn decode_in_form(alloc: Global, form: Form, buf: &mut &[u8]) -> Result<Vec<u8>> {
     match form {
         Form::Header => {
@@ -295,7 +303,11 @@ fn decode_in_form(alloc: Global, form: Form, buf: &mut &[u8]) -> Result<Vec<u8>>
     }
 }
 
-/// Reads an item batch, and returns no bytes; `Failed` where it has items.
+/// Reads an item batch that has no items, and returns no bytes.
+///
+/// # Errors
+///
+/// Those of [`LogItemBatch::decode`]; `Failed` if the batch has items.
 fn decode_batch_without_items(
     alloc: Global,
     buf: &mut &[u8],
@@ -311,6 +323,10 @@ fn decode_batch_without_items(
 }
 
 /// Tests whether the bytes of a row are read as it says, or refused as it says, and nothing is read.
+///
+/// # Errors
+///
+/// That of the decoder, unless it is the one of the row.
 fn row_holds(alloc: Global, row: &Row) -> Result<bool> {
     let (form, bytes, owed) = *row;
     let mut buf = bytes;
@@ -323,11 +339,15 @@ fn row_holds(alloc: Global, row: &Row) -> Result<bool> {
 
 /// Tests that the bytes of each row are read, or are refused with its text and left unread.
 #[test]
-fn bytes_are_read_or_refused_and_left(rt: HostRuntime) {
+fn bytes_are_read_or_refused_and_left_unread(rt: HostRuntime) {
     assert!(rt; again!(check_each_refusal_row(&rt, rt.alloc())).is_ok());
 }
 
-/// Tests each row.
+/// Asserts that each row is read or refused as [`row_holds`] tests.
+///
+/// # Errors
+///
+/// Those of [`row_holds`].
 fn check_each_refusal_row(rt: &impl Abort, alloc: Global) -> Result<()> {
     for row in refusal_rows() {
         assert!(rt; row_holds(alloc, row)?, "at {:?}", row.1);

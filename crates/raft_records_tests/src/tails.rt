@@ -202,11 +202,19 @@ fn tail_rows() -> &'static [Row] {
 }
 
 /// Returns these bytes as the part of file 12 from offset 100 on.
+///
+/// # Errors
+///
+/// `Memory` alone: the bytes end far below the highest offset.
 fn part_with_bytes(alloc: Global, version: Version, bytes: &[u8]) -> Result<FilePart> {
     FilePart::new(FILE, version, 100, Vec::from_slice(alloc, bytes)?)
 }
 
 /// Tests whether the bytes from `at` on can be what is left of a single batch.
+///
+/// # Errors
+///
+/// Those of [`is_broken_off`].
 fn is_rest_of_one_batch(part: &FilePart, at: usize) -> Result<bool> {
     if at > part.bytes().len() {
         return Ok(false);
@@ -216,6 +224,10 @@ fn is_rest_of_one_batch(part: &FilePart, at: usize) -> Result<bool> {
 
 /// Tests whether the next sound batch, the next one that is signed for another file, and whether the tail can be a
 /// part of one batch, are as in a row.
+///
+/// # Errors
+///
+/// Those of [`next_sound`], [`signed_elsewhere`] and [`is_broken_off`]; `Memory`.
 fn row_holds(alloc: Global, row: &Row) -> Result<bool> {
     let part = part_with_bytes(alloc, row.version, row.bytes)?;
     let found = (
@@ -228,11 +240,15 @@ fn row_holds(alloc: Global, row: &Row) -> Result<bool> {
 /// Tests for each tail where the next sound batch is, where one signed for another file, and whether it is the rest
 /// of one batch.
 #[test]
-fn stops_are_told_apart(rt: HostRuntime) {
+fn torn_tails_are_told_from_damaged_batches(rt: HostRuntime) {
     assert!(rt; again!(check_each_tail_row(&rt, rt.alloc())).is_ok());
 }
 
-/// Tests each row.
+/// Asserts that each tail is told apart as [`row_holds`] tests.
+///
+/// # Errors
+///
+/// Those of [`row_holds`].
 fn check_each_tail_row(rt: &impl Abort, alloc: Global) -> Result<()> {
     for row in tail_rows() {
         let from = row.from;
@@ -243,12 +259,16 @@ fn check_each_tail_row(rt: &impl Abort, alloc: Global) -> Result<()> {
 
 /// Tests that each shorter prefix of a batch can be what is left of one batch, and that the whole batch can't.
 #[test]
-fn prefixes_of_a_batch_can_be_its_rest(rt: HostRuntime) {
+fn only_shorter_prefixes_can_be_the_rest_of_a_batch(rt: HostRuntime) {
     assert!(rt; again!(check_prefixes_of_a_batch(&rt, rt.alloc())).is_ok());
 }
 
-/// Tests that each shorter prefix of a batch with items of all kinds can be what is left of one batch, and that the
+/// Asserts that each shorter prefix of a batch with items of all kinds can be what is left of one batch, and that the
 /// whole batch can't, also where its header gives a length that passes the end.
+///
+/// # Errors
+///
+/// Those of [`is_prefix_rest_of_one_batch`].
 fn check_prefixes_of_a_batch(rt: &impl Abort, alloc: Global) -> Result<()> {
     for len in 0..=FIRST {
         assert!(rt;
@@ -265,6 +285,10 @@ fn check_prefixes_of_a_batch(rt: &impl Abort, alloc: Global) -> Result<()> {
 
 /// Tests whether the first `len` bytes of `BATCHES`, with some bits of the first length flipped, can be what is left of
 /// a single batch.
+///
+/// # Errors
+///
+/// Those of [`is_broken_off`]; `Memory`.
 fn is_prefix_rest_of_one_batch(alloc: Global, len: usize, bits: u8) -> Result<bool> {
     let mut bytes = Vec::from_slice(alloc, BATCHES)?;
     if let Some(byte) = bytes.get_mut(6) {

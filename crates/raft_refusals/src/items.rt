@@ -85,8 +85,8 @@ fn encode_content(content: &Content, out: &mut Vec<u8>) -> Result<()> {
 }
 
 /// Reads `bytes` as a value of this `form`, and writes the value after the byte 0x21. Adds a line with these
-/// bytes in hexadecimal digits. If a call returns `Memory`, notes in `found` whether it has changed nothing:
-/// of reading the slice and the number of entry bytes, of writing the byte 0x21.
+/// bytes in hexadecimal digits. If a call returns `Memory`, notes in `found` whether it has changed nothing: a
+/// reading leaves the slice and the number of entry bytes as they were, a writing the byte 0x21 alone.
 ///
 /// # Errors
 ///

@@ -1,4 +1,7 @@
 //! Names that `raft_base` exports, other than those of codecs.
+//!
+//! Each function pins names or types: it compiles only as long as these are there as it writes them. None is called for
+//! its effect, but where the test at the end says so.
 
 use raft_base::{
     AllocResult, B, CompressionType, EntryIndex, Error, Factory, FileBlockHandle, FileId, FileSeq,
@@ -55,6 +58,8 @@ fn refused_with(error: MessageError) -> Option<u32> {
     }
 }
 
+/// Compiles only as long as an `Error` can be made of an `io::Error`, a `codec::Error`, a `MessageError` and an
+/// `AllocError`, and a `codec::Error` of an `io::Error`.
 fn errors_of_others() {
     let _of_io: fn(io::Error) -> Error = <Error as From<io::Error>>::from;
     let _of_codec: fn(codec::Error) -> Error = <Error as From<codec::Error>>::from;
@@ -75,6 +80,8 @@ fn number_of(error: SizeError) -> u8 {
     }
 }
 
+/// Compiles only as long as a `ReadableSize` is made by `kb`, `mb`, `gb`, a text and a TOML value, turned into
+/// megabytes, divided and multiplied.
 fn sizes() {
     let _kb: fn(u64) -> ReadableSize = ReadableSize::kb;
     let _mb: fn(u64) -> ReadableSize = ReadableSize::mb;
@@ -95,6 +102,8 @@ fn bytes_of(size: ReadableSize) -> u64 {
     bytes
 }
 
+/// Compiles only as long as `raft_base` exports `hash_u64`, `unhash_u64`, `crc32`, `round_up` and `round_down` with
+/// these types.
 fn utilities() {
     let _hash_u64: fn(u64) -> u64 = hash_u64;
     let _unhash_u64: fn(u64) -> u64 = unhash_u64;
@@ -103,7 +112,7 @@ fn utilities() {
     let _round_down: fn(usize, usize) -> usize = round_down;
 }
 
-/// Names the utilities again, under the path of their module.
+/// Compiles only as long as the module `util` has the utilities too.
 fn utilities_by_module() {
     let _hash_u64: fn(u64) -> u64 = util::hash_u64;
     let _crc32: fn(&[u8]) -> u32 = util::crc32;
@@ -127,6 +136,9 @@ fn number_of_file(seq: FileSeq) -> u64 {
     seq
 }
 
+/// Compiles only as long as these have these types: `new` of `FileId`; `other` of `LogQueue`; `new` and `get_signature`
+/// of `LogFileContext`; `from_u64`, `to_u64` and `has_log_signing` of `Version`; `from_u8` and `to_u8` of
+/// `CompressionType`.
 fn files() {
     let _new: fn(LogQueue, FileSeq) -> FileId = FileId::new;
     let _other: fn(LogQueue) -> LogQueue = LogQueue::other;
@@ -139,7 +151,7 @@ fn files() {
     let _to_u8: fn(CompressionType) -> u8 = CompressionType::to_u8;
 }
 
-/// Names types under the paths of their modules.
+/// Compiles only as long as types stand under the paths of their modules too.
 fn types_by_module() {
     let _entry: entry_index::EntryIndex = EntryIndex::default();
     let _compression: compression_type::CompressionType = CompressionType::None;
@@ -149,6 +161,7 @@ fn types_by_module() {
     let _version: pipe_log::Version = Version::default();
 }
 
+/// Compiles only as long as `ReactiveBytes::ready` takes `bytes`, and returns `bool`.
 fn ready_of_reactive_bytes<T: ReactiveBytes>(bytes: &T) -> bool {
     T::ready(bytes)
 }
@@ -161,6 +174,7 @@ fn as_bytes_of_loans<'a, T: AsSlice<u8>>(
     <&T as ReactiveBytes>::as_bytes(bytes, context)
 }
 
+/// Compiles only as long as `PipeLog::append` takes `pipe`, `queue` and `bytes`, and returns `Result<FileBlockHandle>`.
 fn append_of_pipes<P: PipeLog>(
     pipe: &P,
     queue: LogQueue,
@@ -169,11 +183,13 @@ fn append_of_pipes<P: PipeLog>(
     P::append::<&Vec<u8>>(pipe, queue, bytes)
 }
 
+/// Compiles only as long as `PipeLog::file_at` takes `pipe`, `queue` and `num`, and returns `FileSeq`.
 fn file_at_of_pipes<P: PipeLog>(pipe: &P, queue: LogQueue, num: u64) -> FileSeq {
     let den: u64 = 3;
     P::file_at(pipe, queue, num, den)
 }
 
+/// Compiles only as long as `PipeLog::read_bytes` takes `pipe`, `alloc` and `handle`, and returns `Result<Vec<u8>>`.
 fn read_bytes_of_pipes<P: PipeLog, T: ReactiveBytes>(
     pipe: &P,
     alloc: Global,
@@ -182,10 +198,12 @@ fn read_bytes_of_pipes<P: PipeLog, T: ReactiveBytes>(
     P::read_bytes(pipe, alloc, handle)
 }
 
+/// Compiles only as long as `PipeLog::sync` takes `pipe` and `queue`, and returns `Result<()>`.
 fn sync_of_pipes<P: PipeLog, T: ReactiveBytes>(pipe: &P, queue: LogQueue) -> Result<()> {
     P::sync(pipe, queue)
 }
 
+/// Compiles only as long as `PipeLog::file_span` takes `pipe` and `queue`, and returns `(FileSeq, FileSeq)`.
 fn file_span_of_pipes<P: PipeLog, T: ReactiveBytes>(
     pipe: &P,
     queue: LogQueue,
@@ -193,22 +211,28 @@ fn file_span_of_pipes<P: PipeLog, T: ReactiveBytes>(
     P::file_span(pipe, queue)
 }
 
+/// Compiles only as long as `PipeLog::total_size` takes `pipe` and `queue`, and returns `usize`.
 fn total_size_of_pipes<P: PipeLog, T: ReactiveBytes>(pipe: &P, queue: LogQueue) -> usize {
     P::total_size(pipe, queue)
 }
 
+/// Compiles only as long as `PipeLog::rotate` takes `pipe` and `queue`, and returns `Result<()>`.
 fn rotate_of_pipes<P: PipeLog, T: ReactiveBytes>(pipe: &P, queue: LogQueue) -> Result<()> {
     P::rotate(pipe, queue)
 }
 
+/// Compiles only as long as `PipeLog::purge_to` takes `pipe` and `file`, and returns `Result<usize>`.
 fn purge_to_of_pipes<P: PipeLog, T: ReactiveBytes>(pipe: &P, file: FileId) -> Result<usize> {
     P::purge_to(pipe, file)
 }
 
+/// Compiles only as long as `Factory::new_target` takes `factory` and `alloc`, and returns `Result<T>`.
 fn new_target_of_factories<T, F: Factory<T>>(factory: &F, alloc: Global) -> Result<T> {
     F::new_target(factory, alloc)
 }
 
+/// Compiles only as long as `Message::write_to_vec` takes `message` and `key`, and returns `std::result::Result<(),
+/// MessageError>`.
 fn write_to_vec_of_messages<S: Message, M: MessageExt>(
     message: &S,
     key: &mut Vec<u8>,
@@ -216,6 +240,7 @@ fn write_to_vec_of_messages<S: Message, M: MessageExt>(
     S::write_to_vec(message, key)
 }
 
+/// Compiles only as long as `MessageExt::index` takes `entry`, and returns `u64`.
 fn index_of_messages<S: Message, M: MessageExt>(entry: &M::Entry) -> u64 {
     M::index(entry)
 }
@@ -260,6 +285,7 @@ fn entry(number: u64, seq: FileSeq, len: usize, entry_len: u32) -> (EntryIndex, 
     (entry, LogFileContext { id, version })
 }
 
+/// Tests that the names above are exported with these types, and that what they give is as it is written here.
 #[test]
 fn base_is_handed_on(rt: HostRuntime) {
     errors_of_others();

@@ -1,4 +1,7 @@
 //! Contexts and the laws of histories, which `raft_memtable` exports.
+//!
+//! Each function pins names or types: it compiles only as long as these are there as it writes them. None is called for
+//! its effect, but where the test at the end says so.
 
 use raft_memtable::contexts::{exact_contexts_are_one_reading, merges_stand_for_both};
 use raft_memtable::effects::effects_are_stretches;
@@ -13,6 +16,8 @@ use raft_memtable::{
 use raft_records::ReadBatch;
 use std::alloc::Global;
 
+/// Compiles only as long as these have these types: `new`, `reads_on`, `replay`, `merge`, `merge_append_context`,
+/// `finish` and `kept` of `MemTableRecoverContext`; `new` of `RegionMarks`.
 fn contexts() {
     let _new: fn(Global) -> Result<MemTableRecoverContext> = MemTableRecoverContext::new;
     let _reads_on: fn(&MemTableRecoverContext) -> bool = MemTableRecoverContext::reads_on;
@@ -28,6 +33,7 @@ fn contexts() {
     let _marks: fn(Global) -> RegionMarks = RegionMarks::new;
 }
 
+/// Compiles only as long as `ReplayMachine::replay` takes `machine`, `batch` and `file`, and returns `Result<()>`.
 fn replay_of_machines<M: ReplayMachine>(
     machine: &mut M,
     batch: LogItemBatch,
@@ -36,6 +42,8 @@ fn replay_of_machines<M: ReplayMachine>(
     M::replay(machine, batch, file)
 }
 
+/// Compiles only as long as `MemTableRecoverContext::replay_read` takes `context`, `batch` and `file`, and returns
+/// `Result<()>`.
 fn replay_read_of_contexts(
     context: &mut MemTableRecoverContext,
     batch: &ReadBatch<'_>,
@@ -44,6 +52,7 @@ fn replay_read_of_contexts(
     MemTableRecoverContext::replay_read(context, batch, file)
 }
 
+/// Compiles only as long as `ReplayMachine::replay_read` takes `machine`, `batch` and `file`, and returns `Result<()>`.
 fn replay_read_of_machines<M: ReplayMachine>(
     machine: &mut M,
     batch: &ReadBatch<'_>,
@@ -52,10 +61,12 @@ fn replay_read_of_machines<M: ReplayMachine>(
     M::replay_read(machine, batch, file)
 }
 
+/// Compiles only as long as `ReplayMachine::merge` takes `machine`, `rhs` and `queue`, and returns `Result<()>`.
 fn merge_of_machines<M: ReplayMachine>(machine: &mut M, rhs: M, queue: LogQueue) -> Result<()> {
     M::merge(machine, rhs, queue)
 }
 
+/// Compiles only for a type that can go to another thread.
 fn is_sent<T: Send>() {}
 
 /// Compiles only if every machine that batches are replayed into can go to another thread.
@@ -63,12 +74,14 @@ fn is_sent_machine<M: ReplayMachine>() {
     is_sent::<M>();
 }
 
+/// Compiles only as long as the factory of contexts is made by `new`, and makes a context by `new_target`.
 fn factories() {
     let _new: fn() -> MemTableRecoverContextFactory = MemTableRecoverContextFactory::new;
     let _new_target: fn(&MemTableRecoverContextFactory, Global) -> Result<MemTableRecoverContext> =
         <MemTableRecoverContextFactory as Factory<MemTableRecoverContext>>::new_target;
 }
 
+/// Compiles only as long as `raft_memtable` exports the laws of histories under these names.
 fn laws() {
     exact_contexts_are_one_reading();
     merges_stand_for_both();
@@ -91,6 +104,7 @@ fn numbers_of(kept: Kept) -> [u128; 6] {
     ]
 }
 
+/// Tests that the names above are exported with these types, and that what they give is as it is written here.
 #[test]
 fn contexts_are_handed_on(rt: HostRuntime) {
     contexts();

@@ -1,5 +1,7 @@
 //! Definitions of each library, named in contracts of a crate that lists only the four crates which users
 //! import from.
+//!
+//! Each function pins names of definitions: its contract compiles only as long as these are there. None is called.
 
 ghost use Rattle.std.specs.Prelude.{◌≡◌, [], ◌∷◌, IfOk, IsTrue};
 ghost use Rattle.raft_base.specs.declared.pipe_log.LogQueue.TheVariants.{Append};
@@ -38,7 +40,8 @@ use std::alloc::Global;
 use std::str::FromStr;
 use std::thread::Threads;
 
-/// Names definitions of `raft_codec` in a condition on the caller.
+/// Tests whether no number begins `bytes`. Names `HasNoFront` and `IsVarint` of `raft_codec` in a condition on the
+/// caller.
 fn is_no_number(bytes: &[u8]) -> bool
     requires { HasNoFront IsVarint bytes.now }
 {
@@ -46,21 +49,26 @@ fn is_no_number(bytes: &[u8]) -> bool
     decode_var_u64(&mut rest).is_err()
 }
 
-/// Names definitions of `raft_codec` in a promise.
+/// Returns the number at the front of `bytes`, which move on behind it. Names `Reads` and `IsNumber` of `raft_codec` in
+/// a promise.
+///
+/// # Errors
+///
+/// Those of `decode_var_u64`.
 fn number_in_front(bytes: &mut BytesSlice<'_>) -> codec::Result<u64>
     ensures { IfOk result (Reads IsNumber bytes.old.now bytes.new.now) }
 {
     decode_var_u64(bytes)
 }
 
-/// Names a definition of the errors of `raft_codec`.
+/// Tests whether an error is `Io`. Names `IsIo` of `raft_codec` in a condition on the caller.
 fn is_io(error: &codec::Error) -> bool
     requires { IsIo error.now }
 {
     matches!(error, codec::Error::Io(_))
 }
 
-/// Names definitions of `raft_checksum`.
+/// Tests whether `checksum` is that of `bytes`. Names `crc32_of` of `raft_checksum`.
 fn has_checksum(bytes: &[u8], checksum: u32) -> bool
     requires { checksum ≡ crc32_of bytes.now }
     ensures { IsTrue result }
@@ -68,28 +76,36 @@ fn has_checksum(bytes: &[u8], checksum: u32) -> bool
     crc32(bytes) == checksum
 }
 
-/// Names definitions of `raft_size`.
+/// Reads a text that stands for 1,024 bytes. Names `IsSizeText` of `raft_size`.
+///
+/// # Errors
+///
+/// Those of `ReadableSize::from_str`.
 fn size_of_text(text: &str) -> std::result::Result<ReadableSize, SizeError>
     requires { IsSizeText text.now 1024 }
 {
     ReadableSize::from_str(text)
 }
 
-/// Names definitions of `raft_size`, as `raft_records` hands it on.
+/// Reads a text that stands for 1,024 bytes. Names `IsSizeText`, as `raft_records` hands it on.
+///
+/// # Errors
+///
+/// Those of `ReadableSize::from_str`.
 fn size_of_record_text(text: &str) -> std::result::Result<ReadableSize, SizeError>
     requires { IsTextOfSize text.now 1024 }
 {
     ReadableSize::from_str(text)
 }
 
-/// Names definitions of `raft_base`.
+/// Returns the signature of a file's batches. Names `signature_of` of `raft_base` in a promise.
 fn signature(context: &LogFileContext) -> Option<u32>
     ensures { result ≡ signature_of context.now }
 {
     context.get_signature()
 }
 
-/// Names definitions of `raft_records`.
+/// Tests whether entries are consecutive. Names `IsConsecutive` of `raft_records` in a condition on the caller.
 fn are_consecutive(entries: &[EntryIndex]) -> bool
     requires { IsConsecutive entries.now }
     ensures { IsTrue result }
@@ -97,7 +113,11 @@ fn are_consecutive(entries: &[EntryIndex]) -> bool
     is_consecutive(entries)
 }
 
-/// Names definitions of `raft_table`.
+/// Appends a run to a table. Names `IsRunIn` and `IsCounted` of `raft_table` in conditions on the caller.
+///
+/// # Errors
+///
+/// Those of `MemTable::append`.
 fn append(table: &mut MemTable, run: Vec<EntryIndex>, stats: &mut GlobalStats) -> Result<()>
     requires run { IsRunIn Append run.items }
     requires counted { IsCounted table.old stats.old }
@@ -105,7 +125,7 @@ fn append(table: &mut MemTable, run: Vec<EntryIndex>, stats: &mut GlobalStats) -
     table.append(run, stats)
 }
 
-/// Names definitions of `raft_table`.
+/// Drops the entries below index 5, and returns how many these were. Names `IsCounted` and `from` of `raft_table`.
 fn compact(table: &mut MemTable, stats: &mut GlobalStats) -> u64
     requires { IsCounted table.old stats.old }
     ensures { table.new ≡ record table.old { entries = from 5 table.old.entries } }
@@ -113,7 +133,11 @@ fn compact(table: &mut MemTable, stats: &mut GlobalStats) -> u64
     table.compact_to(5, stats)
 }
 
-/// Names definitions of `raft_history`.
+/// Replays the first batch of a machine. Names `IsSmall` and `event` of `raft_history` in conditions on the caller.
+///
+/// # Errors
+///
+/// Those of `ReplayMachine::replay`.
 fn first_batch<M: ReplayMachine>(machine: &mut M, batch: LogItemBatch, file: FileId) -> Result<()>
     requires stands { M.stands_for machine.old [] }
     requires small { IsSmall (event batch file ∷ []) }
@@ -121,14 +145,18 @@ fn first_batch<M: ReplayMachine>(machine: &mut M, batch: LogItemBatch, file: Fil
     machine.replay(batch, file)
 }
 
-/// Names definitions of `raft_accessor`.
+/// Returns how many appended records are live. Names `AreCountsOf` of `raft_accessor` in a condition on the caller.
 fn live_of(accessor: &MemTableAccessor) -> usize
     requires { AreCountsOf accessor.now.tables accessor.now.counts }
 {
     accessor.stats().live_entries(LogQueue::Append)
 }
 
-/// Names definitions of `raft_accessor`.
+/// Applies a new item to a slot. Names `slot_of`, `item_of`, `IsWritten` and `Appending` of `raft_accessor`.
+///
+/// # Errors
+///
+/// Those of `Slot::apply_append_write`.
 fn write(slot: &mut Slot, item: LogItem) -> Result<()>
     requires { slot_of item.raft_group_id ≡ slot.old.number }
     ensures { IsWritten Appending (item_of item) result slot.old.content slot.new.content }
@@ -136,21 +164,26 @@ fn write(slot: &mut Slot, item: LogItem) -> Result<()>
     slot.apply_append_write(item)
 }
 
-/// Names definitions of `raft_shared`.
+/// Tests whether a slot has no table. Names `HoldsOwnTables` of `raft_shared` in a condition on the caller.
 fn is_empty(slot: &Slot) -> bool
     requires { HoldsOwnTables slot.now }
 {
     slot.is_empty()
 }
 
-/// Names definitions of `raft_memtable`.
+/// Returns the tables of a context that has read nothing. Names `HasReadExactly` of `raft_memtable` in a condition on
+/// the caller.
+///
+/// # Errors
+///
+/// Those of `MemTableRecoverContext::finish`.
 fn tables_of_nothing(context: MemTableRecoverContext) -> Result<MemTableAccessor>
     requires { HasReadExactly context [] }
 {
     context.finish()
 }
 
-/// Names definitions of `raft_tickets`.
+/// Draws a ticket for a seat, and returns its number; `None` if none is left. Names `IsSeatOf` of `raft_tickets`.
 fn draw(tickets: &Tickets, seat: &mut TicketSeat) -> Option<usize>
     requires { IsSeatOf tickets.now seat.old }
     ensures { IsSeatOf tickets.now seat.new }
@@ -158,7 +191,12 @@ fn draw(tickets: &Tickets, seat: &mut TicketSeat) -> Option<usize>
     tickets.draw(seat)
 }
 
-/// Names definitions of `raft_replay` and `raft_recover`.
+/// Returns the tables that a recovery of append files gives. Names `SegmentsAreOf`, `SegmentsHold` and `IsRecovered` of
+/// `raft_recover`.
+///
+/// # Errors
+///
+/// Those of `recover`.
 fn appended<R: Threads + Sync>(
     rt: &R,
     alloc: Global,

@@ -1,4 +1,7 @@
 //! The engine, which `raft_engine` and `raft_opening` export.
+//!
+//! Each function pins names or types: it compiles only as long as these are there as it writes them. None is called for
+//! its effect.
 
 ghost use Rattle.std.specs.Prelude.{◌≡◌, [], map};
 ghost use Rattle.std.specs.Fn.{FnOnceReturnsAtMut};
@@ -18,10 +21,12 @@ use raft_recover::{
 use std::alloc::Global;
 use std::thread::Threads;
 
+/// Compiles only as long as `Engine::is_intact` takes `engine`, and returns `bool`.
 fn is_intact_of_engine<F: EngineFiles>(engine: &Engine<F>) -> bool {
     Engine::<F>::is_intact(engine)
 }
 
+/// Compiles only as long as `Engine::write` takes `engine`, `batch` and `sync`, and returns `Result<()>`.
 fn write_of_engine<F: EngineFiles>(
     engine: &mut Engine<F>,
     batch: &mut LogBatch,
@@ -33,38 +38,48 @@ where
     Engine::<F>::write(engine, batch, sync)
 }
 
+/// Compiles only as long as `Engine::sync` takes `engine`, and returns `Result<()>`.
 fn sync_of_engine<F: EngineFiles>(engine: &mut Engine<F>) -> Result<()> {
     Engine::<F>::sync(engine)
 }
 
+/// Compiles only as long as `Engine::rotate` takes `engine`, and returns `Result<()>`.
 fn rotate_of_engine<F: EngineFiles>(engine: &mut Engine<F>) -> Result<()> {
     Engine::<F>::rotate(engine)
 }
 
+/// Compiles only as long as `Engine::rewrite` takes `engine` and `gate`, and returns `Result<()>`.
 fn rewrite_of_engine<F: EngineFiles>(engine: &mut Engine<F>, gate: FileSeq) -> Result<()> {
     Engine::<F>::rewrite(engine, gate)
 }
 
+/// Compiles only as long as `Engine::rewrite_again` takes `engine`, and returns `Result<()>`.
 fn rewrite_again_of_engine<F: EngineFiles>(engine: &mut Engine<F>) -> Result<()> {
     Engine::<F>::rewrite_again(engine)
 }
 
+/// Compiles only as long as `Engine::purge_expired_files` takes `engine`, and returns `Result<usize>`.
 fn purge_expired_files_of_engine<F: EngineFiles>(engine: &mut Engine<F>) -> Result<usize> {
     Engine::<F>::purge_expired_files(engine)
 }
 
+/// Compiles only as long as `Engine::purge_rewrite_files` takes `engine`, and returns `Result<usize>`.
 fn purge_rewrite_files_of_engine<F: EngineFiles>(engine: &mut Engine<F>) -> Result<usize> {
     Engine::<F>::purge_rewrite_files(engine)
 }
 
+/// Compiles only as long as `Engine::first_index` takes `engine` and `region`, and returns `Option<u64>`.
 fn first_index_of_engine<F: EngineFiles>(engine: &Engine<F>, region: u64) -> Option<u64> {
     Engine::<F>::first_index(engine, region)
 }
 
+/// Compiles only as long as `Engine::last_index` takes `engine` and `region`, and returns `Option<u64>`.
 fn last_index_of_engine<F: EngineFiles>(engine: &Engine<F>, region: u64) -> Option<u64> {
     Engine::<F>::last_index(engine, region)
 }
 
+/// Compiles only as long as `Engine::get_entry` takes `engine`, `region` and `index`, and returns
+/// `Result<Option<Vec<u8>>>`.
 fn get_entry_of_engine<F: EngineFiles>(
     engine: &mut Engine<F>,
     region: u64,
@@ -73,23 +88,31 @@ fn get_entry_of_engine<F: EngineFiles>(
     Engine::<F>::get_entry(engine, region, index)
 }
 
+/// Compiles only as long as `Engine::segments` takes `engine` and `queue`, and returns `Result<Vec<Segment>>`.
 fn segments_of_engine(engine: &Engine<MemoryFiles>, queue: LogQueue) -> Result<Vec<Segment>> {
     Engine::<MemoryFiles>::segments(engine, queue)
 }
 
+/// Compiles only as long as the law `Engine::nothing_synced_is_lost` can be cited for any engine.
 fn law_of_what_lasts<F: EngineFiles>(engine: &Engine<F>) {
     Engine::<F>::nothing_synced_is_lost(engine)
 }
 
+/// Compiles only as long as the law `Engine::what_is_left_is_opened` can be cited for any engine.
 fn law_of_openings<F: EngineFiles>(engine: &Engine<F>) {
     Engine::<F>::what_is_left_is_opened(engine)
 }
 
+/// Compiles only as long as the law `Engine::what_was_written_is_recovered` can be cited for any engine.
 fn law_of_the_round_trip<F: EngineFiles>(engine: &Engine<F>) {
     Engine::<F>::what_was_written_is_recovered(engine)
 }
 
 /// Makes an engine over files of which nothing was asked.
+///
+/// # Errors
+///
+/// Those of `Engine::new`.
 fn new_engine<F: EngineFiles + Drop>(alloc: Global, version: Version, files: F) -> Result<Engine<F>>
 where
     requires { F.asked files ≡ [] }
@@ -98,6 +121,10 @@ where
 }
 
 /// Opens an engine over found files.
+///
+/// # Errors
+///
+/// Those of `Engine::open`.
 fn open_engine<R: Threads + Sync, F: EngineFiles>(
     rt: &R,
     alloc: Global,
@@ -114,6 +141,10 @@ where
 }
 
 /// Opens an engine over found files in a mode, and returns what was cut off them too.
+///
+/// # Errors
+///
+/// Those of `Engine::open_telling`.
 fn open_engine_telling<R: Threads + Sync, F: EngineFiles>(
     rt: &R,
     alloc: Global,
@@ -131,6 +162,10 @@ where
 }
 
 /// Opens an engine over files that are read in pieces.
+///
+/// # Errors
+///
+/// Those of `open_in_pieces`.
 fn open_engine_in_pieces<R: Threads + Sync, F: NotesFound, S: ReadFiles>(
     rt: &R,
     alloc: Global,
@@ -151,6 +186,10 @@ where
 }
 
 /// Opens an engine over files that contexts have read, in a mode, and returns what was cut off them too.
+///
+/// # Errors
+///
+/// Those of `Engine::open_over_telling`.
 fn open_engine_over_telling<F: EngineFiles>(
     alloc: Global,
     mode: RecoveryMode,
@@ -207,6 +246,10 @@ fn error_of_damaged_batch(batch: DamagedBatch) -> Error {
 }
 
 /// Opens an engine over files that contexts have read.
+///
+/// # Errors
+///
+/// Those of `Engine::open_over`.
 fn open_engine_over<F: EngineFiles>(
     alloc: Global,
     version: Version,
@@ -237,6 +280,10 @@ where
 }
 
 /// Opens an engine over copies of files in memory.
+///
+/// # Errors
+///
+/// Those of `Engine::open_copies`.
 fn open_engine_of_copies<R: Threads + Sync>(
     rt: &R,
     alloc: Global,
@@ -247,14 +294,17 @@ fn open_engine_of_copies<R: Threads + Sync>(
     Engine::<MemoryFiles>::open_copies::<R>(rt, alloc, version, files, workers)
 }
 
+/// Compiles only as long as `Engine::accessor` takes `engine`, and returns `&MemTableAccessor`.
 fn accessor_of_engine<'a, F: EngineFiles>(engine: &'a Engine<F>) -> &'a MemTableAccessor {
     Engine::<F>::accessor(engine)
 }
 
+/// Compiles only as long as `Engine::files` takes `engine`, and returns `&F`.
 fn files_of_engine<'a, F: EngineFiles>(engine: &'a Engine<F>) -> &'a F {
     Engine::<F>::files(engine)
 }
 
+/// Compiles only as long as `Engine::get` takes `engine`, `region` and `key`, and returns `Option<&[u8]>`.
 fn value_of_engine<'a, F: EngineFiles>(
     engine: &'a Engine<F>,
     region: u64,
@@ -263,6 +313,8 @@ fn value_of_engine<'a, F: EngineFiles>(
     Engine::<F>::get(engine, region, key)
 }
 
+/// Compiles only as long as `Engine::fetch_entries_to` takes `engine`, `region`, `begin`, `end`, `max_size` and
+/// `entries`, and returns `Result<usize>`.
 fn entries_of_engine<F: EngineFiles>(
     engine: &mut Engine<F>,
     region: u64,
@@ -274,6 +326,7 @@ fn entries_of_engine<F: EngineFiles>(
     Engine::<F>::fetch_entries_to(engine, region, begin, end, max_size, entries)
 }
 
+/// Compiles only as long as `Engine::scan` takes a region, two bounds, a direction, and a visitor of keys and values.
 fn pairs_of_engine<F: EngineFiles>(
     engine: &Engine<F>,
     region: u64,
@@ -291,10 +344,12 @@ fn pairs_of_engine<F: EngineFiles>(
     )
 }
 
+/// Returns the files of a refused opening, by the name of the field.
 fn files_of_unopened<F: EngineFiles + Drop>(unopened: Unopened<F>) -> F {
     unopened.files
 }
 
+/// Compiles only as long as an `Error` can be made of a refused opening.
 fn error_of_unopened<F: EngineFiles + Drop>(unopened: Unopened<F>) -> Error {
     Error::from(unopened)
 }

@@ -1,4 +1,7 @@
 //! The files of an engine in a folder, which `raft_folder` and `raft_opening` export.
+//!
+//! Each function pins names or types: it compiles only as long as these are there as it writes them. None is called for
+//! its effect, but where the test at the end says so.
 
 use raft_base::{Error, FileId, FileSeq, LogQueue, Result, Version};
 use raft_engine::{Opened, RecoveryMode};
@@ -14,6 +17,10 @@ use std::thread::Threads;
 type LogFiles = Vec<(FileSeq, Vec<u8>)>;
 
 /// Makes each call of a folder that is open.
+///
+/// # Errors
+///
+/// That of the first call that fails.
 fn calls<R: FolderHost>(files: &FolderFiles<'_, R>, id: FileId) -> FolderResult<()> {
     let listed: Vec<FolderFile> = FolderFiles::list(files, id.queue)?;
     for file in listed {
@@ -28,6 +35,10 @@ fn calls<R: FolderHost>(files: &FolderFiles<'_, R>, id: FileId) -> FolderResult<
 }
 
 /// Opens a folder, and returns the files that were found in it.
+///
+/// # Errors
+///
+/// Those of [`FolderFiles::open`] and [`calls`].
 fn found(rt: &HostRuntime, path: &str) -> FolderResult<(LogFiles, LogFiles)> {
     let found: FoundFolder<'_, HostRuntime> = FolderFiles::open(rt, path)?;
     is_of_engine(&found.files);
@@ -35,9 +46,14 @@ fn found(rt: &HostRuntime, path: &str) -> FolderResult<(LogFiles, LogFiles)> {
     Ok((found.append, found.rewrite))
 }
 
+/// Compiles only for a type that implements `EngineFiles`.
 fn is_of_engine<F: EngineFiles>(_files: &F) {}
 
 /// Opens a folder without reading its files, and then the engine of a folder.
+///
+/// # Errors
+///
+/// Those of the opening.
 fn open_unread<'a, R: FolderHost + SharedFiles + Threads>(
     rt: &'a R,
     path: &'a str,
@@ -48,9 +64,14 @@ fn open_unread<'a, R: FolderHost + SharedFiles + Threads>(
     open_folder(rt, path, RecoveryMode::TolerateTornTail, Version::V2, 1)
 }
 
+/// Compiles only for a type that implements `NotesFound`.
 fn notes_found<F: NotesFound>(_files: &F) {}
 
 /// Opens a folder to read it, and makes each call of it.
+///
+/// # Errors
+///
+/// That of the first call that fails.
 fn read<'a, R: FolderHost>(rt: &'a R, path: &'a str) -> FolderResult<LogFiles> {
     let folder: ReadFolder<'a, R> = ReadFolder::open(rt, path)?;
     let _listed: Vec<FolderFile> = ReadFolder::list(&folder, LogQueue::Append)?;
@@ -71,6 +92,7 @@ fn path_in(error: FolderError) -> Option<String> {
     }
 }
 
+/// Tests that the names above are exported with these types, and that what they give is as it is written here.
 #[test]
 fn folders_are_handed_on(rt: HostRuntime) {
     let opened: FolderResult<(LogFiles, LogFiles)> = found(&rt, "no_such_folder/folder");

@@ -1,4 +1,7 @@
 //! Items and batches of items, which `raft_records` exports.
+//!
+//! Each function pins names or types: it compiles only as long as these are there as it writes them. None is called for
+//! its effect, but where the test at the end says so.
 
 use raft_records::codec::BytesSlice;
 use raft_records::{
@@ -9,12 +12,15 @@ use raft_records::{
 use std::alloc::Global;
 use std::{slice, vec};
 
+/// Compiles only as long as `is_consecutive`, `EntryIndexes::encode` and `EntryIndexes::clone` have these types.
 fn entries() {
     let _is_consecutive: fn(&[EntryIndex]) -> bool = is_consecutive;
     let _encode: fn(&EntryIndexes, &mut Vec<u8>) -> Result<()> = EntryIndexes::encode;
     let _clone: fn(&EntryIndexes) -> Result<EntryIndexes> = EntryIndexes::clone;
 }
 
+/// Compiles only as long as `EntryIndexes::decode` takes `alloc`, `bytes` and `entries_size`, and returns
+/// `Result<EntryIndexes>`.
 fn decode_of_entries(
     alloc: Global,
     bytes: &mut BytesSlice<'_>,
@@ -23,14 +29,18 @@ fn decode_of_entries(
     EntryIndexes::decode(alloc, bytes, entries_size)
 }
 
+/// Compiles only as long as `Command::encode` has this type.
 fn commands() {
     let _encode: fn(&Command, &mut Vec<u8>) -> Result<()> = Command::encode;
 }
 
+/// Compiles only as long as `Command::decode` takes `alloc` and `bytes`, and returns `Result<Command>`.
 fn decode_of_commands(alloc: Global, bytes: &mut BytesSlice<'_>) -> Result<Command> {
     Command::decode(alloc, bytes)
 }
 
+/// Compiles only as long as these have these types: `from_u8` and `to_u8` of `OpType`; `new`, `encode` and `clone` of
+/// `KeyValue`.
 fn key_values() {
     let _from_u8: fn(Global, u8) -> Result<OpType> = OpType::from_u8;
     let _to_u8: fn(OpType) -> u8 = OpType::to_u8;
@@ -39,10 +49,13 @@ fn key_values() {
     let _clone: fn(&KeyValue) -> Result<KeyValue> = KeyValue::clone;
 }
 
+/// Compiles only as long as `KeyValue::decode` takes `alloc` and `bytes`, and returns `Result<KeyValue>`.
 fn decode_of_key_values(alloc: Global, bytes: &mut BytesSlice<'_>) -> Result<KeyValue> {
     KeyValue::decode(alloc, bytes)
 }
 
+/// Compiles only as long as these have these types: `new_entry_indexes`, `new_command`, `new_kv`, `encode` and `clone`
+/// of `LogItem`; `clone` of `LogItemContent`.
 fn items() {
     let _new_entry_indexes: fn(u64, Vec<EntryIndex>) -> LogItem = LogItem::new_entry_indexes;
     let _new_command: fn(u64, Command) -> LogItem = LogItem::new_command;
@@ -52,6 +65,7 @@ fn items() {
     let _clone_content: fn(&LogItemContent) -> Result<LogItemContent> = LogItemContent::clone;
 }
 
+/// Compiles only as long as `LogItem::decode` takes `alloc`, `bytes` and `entries_size`, and returns `Result<LogItem>`.
 fn decode_of_items(
     alloc: Global,
     bytes: &mut BytesSlice<'_>,
@@ -60,6 +74,8 @@ fn decode_of_items(
     LogItem::decode(alloc, bytes, entries_size)
 }
 
+/// Compiles only as long as these functions of `LogItemBatch` have these types: `default`, `with_capacity`,
+/// `into_items`, `drain`, `merge`, `entries_size`, `approximate_size`, `entry_index` and `clone`.
 fn batches() {
     let _default: fn(Global) -> LogItemBatch = LogItemBatch::default;
     let _with_capacity: fn(Global, usize) -> Result<LogItemBatch> = LogItemBatch::with_capacity;
@@ -72,14 +88,18 @@ fn batches() {
     let _clone: fn(&LogItemBatch) -> Result<LogItemBatch> = LogItemBatch::clone;
 }
 
+/// Compiles only as long as `LogItemBatch::iter` takes `batch`, and returns `slice::Iter<'a, LogItem>`.
 fn iter_of_batches<'a>(batch: &'a LogItemBatch) -> slice::Iter<'a, LogItem> {
     LogItemBatch::iter(batch)
 }
 
+/// Compiles only as long as `LogItemBatch::as_slice` takes `batch`, and returns `&[LogItem]`.
 fn as_slice_of_batches<'a>(batch: &'a LogItemBatch) -> &'a [LogItem] {
     LogItemBatch::as_slice(batch)
 }
 
+/// Compiles only as long as `LogItemBatch::add_entry_indexes`, `LogItemBatch::add_command`, `LogItemBatch::delete` and
+/// `LogItemBatch::put` have these types.
 fn changes_of_batches<S: Message>() {
     let _add_entry_indexes: fn(&mut LogItemBatch, u64, Vec<EntryIndex>) -> Result<()> =
         LogItemBatch::add_entry_indexes;
@@ -88,6 +108,7 @@ fn changes_of_batches<S: Message>() {
     let _put: fn(&mut LogItemBatch, u64, Vec<u8>, Vec<u8>) -> Result<()> = LogItemBatch::put;
 }
 
+/// Compiles only as long as `LogItemBatch::put_message` takes any `Message`.
 fn put_message_of_changes_of_batches<S: Message>(
     batch: &mut LogItemBatch,
     number: u64,
@@ -97,12 +118,16 @@ fn put_message_of_changes_of_batches<S: Message>(
     LogItemBatch::put_message::<S>(batch, number, key, message)
 }
 
+/// Compiles only as long as `LogItemBatch::encode`, `LogItemBatch::prepare_write` and `LogItemBatch::decoded_in` have
+/// these types.
 fn bytes_of_batches() {
     let _encode: fn(&mut LogItemBatch, &mut Vec<u8>) -> Result<()> = LogItemBatch::encode;
     let _prepare_write: fn(&LogItemBatch, &mut [u8], &LogFileContext) = LogItemBatch::prepare_write;
     let _decoded_in: fn(&LogItemBatch) -> Option<FileId> = LogItemBatch::decoded_in;
 }
 
+/// Compiles only as long as `LogItemBatch::decode` takes `alloc`, `bytes`, `handle`, `compression_type` and `context`,
+/// and returns `Result<LogItemBatch>`.
 fn decode_of_bytes_of_batches(
     alloc: Global,
     bytes: &mut BytesSlice<'_>,
@@ -113,6 +138,8 @@ fn decode_of_bytes_of_batches(
     LogItemBatch::decode(alloc, bytes, handle, compression_type, context)
 }
 
+/// Compiles only as long as these have these types: `parse` of `AtomicGroupStatus`; `with_id`, `begin`, `add`, `end`
+/// and `state` of `AtomicGroupBuilder`; `is_reserved`.
 fn groups() {
     let _parse: fn(Global, &LogItem) -> Result<Option<(u64, AtomicGroupStatus)>> =
         AtomicGroupStatus::parse;
@@ -183,6 +210,7 @@ fn kind_of(item: &LogItem) -> &'static str {
     }
 }
 
+/// Tests that the names above are exported with these types, and that what they give is as it is written here.
 #[test]
 fn items_are_handed_on(rt: HostRuntime) {
     entries();

@@ -1,4 +1,7 @@
 //! Log batches, which `raft_records` exports.
+//!
+//! Each function pins names or types: it compiles only as long as these are there as it writes them. None is called for
+//! its effect, but where the test at the end says so.
 
 use raft_records::codec::BytesSlice;
 use raft_records::{
@@ -8,6 +11,8 @@ use raft_records::{
 use std::alloc::Global;
 use std::vec;
 
+/// Compiles only as long as these functions of `LogBatch` have these types: `default`, `with_capacity`, `is_empty`,
+/// `is_open`, `is_sealed`, `approximate_size`, `drain`, `merge` and `clone`.
 fn batches() {
     let _default: fn(Global) -> LogBatch = LogBatch::default;
     let _with_capacity: fn(Global, usize) -> Result<LogBatch> = LogBatch::with_capacity;
@@ -20,10 +25,13 @@ fn batches() {
     let _clone: fn(&LogBatch) -> Result<LogBatch> = LogBatch::clone;
 }
 
+/// Compiles only as long as `LogBatch::items` takes `batch`, and returns `&[LogItem]`.
 fn items_of_batches<'a>(batch: &'a LogBatch) -> &'a [LogItem] {
     LogBatch::items(batch)
 }
 
+/// Compiles only as long as these functions of `LogBatch` have these types: `add_raw_entries`, `add_joined_entries`,
+/// `add_command`, `delete` and `put`.
 fn changes() {
     let _add_raw_entries: fn(&mut LogBatch, u64, Vec<EntryIndex>, Vec<Vec<u8>>) -> Result<()> =
         LogBatch::add_raw_entries;
@@ -34,6 +42,7 @@ fn changes() {
     let _put: fn(&mut LogBatch, u64, Vec<u8>, Vec<u8>) -> Result<()> = LogBatch::put;
 }
 
+/// Compiles only as long as `LogBatch::add_entries` takes a slice of the entries of any `MessageExt`.
 fn add_entries_of_changes<M: MessageExt>(
     batch: &mut LogBatch,
     region: u64,
@@ -45,6 +54,7 @@ fn add_entries_of_changes<M: MessageExt>(
     LogBatch::add_entries::<M>(batch, region, entries)
 }
 
+/// Compiles only as long as `LogBatch::put_message` takes any `Message`.
 fn put_message_of_changes<S: Message>(
     batch: &mut LogBatch,
     region: u64,
@@ -57,6 +67,8 @@ fn put_message_of_changes<S: Message>(
     LogBatch::put_message::<S>(batch, region, key, message)
 }
 
+/// Compiles only as long as `LogBatch::finish_populate`, `LogBatch::prepare_write`, `LogBatch::finish_write` and
+/// `<LogBatch as ReactiveBytes>::ready` have these types.
 fn writes() {
     let _finish_populate: fn(&mut LogBatch) -> Result<usize> = LogBatch::finish_populate;
     let _prepare_write: fn(&mut LogBatch, &LogFileContext) = LogBatch::prepare_write;
@@ -64,6 +76,7 @@ fn writes() {
     let _ready: fn(&LogBatch) -> bool = <LogBatch as ReactiveBytes>::ready;
 }
 
+/// Returns the bytes of a signed batch, by `LogBatch::encoded_bytes`; `None` for a batch that isn't signed.
 fn encoded_bytes_of_writes<'a>(batch: &'a LogBatch) -> Option<&'a [u8]> {
     if !batch.is_sealed() {
         return None;
@@ -79,11 +92,14 @@ fn as_bytes_of_writes<'a>(batch: &'a mut LogBatch, context: &LogFileContext) -> 
     Some(<LogBatch as ReactiveBytes>::as_bytes(batch, context))
 }
 
+/// Compiles only as long as `LogBatch::decode_entries_block` has this type.
 fn reads() {
     let _block: fn(Global, &[u8], FileBlockHandle, CompressionType) -> Result<Vec<u8>> =
         LogBatch::decode_entries_block;
 }
 
+/// Compiles only as long as `LogBatch::decode_header` takes `alloc` and `bytes`, and returns `Result<(usize,
+/// CompressionType, usize)>`.
 fn header_of_reads(
     alloc: Global,
     bytes: &mut BytesSlice<'_>,
@@ -91,6 +107,7 @@ fn header_of_reads(
     LogBatch::decode_header(alloc, bytes)
 }
 
+/// Tests that the names above are exported with these types, and that what they give is as it is written here.
 #[test]
 fn log_batches_are_handed_on(rt: HostRuntime) {
     batches();

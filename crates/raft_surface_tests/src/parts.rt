@@ -1,4 +1,7 @@
 //! Parts of files, laws and printing, which `raft_records` exports, and what it exports of `raft_base`.
+//!
+//! Each function pins names or types: it compiles only as long as these are there as it writes them. None is called for
+//! its effect, but where the test at the end says so.
 
 use raft_records::laws::{
     batches_belong_to_one_file, contents_are_read_again, items_are_read_again,
@@ -15,6 +18,8 @@ use raft_records::{
 use std::alloc::{AllocError, Global};
 use std::io::{Read, Write};
 
+/// Compiles only as long as these have these types: `new`, `id`, `version`, `offset`, `split_off` and `clone` of
+/// `FilePart`; `next_batch` and `readable_front`.
 fn parts() {
     let _new: fn(FileId, Version, u64, Vec<u8>) -> Result<FilePart> = FilePart::new;
     let _id: fn(&FilePart) -> FileId = FilePart::id;
@@ -26,7 +31,12 @@ fn parts() {
     let _readable_front: fn(&FilePart) -> (usize, Option<Error>) = readable_front;
 }
 
-/// Returns the first batch in the bytes of a file, which stand there from an offset below 2^32 on.
+/// Returns the first batch in the bytes of a file, which stand there from an offset below 2^32 on; `None` for
+/// 2^32 bytes or more.
+///
+/// # Errors
+///
+/// Those of `next_in`.
 fn next_in_of_parts(
     alloc: Global,
     file: &LogFileContext,
@@ -41,10 +51,12 @@ fn next_in_of_parts(
     next_in(alloc, file, offset, bytes, at)
 }
 
+/// Compiles only as long as `entries_block_in` takes `part` and `place`, and returns `Result<&[u8]>`.
 fn entries_block_in_of_parts<'a>(part: &'a FilePart, place: FileBlockHandle) -> Result<&'a [u8]> {
     entries_block_in(part, place)
 }
 
+/// Compiles only as long as `entry_bytes` takes `alloc`, `entries` and `entry`, and returns `Result<&[u8]>`.
 fn entry_bytes_of_parts<'a>(
     alloc: Global,
     entries: &'a [u8],
@@ -53,14 +65,17 @@ fn entry_bytes_of_parts<'a>(
     entry_bytes(alloc, entries, entry)
 }
 
+/// Compiles only as long as `FilePart::bytes` takes `part`, and returns `&[u8]`.
 fn bytes_of_parts<'a>(part: &'a FilePart) -> &'a [u8] {
     FilePart::bytes(part)
 }
 
+/// Compiles only as long as `batch_text` has this type.
 fn prints<R: Read, W: Write>() {
     let _batch_text: fn(Global, &[u8], &LogFileContext) -> Result<String> = batch_text;
 }
 
+/// Compiles only as long as `print_batch` takes `alloc`, `reader`, `writer` and `context`, and returns `Result<()>`.
 fn print_batch_of_prints<R: Read, W: Write>(
     alloc: Global,
     reader: &mut R,
@@ -70,6 +85,7 @@ fn print_batch_of_prints<R: Read, W: Write>(
     print_batch::<R, W>(alloc, reader, writer, context)
 }
 
+/// Compiles only as long as `raft_records` exports its laws under these names.
 fn laws() {
     items_are_read_again();
     contents_are_read_again();
@@ -80,7 +96,7 @@ fn laws() {
     placed_items_are_read();
 }
 
-/// Names what `raft_records` exports of `raft_base`.
+/// Compiles only as long as `raft_records` exports these names of `raft_base`.
 fn names_of_the_base() {
     let _hash_u64: fn(u64) -> u64 = hash_u64;
     let _unhash_u64: fn(u64) -> u64 = unhash_u64;
@@ -96,7 +112,7 @@ fn names_of_the_base() {
     let _no_memory: AllocResult<u8> = Err(AllocError);
 }
 
-/// Names the modules of `raft_base` that `raft_records` exports.
+/// Compiles only as long as `raft_records` exports these modules of `raft_base`.
 fn modules_of_the_base() {
     let _entry: entry_index::EntryIndex = EntryIndex::default();
     let _compression = compression_type::CompressionType::None;
@@ -106,6 +122,7 @@ fn modules_of_the_base() {
     let _version: pipe_log::Version = Version::V1;
 }
 
+/// Compiles only as long as `PipeLog::sync` takes `pipe` and `queue`, and returns `Result<()>`.
 fn sync_of_traits_of_the_base<P: PipeLog, T, F: Factory<T>>(
     pipe: &P,
     queue: LogQueue,
@@ -113,6 +130,7 @@ fn sync_of_traits_of_the_base<P: PipeLog, T, F: Factory<T>>(
     P::sync(pipe, queue)
 }
 
+/// Compiles only as long as `Factory::new_target` takes `factory` and `alloc`, and returns `Result<T>`.
 fn new_target_of_traits_of_the_base<P: PipeLog, T, F: Factory<T>>(
     factory: &F,
     alloc: Global,
@@ -120,6 +138,7 @@ fn new_target_of_traits_of_the_base<P: PipeLog, T, F: Factory<T>>(
     F::new_target(factory, alloc)
 }
 
+/// Tests that the names above are exported with these types, and that what they give is as it is written here.
 #[test]
 fn parts_are_handed_on(_rt: HostRuntime) {
     parts();

@@ -1,4 +1,7 @@
 //! Segments, plans, tickets, workers and what the program does, from `raft_recover`.
+//!
+//! Each function pins names or types: it compiles only as long as these are there as it writes them. None is called for
+//! its effect, but where the test at the end says so.
 
 use raft_records::LogFileContext;
 use raft_recover::files::file_segments;
@@ -19,12 +22,14 @@ use std::io::{Read, Write};
 use std::rt::{Env, Files};
 use std::thread::Threads;
 
+/// Compiles only as long as `Tickets::open`, `Tickets::draw` and `Tickets::close` have these types.
 fn tickets() {
     let _open: fn(Global, usize, usize) -> Result<(Tickets, Vec<TicketSeat>)> = Tickets::open;
     let _draw: fn(&Tickets, &mut TicketSeat) -> Option<usize> = Tickets::draw;
     let _close: fn(Tickets, Vec<TicketSeat>) -> usize = Tickets::close;
 }
 
+/// Compiles only as long as `Plan::leaves`, `Plan::halves`, `piece_count` and `cut_part` have these types.
 fn plans() {
     let _leaves: fn(&Plan) -> usize = Plan::leaves;
     let _halves: fn(Global, usize) -> Result<Plan> = Plan::halves;
@@ -33,11 +38,19 @@ fn plans() {
 }
 
 /// Returns the plan that merges what two plans make.
+///
+/// # Errors
+///
+/// `AllocError` if there is no memory for the boxes.
 fn join_of_plans(alloc: Global, left: Plan, right: Plan) -> AllocResult<Plan> {
     Ok(Plan::Join(Box::new(alloc, left)?, Box::new(alloc, right)?))
 }
 
 /// Returns equal shares: at least one is asked for, of at least one byte.
+///
+/// # Errors
+///
+/// Those of `equal_shares`.
 fn equal_shares_of_plans(
     alloc: Global,
     segments: &[Segment],
@@ -47,10 +60,12 @@ fn equal_shares_of_plans(
     equal_shares(alloc, segments, count.max(1), least.max(1))
 }
 
+/// Compiles only as long as a `Gate` is passed with a count.
 fn pass_of_gates<G: Gate>(gate: &G, count: usize) {
     G::pass(gate, count)
 }
 
+/// Compiles only as long as `replay_segment` takes any `ReplayMachine` and a segment.
 fn replay_segment_of_machines<M: ReplayMachine, F: Factory<M>>(
     machine: &mut M,
     segments: &Segment,
@@ -58,6 +73,7 @@ fn replay_segment_of_machines<M: ReplayMachine, F: Factory<M>>(
     replay_segment::<M>(machine, segments)
 }
 
+/// Compiles only as long as `merge_pieces` takes a `Vec` of any machines, a plan and a queue, and returns one machine.
 fn merge_pieces_of_workers<M: ReplayMachine, F: Factory<M>, G: Gate, R: Threads + Sync>(
     rt: &R,
     pieces: Vec<M>,
@@ -67,7 +83,12 @@ fn merge_pieces_of_workers<M: ReplayMachine, F: Factory<M>, G: Gate, R: Threads 
     merge_pieces::<M, R>(rt, pieces, plan, queue)
 }
 
-/// Replays the batches in the bytes of a file, which stand there from an offset below 2^32 on.
+/// Replays the batches in the bytes of a file, which stand there from an offset below 2^32 on. Does nothing
+/// for 2^32 bytes or more.
+///
+/// # Errors
+///
+/// Those of `replay_bytes`.
 fn replay_bytes_of_machines<M: ReplayMachine>(
     machine: &mut M,
     alloc: Global,
@@ -83,6 +104,10 @@ fn replay_bytes_of_machines<M: ReplayMachine>(
 }
 
 /// Replays segments in a given schedule, with a given plan of merges.
+///
+/// # Errors
+///
+/// Those of `replay_scheduled`.
 fn replay_scheduled_of_schedules(
     alloc: Global,
     factory: &MemTableRecoverContextFactory,
@@ -96,6 +121,10 @@ fn replay_scheduled_of_schedules(
 }
 
 /// Replays segments by workers, each of which passes `gate` before it draws one.
+///
+/// # Errors
+///
+/// Those of `replay_segments`.
 fn replay_segments_of_workers<R: Threads + Sync, G: Gate>(
     rt: &R,
     alloc: Global,
@@ -108,6 +137,7 @@ fn replay_segments_of_workers<R: Threads + Sync, G: Gate>(
     replay_segments(rt, alloc, factory, segments, queue, workers, gate)
 }
 
+/// Compiles only for a type that several threads can use at once.
 fn is_shared<T: Send + Sync>() {}
 
 /// Compiles only if every gate can be used by several threads.
@@ -137,6 +167,10 @@ fn run_of_programs_in_pieces<
 }
 
 /// Reads the first byte of a file, and returns the length of the file.
+///
+/// # Errors
+///
+/// Those of the files.
 fn read_of_files<S: SharedFiles>(
     files: &S,
     path: &str,
@@ -147,6 +181,10 @@ fn read_of_files<S: SharedFiles>(
 }
 
 /// Returns the words of the command line, or the status to end with if they can't be had.
+///
+/// # Errors
+///
+/// The status to end with, once the error is printed.
 fn words_of_programs<S: Env + AllocGlobal, E: Write>(
     rt: &S,
     err: &mut E,
@@ -168,10 +206,13 @@ fn run_scan_of_scans<S: Files + AllocGlobal, W: Write, E: Write>(
     run_scan::<S, W, E>(rt, words, out, err)
 }
 
+/// Compiles only as long as `scan_without_words` takes the reason why there are no words, and returns the status to end
+/// with.
 fn scan_without_words_of_scans<E: Write>(error: &io::Error, err: &mut E) -> u8 {
     scan_without_words::<E>(error, err)
 }
 
+/// Compiles only as long as `append_scan` has this type.
 fn scans() {
     let _append_scan: fn(Global, &FilePart, bool, &mut String) -> Result<bool> = append_scan;
 }
@@ -181,6 +222,8 @@ fn parts_of(segment: Segment) -> Vec<FilePart> {
     segment
 }
 
+/// Compiles only as long as `MemTableAccessor::get_or_insert` takes `accessor` and `number`, and returns
+/// `Result<&MemTable>`.
 fn get_or_insert_of_recoveries<'a>(
     accessor: &'a mut MemTableAccessor,
     number: u64,
@@ -188,12 +231,15 @@ fn get_or_insert_of_recoveries<'a>(
     MemTableAccessor::get_or_insert(accessor, number)
 }
 
+/// Compiles only as long as `recovered_text` and `file_segments` have these types.
 fn recoveries<R: Threads + Sync, W: Write>() {
     let _recovered_text: fn(Global, &MemTableAccessor) -> Result<String> = recovered_text;
     let _file_segments: fn(LogQueue, Version, Vec<(FileSeq, Vec<u8>)>) -> Result<Vec<Segment>> =
         file_segments;
 }
 
+/// Compiles only as long as `recover` takes `rt`, `alloc`, `segments`, `queue` and `count`, and returns
+/// `Result<MemTableAccessor>`.
 fn recover_of_recoveries<R: Threads + Sync, W: Write>(
     rt: &R,
     alloc: Global,
@@ -204,6 +250,8 @@ fn recover_of_recoveries<R: Threads + Sync, W: Write>(
     recover::<R>(rt, alloc, segments, queue, count)
 }
 
+/// Compiles only as long as `recover_both` takes `rt`, `alloc`, `rewrite`, `append` and `workers`, and returns
+/// `Result<MemTableAccessor>`.
 fn recover_both_of_recoveries<R: Threads + Sync>(
     rt: &R,
     alloc: Global,
@@ -214,6 +262,8 @@ fn recover_both_of_recoveries<R: Threads + Sync>(
     recover_both::<R>(rt, alloc, rewrite, append, workers)
 }
 
+/// Compiles only as long as `recover_segments` takes `rt`, `alloc`, `segments`, `queue` and `workers`, and returns
+/// `Result<MemTableAccessor>`.
 fn recover_segments_of_recoveries<R: Threads + Sync>(
     rt: &R,
     alloc: Global,
@@ -224,6 +274,7 @@ fn recover_segments_of_recoveries<R: Threads + Sync>(
     recover_segments::<R>(rt, alloc, segments, queue, workers)
 }
 
+/// Compiles only as long as `recover_bytes` takes the bytes of files, and prints to any `Write`.
 fn recover_bytes_of_recoveries<R: Threads + Sync, W: Write>(
     rt: &R,
     alloc: Global,
@@ -236,6 +287,7 @@ fn recover_bytes_of_recoveries<R: Threads + Sync, W: Write>(
     recover_bytes::<R, W>(rt, alloc, queue, version, count, files, writer)
 }
 
+/// Compiles only as long as `print_recovered` prints an accessor to any `Write`.
 fn print_recovered_of_recoveries<R: Threads + Sync, W: Write>(
     alloc: Global,
     accessor: &MemTableAccessor,
@@ -252,6 +304,7 @@ fn leaves_of(plan: &Plan) -> usize {
     }
 }
 
+/// Tests that the names above are exported with these types, and that what they give is as it is written here.
 #[test]
 fn recovery_is_handed_on(rt: HostRuntime) {
     tickets();

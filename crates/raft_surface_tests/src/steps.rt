@@ -1,4 +1,7 @@
 //! Batches as they are read, from `raft_records`, and the steps that items are, from `raft_memtable`.
+//!
+//! Each function pins names or types: it compiles only as long as these are there as it writes them. None is called for
+//! its effect, but where the test at the end says so.
 
 use raft_memtable::{MemTableAccessor, RegionStep, Step};
 use raft_records::{
@@ -7,11 +10,17 @@ use raft_records::{
 };
 use std::alloc::Global;
 
+/// Compiles only as long as `ReadBatch::new` takes `alloc` and `file`, and returns `ReadBatch<'a>`.
 fn new_of_reads<'a>(alloc: Global, file: FileId) -> ReadBatch<'a> {
     ReadBatch::new(alloc, file)
 }
 
-/// Reads the first batch in the bytes of a file, which stand there from an offset below 2^32 on.
+/// Reads the first batch in the bytes of a file, which stand there from an offset below 2^32 on. Returns where
+/// the next one begins; `None` for 2^32 bytes or more, which aren't read.
+///
+/// # Errors
+///
+/// Those of `ReadBatch::read_next`.
 fn read_next_of_reads<'a>(
     batch: &mut ReadBatch<'a>,
     file: &LogFileContext,
@@ -26,12 +35,14 @@ fn read_next_of_reads<'a>(
     ReadBatch::read_next(batch, file, offset, bytes, at)
 }
 
+/// Compiles only as long as `ReadBatch::parts` lends the place, the items, and the span of each item.
 fn parts_of_reads<'a, 'b>(
     batch: &'b ReadBatch<'a>,
 ) -> (FileBlockHandle, &'b [ReadItem<'a>], &'b [(u32, u32)]) {
     ReadBatch::parts(batch)
 }
 
+/// Compiles only as long as a `ReadBatch` lends its allocator, and `to_batch` makes a `LogItemBatch` with it.
 fn to_batch_of_reads(batch: &ReadBatch<'_>) -> Result<LogItemBatch> {
     let alloc: Global = ReadBatch::allocator(batch);
     ReadBatch::to_batch(batch, alloc)
@@ -86,6 +97,7 @@ fn region_of(step: RegionStep) -> (u64, Step) {
     (step.region, step.step)
 }
 
+/// Compiles only as long as `RegionStep::of_item`, `Step::is_clean` and `MemTableAccessor::take_step` have these types.
 fn steps() {
     let _of_item: fn(LogItem) -> Option<RegionStep> = RegionStep::of_item;
     let _is_clean: fn(&Step) -> bool = Step::is_clean;
@@ -93,6 +105,7 @@ fn steps() {
         MemTableAccessor::take_step;
 }
 
+/// Tests that the names above are exported with these types, and that what they give is as it is written here.
 #[test]
 fn steps_are_handed_on(rt: HostRuntime) {
     steps();

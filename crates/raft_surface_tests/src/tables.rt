@@ -1,4 +1,7 @@
 //! The table of one region and its counts, from `raft_memtable`.
+//!
+//! Each function pins names or types: it compiles only as long as these are there as it writes them. None is called for
+//! its effect, but where the test at the end says so.
 
 use raft_memtable::{
     Block, DeletedKeys, EntryIndex, Error, FileBlockHandle, FileId, FileSeq, GlobalStats, LogQueue,
@@ -7,6 +10,8 @@ use raft_memtable::{
 use std::alloc::Global;
 use std::collections::VecDeque;
 
+/// Compiles only as long as these have these types: `default` of `<GlobalStats as Default>`; `add`, `delete`,
+/// `live_entries`, `rewrite_entries`, `deleted_rewrite_entries` and `reset_rewrite_counters` of `GlobalStats`.
 fn counts() {
     let _default: fn() -> GlobalStats = <GlobalStats as Default>::default;
     let _add: fn(&mut GlobalStats, LogQueue, usize) -> Result<()> = GlobalStats::add;
@@ -17,6 +22,8 @@ fn counts() {
     let _reset: fn(&mut GlobalStats) = GlobalStats::reset_rewrite_counters;
 }
 
+/// Compiles only as long as these have these types: `new`, `region_id`, `rewrite_count`, `first_index`, `last_index`,
+/// `atomic_group`, `block_count`, `records`, `entries_count` and `key_count` of `MemTable`; `is_run`.
 fn properties() {
     let _new: fn(Global, u64) -> MemTable = MemTable::new;
     let _region_id: fn(&MemTable) -> u64 = MemTable::region_id;
@@ -31,10 +38,13 @@ fn properties() {
     let _is_run: fn(&[EntryIndex], LogQueue) -> bool = is_run;
 }
 
+/// Compiles only as long as `MemTable::blocks` takes `table`, and returns `&VecDeque<Block>`.
 fn blocks_of_properties<'a>(table: &'a MemTable) -> &'a VecDeque<Block> {
     MemTable::blocks(table)
 }
 
+/// Compiles only as long as these functions of `MemTable` have these types: `append`, `replay_append`,
+/// `replay_rewrite`, `rewrite`, `compact_to` and `truncate_from`.
 fn runs() {
     let _append: fn(&mut MemTable, Vec<EntryIndex>, &mut GlobalStats) -> Result<()> =
         MemTable::append;
@@ -52,6 +62,8 @@ fn runs() {
     let _truncate_from: fn(&mut MemTable, u64, &mut GlobalStats) -> u64 = MemTable::truncate_from;
 }
 
+/// Compiles only as long as `MemTable::put`, `MemTable::delete`, `MemTable::rewrite_key` and `MemTable::get_entry` have
+/// these types.
 fn keys() {
     let _put: fn(&mut MemTable, Vec<u8>, Vec<u8>, FileId, &mut GlobalStats) -> Result<()> =
         MemTable::put;
@@ -66,11 +78,16 @@ fn keys() {
     let _get_entry: fn(&MemTable, u64) -> Option<EntryIndex> = MemTable::get_entry;
 }
 
+/// Compiles only as long as `MemTable::get` takes `table` and `bytes`, and returns `Option<&[u8]>`.
 fn get_of_keys<'a>(table: &'a MemTable, bytes: &[u8]) -> Option<&'a [u8]> {
     MemTable::get(table, bytes)
 }
 
 /// Scans the keys between two bounds from the last one back, until the visitor returns `false`.
+///
+/// # Errors
+///
+/// Those of `MemTable::scan`.
 fn scan_of_keys(table: &MemTable, start: Option<&[u8]>, end: Option<&[u8]>) -> Result<()> {
     let reverse: bool = true;
     MemTable::scan(
@@ -82,6 +99,9 @@ fn scan_of_keys(table: &MemTable, start: Option<&[u8]>, end: Option<&[u8]>) -> R
     )
 }
 
+/// Compiles only as long as these functions of `MemTable` have these types: `fetch_entries_to`,
+/// `fetch_entry_indexes_before`, `fetch_rewritten_entry_indexes`, `fetch_kvs_before`, `fetch_rewritten_kvs`,
+/// `min_file_seq` and `has_at_least_some_entries_before`.
 fn fetches() {
     let _fetch_entries_to: fn(
         &MemTable,
@@ -103,6 +123,8 @@ fn fetches() {
         MemTable::has_at_least_some_entries_before;
 }
 
+/// Compiles only as long as these have these types: `apply_rewrite_atomic_group`, `merge_newer_neighbor`,
+/// `merge_append_table` and `change` of `MemTable`; `new` of `Mark`; `new` of `DeletedKeys`.
 fn merges() {
     let _atomic_group: fn(&mut MemTable, FileSeq, FileSeq) = MemTable::apply_rewrite_atomic_group;
     let _newer: fn(&mut MemTable, &mut MemTable, &mut GlobalStats) -> Result<()> =
@@ -130,6 +152,7 @@ fn put_change(key: Vec<u8>, value: Vec<u8>, file_id: FileId) -> TableChange {
     }
 }
 
+/// Makes the changes that append and rewrite runs, by the names and types of all fields.
 fn run_changes(run: Vec<EntryIndex>, entries: Vec<EntryIndex>) -> (TableChange, TableChange) {
     let gate: Option<FileSeq> = None;
     (
@@ -138,12 +161,14 @@ fn run_changes(run: Vec<EntryIndex>, entries: Vec<EntryIndex>) -> (TableChange, 
     )
 }
 
+/// Makes the changes that rewrite and delete a key, by the names and types of all fields.
 fn key_changes(key: Vec<u8>, other: Vec<u8>, seq: FileSeq) -> (TableChange, TableChange) {
     let gate = Some(seq);
     let rewriting = TableChange::RewriteKey { key, gate, seq };
     (rewriting, TableChange::Delete { key: other })
 }
 
+/// Makes the changes that compact and truncate at an index, by the names and types of all fields.
 fn index_changes(index: u64) -> (TableChange, TableChange) {
     (
         TableChange::Compact { index },
@@ -176,6 +201,7 @@ fn kind_of(change: &TableChange) -> &'static str {
     }
 }
 
+/// Tests that the names above are exported with these types, and that what they give is as it is written here.
 #[test]
 fn tables_are_handed_on(rt: HostRuntime) {
     counts();

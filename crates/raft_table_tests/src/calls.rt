@@ -19,8 +19,12 @@ fn has_blocks(table: &MemTable, want: &[(FileSeq, usize)]) -> bool {
             && block.spans.len() == want.1)
 }
 
-/// Makes the calls of rows on an empty store, and tests each row: once by the calls themselves, and once by changes
-/// that are values.
+/// Makes the calls of rows on an empty store, and asserts that each leaves what its row says: once by the calls
+/// themselves, and once by changes that are values.
+///
+/// # Errors
+///
+/// `Memory` if there is none twice in a row; an error for which there is no [`Answer`].
 fn make_and_check_rows(rt: &impl Abort, alloc: Global, rows: &[Row]) -> Result<()> {
     for &by_value in &[false, true] {
         let mut store = LogStore::new(alloc);
@@ -124,6 +128,10 @@ fn rows_of_tried_runs() -> &'static [TriedRow] {
 }
 
 /// Makes a call on an empty store, and tries a run. Returns whether the run was put, and the store after it.
+///
+/// # Errors
+///
+/// Those of [`LogStore::call_by_method`] and [`LogStore::try_replay`].
 fn try_run(alloc: Global, call: Call, queue: LogQueue, run: Run) -> Result<(bool, Shape)> {
     let mut store = LogStore::new(alloc);
     store.call_by_method(call)?;
@@ -293,7 +301,7 @@ type Seen = (Option<u64>, Option<u64>, usize, Option<(FileSeq, FileSeq)>);
 /// What an empty table has.
 const EMPTY: Seen = (None, None, 0, None);
 
-/// Returns what a table has.
+/// Returns the first and the last index of a table, how many keys it has, and the first and the last file of its group.
 fn indexes_and_counts(table: &MemTable) -> Seen {
     (
         table.first_index(),
@@ -305,14 +313,18 @@ fn indexes_and_counts(table: &MemTable) -> Seen {
 
 /// Makes a call on each of two empty stores, and merges the second table into the first. Returns the answer, the first
 /// store, and whether the second table is then empty, or, where the merge was refused, as it was.
+///
+/// # Errors
+///
+/// Those of the two calls; `Memory`. A refused merge is in the result.
 fn merge_two_stores(
     alloc: Global,
     older: Call,
     newer: Call,
     is_append: bool,
 ) -> Result<(Answer, Shape, bool)> {
-    let mut store = LogStore::after_calls(alloc, &[older])?;
-    let mut table = LogStore::after_calls(alloc, &[newer])?.table;
+    let mut store = LogStore::with_calls(alloc, &[older])?;
+    let mut table = LogStore::with_calls(alloc, &[newer])?.table;
     let before = indexes_and_counts(&table);
     let given = store.merge(&mut table, is_append);
     let left = if given.is_ok() { EMPTY } else { before };
@@ -348,15 +360,19 @@ fn is_corruption_with_text(given: Result<u64>, text: &str) -> bool {
 
 /// Tests whether a hole is refused with its text: one that an append leaves, a replayed run, and a table that is
 /// merged.
+///
+/// # Errors
+///
+/// Those of calls that are to succeed; `Memory`.
 fn are_holes_named(alloc: Global) -> Result<bool> {
     let (older, newer) = ((10, 20, 1), (25, 30, 2));
-    let mut store = LogStore::after_calls(alloc, &[Append(older)])?;
+    let mut store = LogStore::with_calls(alloc, &[Append(older)])?;
     let appended = is_corruption_with_text(store.call_by_method(Append(newer)), HOLE);
     let replayed = is_corruption_with_text(
         store.call_by_method(Replay(LogQueue::Append, newer)),
         HOLE,
     );
-    let mut table = LogStore::after_calls(alloc, &[Append(newer)])?.table;
+    let mut table = LogStore::with_calls(alloc, &[Append(newer)])?.table;
     let merged = is_corruption_with_text(store.merge(&mut table, false).map(|()| 0), HOLE);
     Ok(appended && replayed && merged)
 }

@@ -7,6 +7,10 @@ use std::alloc::Global;
 use std::process::Abort;
 
 /// Returns a store with the keys 1, 2 and 3, the second of which is rewritten.
+///
+/// # Errors
+///
+/// Those of the table's calls; `Memory`.
 fn store_with_three_keys(alloc: Global) -> Result<LogStore> {
     let mut store = LogStore::new(alloc);
     for &(key, queue, seq) in &[
@@ -19,7 +23,12 @@ fn store_with_three_keys(alloc: Global) -> Result<LogStore> {
     Ok(store)
 }
 
-/// Fetches the pairs of a table. Returns how many there are, and whether the first has the key 1.
+/// Fetches the pairs of a table in append files up to 2, and then those in rewrite files. Returns how many these are,
+/// and whether the first one has the key 1.
+///
+/// # Errors
+///
+/// Those of the fetches.
 fn fetch_pairs(alloc: Global, table: &MemTable) -> Result<(usize, bool)> {
     let mut pairs = Vec::new(alloc);
     table.fetch_kvs_before(2, &mut pairs)?;
@@ -61,6 +70,10 @@ fn rows_of_walks() -> &'static [Walk] {
 
 /// Walks over the keys of a table, and returns those that it meets as the digits of a number. It ends early once that
 /// number isn't below `limit`.
+///
+/// # Errors
+///
+/// Those of [`MemTable::scan`].
 fn walk_keys_as_digits(
     table: &MemTable,
     start: Bound,
@@ -77,7 +90,11 @@ fn walk_keys_as_digits(
     Ok(seen)
 }
 
-/// Tests what a table returns for its keys.
+/// Asserts what a table returns for its keys.
+///
+/// # Errors
+///
+/// Those of the table's calls; `Memory`.
 fn check_queries_of_keys(rt: &impl Abort, alloc: Global) -> Result<()> {
     let store = store_with_three_keys(alloc)?;
     let table = &store.table;
@@ -100,6 +117,10 @@ fn keys_are_walked_in_order_and_pairs_fetched(rt: HostRuntime) -> Result<()> {
 }
 
 /// Returns a store with these keys and values in a file.
+///
+/// # Errors
+///
+/// Those of the table's calls; `Memory`.
 fn store_with_pairs(alloc: Global, file: FileId, pairs: &[(&[u8], &[u8])]) -> Result<LogStore> {
     let mut store = LogStore::new(alloc);
     for (key, value) in pairs {
@@ -109,6 +130,10 @@ fn store_with_pairs(alloc: Global, file: FileId, pairs: &[(&[u8], &[u8])]) -> Re
 }
 
 /// Returns a store with two rewritten keys, into which two appended ones were merged. One key is in both.
+///
+/// # Errors
+///
+/// Those of the table's calls; `Memory`.
 fn store_after_merge(alloc: Global) -> Result<LogStore> {
     let rewritten = FileId::new(LogQueue::Rewrite, 7);
     let mut store = store_with_pairs(alloc, rewritten, &[(b"j", b"1"), (b"k", b"2")])?;
@@ -126,6 +151,10 @@ fn has_values(store: &LogStore, values: [Bound; 3]) -> bool {
 }
 
 /// Returns how many pairs of a table are in append files up to the one numbered `gate`.
+///
+/// # Errors
+///
+/// Those of the fetch.
 fn count_before(alloc: Global, table: &MemTable, gate: FileSeq) -> Result<usize> {
     let mut pairs = Vec::new(alloc);
     table.fetch_kvs_before(gate, &mut pairs)?;
@@ -142,6 +171,10 @@ fn key_counts(table: &MemTable) -> (usize, u128, Option<FileSeq>) {
 }
 
 /// Rewrites a key into rewrite file 50, if it is in an append file up to 9.
+///
+/// # Errors
+///
+/// Those of the table's calls; `Memory`.
 fn rewrite_key(alloc: Global, store: &mut LogStore, key: &[u8]) -> Result<()> {
     let key = Vec::from_slice(alloc, key)?;
     store.make(TableChange::RewriteKey {
@@ -153,13 +186,21 @@ fn rewrite_key(alloc: Global, store: &mut LogStore, key: &[u8]) -> Result<()> {
 }
 
 /// Deletes a key.
+///
+/// # Errors
+///
+/// Those of the table's calls; `Memory`.
 fn delete_key(alloc: Global, store: &mut LogStore, key: &[u8]) -> Result<()> {
     let key = Vec::from_slice(alloc, key)?;
     store.make(TableChange::Delete { key })?;
     Ok(())
 }
 
-/// Tests a merged table, and again after each of a rewriting and a deletion.
+/// Asserts what a merged table has, and what it has after a rewriting and after a deletion.
+///
+/// # Errors
+///
+/// Those of the table's calls; `Memory`.
 fn check_merged_keys(rt: &impl Abort, alloc: Global) -> Result<()> {
     let mut store = store_after_merge(alloc)?;
     assert!(rt; has_values(&store, [Some(b"1"), Some(b"3"), Some(b"4")]));

@@ -11,6 +11,10 @@ use std::alloc::Global;
 type Shape = (Option<u64>, Option<u64>, usize, usize, usize);
 
 /// Returns the indexes and the counts of a table, and how many entries it returns.
+///
+/// # Errors
+///
+/// Those of [`MemTable::fetch_entries_to`].
 fn indexes_and_counts(alloc: Global, table: &MemTable) -> Result<Shape> {
     let (first, last) = (table.first_index(), table.last_index());
     let mut fetched = Vec::new(alloc);
@@ -22,6 +26,10 @@ fn indexes_and_counts(alloc: Global, table: &MemTable) -> Result<Shape> {
 }
 
 /// Tests whether 5,000 entries in 100 blocks are appended, and their older half is rewritten, each by a single change.
+///
+/// # Errors
+///
+/// Those of the table's calls; `Memory`.
 fn is_older_half_rewritten(alloc: Global) -> Result<bool> {
     let mut store = LogStore::new(alloc);
     let _appended = store.call_and_retry(Append((0, 5_000, 1)), true)?;
@@ -65,15 +73,23 @@ fn rows_of_merges() -> &'static [MergeRow] {
 }
 
 /// Tests whether the tables of a row are merged into the table that it has.
+///
+/// # Errors
+///
+/// Those of the table's calls; `Memory`.
 fn is_row_merged(alloc: Global, row: &MergeRow) -> Result<bool> {
     let (older, newer, is_append, merged) = *row;
-    let mut store = LogStore::after_calls(alloc, &[older])?;
-    let mut table = LogStore::after_calls(alloc, &[newer])?.table;
+    let mut store = LogStore::with_calls(alloc, &[older])?;
+    let mut table = LogStore::with_calls(alloc, &[newer])?.table;
     store.merge(&mut table, is_append)?;
     Ok(indexes_and_counts(alloc, &store.table)? == merged)
 }
 
 /// Tests whether the empty key gets a value of 64 KiB, and has none once it is deleted.
+///
+/// # Errors
+///
+/// Those of the table's calls; `Memory`.
 fn is_long_value_deleted(alloc: Global) -> Result<bool> {
     let mut store = LogStore::new(alloc);
     let mut value = Vec::new(alloc);
@@ -85,7 +101,11 @@ fn is_long_value_deleted(alloc: Global) -> Result<bool> {
     Ok(has_value && store.table.get(b"").is_none() && store.table.key_count() == 0)
 }
 
-/// Tests each row, a rewriting and a long value.
+/// Tests whether each row of merges holds, a rewriting of half a table is made, and a long value is deleted.
+///
+/// # Errors
+///
+/// Those of the table's calls; `Memory`.
 fn are_all_large_changes_made(alloc: Global) -> Result<bool> {
     for row in rows_of_merges() {
         if !is_row_merged(alloc, row)? {

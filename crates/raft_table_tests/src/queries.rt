@@ -31,6 +31,10 @@ fn list_rows() -> &'static [(&'static [ListedEntry], Answer)] {
 }
 
 /// Returns the entries of a list, each at a place of its own.
+///
+/// # Errors
+///
+/// `Memory` alone.
 fn entries_of_list(alloc: Global, list: &[ListedEntry]) -> Result<Vec<EntryIndex>> {
     let mut entries = Vec::new(alloc);
     for (index, queue) in list {
@@ -48,6 +52,10 @@ fn entries_of_list(alloc: Global, list: &[ListedEntry]) -> Result<Vec<EntryIndex
 }
 
 /// Appends a list. Returns whether it is a run of the append queue, and the answer.
+///
+/// # Errors
+///
+/// `Memory`; an error for which there is no [`Answer`].
 fn append_list(
     alloc: Global,
     store: &mut LogStore,
@@ -59,7 +67,11 @@ fn append_list(
     Ok((is_run, answer))
 }
 
-/// Tests whether the lists of the rows are appended to one table, or refused, one after another.
+/// Asserts that the lists of the rows are appended to one table or refused as the rows say, one after another.
+///
+/// # Errors
+///
+/// Those of [`append_list`], and of changes that are to succeed.
 fn check_each_list_row(rt: &impl Abort, alloc: Global) -> Result<()> {
     let mut store = LogStore::new(alloc);
     for (list, want) in list_rows() {
@@ -100,6 +112,10 @@ fn fetch_rows() -> &'static [Fetch] {
 }
 
 /// Returns entries of these lengths from the index 10 on, each at a place of its own.
+///
+/// # Errors
+///
+/// `Memory` alone.
 fn entries_of_lengths(alloc: Global, lens: &[u32]) -> Result<Vec<EntryIndex>> {
     let mut entries = Vec::new(alloc);
     let mut index = 10u64;
@@ -132,6 +148,10 @@ fn have_indexes_from(entries: &[EntryIndex], first: u64) -> bool {
 }
 
 /// Fetches entries. Returns the answer, how many entries it gives, and whether these are the ones from `begin` on.
+///
+/// # Errors
+///
+/// `Memory`; an error for which there is no [`Answer`].
 fn fetch_entries(
     alloc: Global,
     table: &MemTable,
@@ -150,6 +170,10 @@ fn fetch_entries(
 }
 
 /// Tests whether the fetch of a row gives what the row says.
+///
+/// # Errors
+///
+/// Those of [`fetch_entries`], and of the append before it.
 fn fetch_row_holds(alloc: Global, row: &Fetch) -> Result<bool> {
     let (lens, begin, end, limit, want, count) = *row;
     let mut store = LogStore::new(alloc);
@@ -176,6 +200,10 @@ fn has_at_least_before(table: &MemTable, seq: FileSeq, count: usize) -> bool {
 /// Fetches the appended entries up to file 1, those up to file 2, and the rewritten ones, into one list. Returns how
 /// long the list is after each fetch; and whether the appended entries in it are those from 10 on, and the rewritten
 /// ones those from 0 on.
+///
+/// # Errors
+///
+/// Those of the fetches.
 fn fetch_each_queue(alloc: Global, table: &MemTable) -> Result<([usize; 3], bool)> {
     let mut fetched = Vec::new(alloc);
     table.fetch_entry_indexes_before(1, &mut fetched)?;
@@ -206,7 +234,11 @@ fn file_seq_of_entry(table: &MemTable, index: u64) -> Option<FileSeq> {
         .map(|place| place.id.seq)
 }
 
-/// Tests what a table returns of entries in two append files, those of the first of which are then rewritten.
+/// Asserts what a table returns of entries in two append files, those of the first of which are then rewritten.
+///
+/// # Errors
+///
+/// Those of the table's calls; `Memory`.
 fn check_queries_of_both_queues(rt: &impl Abort, alloc: Global) -> Result<()> {
     let calls = [
         Append((0, 10, 1)),
@@ -214,7 +246,7 @@ fn check_queries_of_both_queues(rt: &impl Abort, alloc: Global) -> Result<()> {
         Rewrite((0, 15, 50), Some(1)),
         Group(3, 7),
     ];
-    let store = LogStore::after_calls(alloc, &calls)?;
+    let store = LogStore::with_calls(alloc, &calls)?;
     let table = &store.table;
     assert!(rt; block_and_entry_counts(table) == (2, 10, 10));
     assert!(rt; table.atomic_group() == Some((3, 7)));

@@ -73,7 +73,8 @@ fn draw_run(numbers: &mut Numbers, list: &List) -> Run {
     )
 }
 
-/// Draws a change.
+/// Draws a change: an append or a rewriting in most cases, else another call or a merge. Its run is one of
+/// [`draw_run`].
 fn draw_change(numbers: &mut Numbers, list: &List) -> Change {
     let run = draw_run(numbers, list);
     let gate = 1 + numbers.draw_below(3);
@@ -99,12 +100,20 @@ fn draw_change(numbers: &mut Numbers, list: &List) -> Change {
     }
 }
 
-/// Returns the table of a run.
+/// Returns a table that has replayed a run of `queue`, and nothing else.
+///
+/// # Errors
+///
+/// Those of the table's calls; `Memory`.
 fn table_of_run(alloc: Global, queue: LogQueue, run: Run) -> Result<MemTable> {
-    Ok(LogStore::after_calls(alloc, &[Call::Replay(queue, run)])?.table)
+    Ok(LogStore::with_calls(alloc, &[Call::Replay(queue, run)])?.table)
 }
 
-/// Makes a change of a store.
+/// Makes `change` of a store, by the calls of its table.
+///
+/// # Errors
+///
+/// Those of the table's calls; `Memory`.
 fn make_change(alloc: Global, store: &mut LogStore, change: Change) -> Result<()> {
     match change {
         Change::Call(call) => {
@@ -119,7 +128,11 @@ fn make_change(alloc: Global, store: &mut LogStore, change: Change) -> Result<()
     }
 }
 
-/// Merges the table of a run under its region mark.
+/// Merges the table of a run into the store's, under a region mark that has these bounds and the start of the run.
+///
+/// # Errors
+///
+/// Those of the table's calls; `Memory`.
 fn merge_under_mark(
     alloc: Global,
     store: &mut LogStore,
@@ -161,7 +174,7 @@ fn is_in_queue(entry: &EntryIndex, queue: LogQueue) -> bool {
 }
 
 /// Tests whether a rewriting may move an entry.
-fn can_move(entry: &EntryIndex, gate: Option<FileSeq>) -> bool {
+fn can_entry_move(entry: &EntryIndex, gate: Option<FileSeq>) -> bool {
     match (entry.entries, gate) {
         (Some(handle), Some(gate)) => handle.id.seq <= gate,
         (Some(handle), None) => handle.id.queue == LogQueue::Rewrite,
@@ -249,6 +262,10 @@ impl List {
     }
 
     /// Makes a change of the list, one that is accepted.
+    ///
+    /// # Errors
+    ///
+    /// `Memory` alone.
     fn make_change(&mut self, change: Change) -> Result<()> {
         match change {
             Change::Call(Call::Append(run)) | Change::MergeAppended(run) => {
@@ -278,6 +295,10 @@ impl List {
     }
 
     /// Puts a run in place of the entries from its start on, or of all entries where it would leave a hole.
+    ///
+    /// # Errors
+    ///
+    /// `Memory` alone.
     fn put_run(&mut self, queue: LogQueue, run: Run) -> Result<()> {
         if !self.meets_without_hole(run) {
             self.entries.clear();
@@ -294,7 +315,7 @@ impl List {
     fn move_places(&mut self, run: Run, gate: Option<FileSeq>) {
         for entry in &mut self.entries {
             if run_has_index(run, entry.index) {
-                if !can_move(entry, gate) {
+                if !can_entry_move(entry, gate) {
                     return;
                 }
                 *entry = entry_of_run(LogQueue::Rewrite, run, entry.index);
@@ -312,6 +333,10 @@ fn has_same_entries(store: &LogStore, list: &List) -> bool {
 
 /// Makes a change of the table, and of the list where that accepts it. Tests whether both accept it or neither does,
 /// and both have the same entries then.
+///
+/// # Errors
+///
+/// `Memory` alone.
 fn change_both_and_compare(
     alloc: Global,
     store: &mut LogStore,
@@ -333,6 +358,10 @@ fn change_both_and_compare(
 
 /// Makes `changes` random changes, and returns the first one after which the table and the list differ; `None` where
 /// they never do.
+///
+/// # Errors
+///
+/// `Memory` alone.
 fn find_first_difference(alloc: Global, changes: u32) -> Result<Option<Change>> {
     let mut numbers = Numbers { state: 2024 };
     let mut store = LogStore::new(alloc);

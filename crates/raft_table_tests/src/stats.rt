@@ -17,8 +17,12 @@ fn live_written_and_deleted(stats: &GlobalStats) -> [usize; 3] {
     ]
 }
 
-/// Tests the counts when a table of ten appended entries and a rewritten key is added, subtracted, and added again
+/// Asserts the counts when a table of ten appended entries and a rewritten key is added, subtracted, and added again
 /// where there is no room.
+///
+/// # Errors
+///
+/// `Full` if an addition that is to succeed has no room.
 fn check_adding_and_subtracting(rt: &impl Abort, table: &MemTable) -> Result<()> {
     let mut stats = GlobalStats::default();
     stats.add_table(table)?;
@@ -31,10 +35,14 @@ fn check_adding_and_subtracting(rt: &impl Abort, table: &MemTable) -> Result<()>
     Ok(())
 }
 
-/// Tests the counts of a table with appended entries and a rewritten key.
+/// Asserts the counts of a table with appended entries and a rewritten key.
+///
+/// # Errors
+///
+/// Those of [`check_adding_and_subtracting`], and of the table's calls; `Memory`.
 fn check_counts_of_table(rt: &impl Abort, alloc: Global) -> Result<()> {
     let calls = [Append((0, 10, 1)), Put(LogQueue::Rewrite, 5)];
-    let store = LogStore::after_calls(alloc, &calls)?;
+    let store = LogStore::with_calls(alloc, &calls)?;
     check_adding_and_subtracting(rt, &store.table)
 }
 
@@ -46,7 +54,7 @@ fn tables_are_added_to_the_counts_and_subtracted(rt: HostRuntime) -> Result<()> 
 
 /// Tests that records deleted from the rewrite queue make room for new ones where the count is at its highest number.
 #[test]
-fn deleted_records_make_room_once(rt: HostRuntime) -> Result<()> {
+fn deleted_records_make_room_for_new_ones(rt: HostRuntime) -> Result<()> {
     let mut stats = GlobalStats::default();
     stats.add(LogQueue::Rewrite, usize::MAX)?;
     stats.delete(LogQueue::Rewrite, 10);

@@ -60,6 +60,10 @@ pub type Shape = ((u64, u64), (u64, FileSeq), (u64, u64, FileSeq));
 
 /// Returns the result of a call as an answer: a number of dropped entries only if that isn't 0. `Memory` and errors
 /// that no answer stands for are passed on.
+///
+/// # Errors
+///
+/// `Memory`; an error for which there is no [`Answer`].
 pub fn to_answer(given: Result<u64>) -> Result<Answer> {
     match given {
         Ok(0) => Ok(Answer::Done),
@@ -93,7 +97,7 @@ pub fn entry_of_run(queue: LogQueue, run: Run, index: u64) -> EntryIndex {
 }
 
 impl LogStore {
-    /// Returns an empty store.
+    /// Returns a store whose table, that of region 7, has no records, and whose counts are 0.
     pub fn new(alloc: Global) -> LogStore {
         LogStore {
             alloc,
@@ -103,7 +107,11 @@ impl LogStore {
     }
 
     /// Returns a new store on which these calls were made.
-    pub fn after_calls(alloc: Global, calls: &[Call]) -> Result<LogStore> {
+    ///
+    /// # Errors
+    ///
+    /// That of the first call that fails; no further one is made then.
+    pub fn with_calls(alloc: Global, calls: &[Call]) -> Result<LogStore> {
         let mut store = LogStore::new(alloc);
         for call in calls {
             store.call_by_method(*call)?;
@@ -112,11 +120,19 @@ impl LogStore {
     }
 
     /// Returns a copy of a text.
+    ///
+    /// # Errors
+    ///
+    /// `Memory` alone.
     fn copy_bytes(&self, text: &[u8]) -> Result<Vec<u8>> {
         Ok(Vec::from_slice(self.alloc, text)?)
     }
 
-    /// Returns the entries of a run.
+    /// Returns the entries of a run, with places in its file of `queue`.
+    ///
+    /// # Errors
+    ///
+    /// `Failed` if they are no run of `queue`; `Memory`.
     fn run_entries(&self, queue: LogQueue, run: Run) -> Result<Vec<EntryIndex>>
         ensures { IfOk result (λ entries. IsRunIn queue entries.items) }
     {
@@ -133,6 +149,10 @@ impl LogStore {
     }
 
     /// Returns a call as a change that is a value; `None` where there is no such change.
+    ///
+    /// # Errors
+    ///
+    /// Those of [`LogStore::run_entries`]; `Memory`.
     fn to_change(&self, call: Call) -> Result<Option<TableChange>> {
         Ok(match call {
             Call::Append(run) => Some(TableChange::Append(self.run_entries(
@@ -162,7 +182,11 @@ impl LogStore {
         })
     }
 
-    /// Makes a call by the method of the table.
+    /// Makes a call by the method of the table. Returns how many entries it dropped; 0 for a call that drops none.
+    ///
+    /// # Errors
+    ///
+    /// Those of the method; `Failed` for a group that ends before it begins, or entries that are no run; `Memory`.
     pub fn call_by_method(&mut self, call: Call) -> Result<u64> {
         match call {
             Call::Append(run) => {
@@ -198,7 +222,11 @@ impl LogStore {
         Ok(0)
     }
 
-    /// Replays a run. `Failed` where it is of the rewrite queue, and there are appended records.
+    /// Replays a run, which is of `queue`.
+    ///
+    /// # Errors
+    ///
+    /// `Failed` if it is of the rewrite queue, and there are appended records; those of the replay.
     fn replay_run(&mut self, queue: LogQueue, run: Vec<EntryIndex>) -> Result<()>
         requires { IsRunIn queue run.items }
     {
@@ -211,6 +239,10 @@ impl LogStore {
 
     /// Tries to replay a run, and once more where it isn't put, which may be for lack of memory. Returns whether it was
     /// put.
+    ///
+    /// # Errors
+    ///
+    /// Those of [`LogStore::run_entries`].
     pub fn try_replay(&mut self, queue: LogQueue, run: Run) -> Result<bool> {
         let entries = self.run_entries(queue, run)?;
         let run = raft_memtable::Run::Entries(&entries);
@@ -220,7 +252,12 @@ impl LogStore {
         )
     }
 
-    /// Makes a call, with `by_value` as a change that is a value, where there is one for it.
+    /// Makes a call: if `by_value`, as a change that is a value, where there is one for it. Returns how many entries it
+    /// dropped.
+    ///
+    /// # Errors
+    ///
+    /// Those of [`LogStore::to_change`], [`MemTable::change`] and [`LogStore::call_by_method`].
     fn call(&mut self, call: Call, by_value: bool) -> Result<u64> {
         if by_value && let Some(change) = self.to_change(call)? {
             return self.table.change(change, &mut self.stats);
@@ -229,16 +266,28 @@ impl LogStore {
     }
 
     /// Makes a call, and once more where it found no memory, since nothing has changed then.
+    ///
+    /// # Errors
+    ///
+    /// `Memory` if there is none twice; an error for which there is no [`Answer`].
     pub fn call_and_retry(&mut self, call: Call, by_value: bool) -> Result<Answer> {
         to_answer(again!(self.call(call, by_value)))
     }
 
-    /// Makes a change of the table.
+    /// Makes a change of the table. Returns how many entries it dropped.
+    ///
+    /// # Errors
+    ///
+    /// Those of [`MemTable::change`].
     pub fn make(&mut self, change: TableChange) -> Result<u64> {
         self.table.change(change, &mut self.stats)
     }
 
     /// Puts a key with its value, by a change of the table.
+    ///
+    /// # Errors
+    ///
+    /// Those of [`MemTable::change`]; `Memory`.
     pub fn put(&mut self, key: &[u8], value: &[u8], file_id: FileId) -> Result<()> {
         let put = TableChange::Put {
             key: self.copy_bytes(key)?,
@@ -250,6 +299,10 @@ impl LogStore {
     }
 
     /// Merges a table into the store's: as the appended one, or else as the newer neighbor.
+    ///
+    /// # Errors
+    ///
+    /// `Failed` if the tables are of different regions; those of the merge.
     pub fn merge(&mut self, other: &mut MemTable, is_append: bool) -> Result<()> {
         if self.table.region_id() != other.region_id() {
             return Err(Error::Failed);
@@ -262,6 +315,10 @@ impl LogStore {
     }
 
     /// Merges a newer table of a queue into the store's, under the newer one's region mark.
+    ///
+    /// # Errors
+    ///
+    /// `Failed` if the tables are of different regions, or have records that the join forbids; those of the join.
     pub fn join_under(&mut self, queue: LogQueue, newer: &mut MemTable, mark: &Mark) -> Result<()> {
         let other = match queue {
             LogQueue::Append => LogQueue::Rewrite,

@@ -1,11 +1,11 @@
 //! Tests that each call of shared tables leaves what the accessor's call of the same name leaves.
 
 use crate::calls::{
-    Answer, Call, Change, answer_of_number, answer_of_table, answer_of_unit, call_core,
+    Answer, Call, Change, answer_of_number, answer_of_table, answer_without_value, call_accessor,
     compaction_change, new_other_table, tables_after_calls, to_table_change,
 };
 use crate::items::{Fault, Item, NEW, NEWER, REWRITTEN, result_or_fault, to_log_items};
-use crate::seen::{REGION, see_core, see_shared, take_cleaned_of_shared};
+use crate::seen::{REGION, summarize_accessor, summarize_shared_tables, take_cleaned_of_shared};
 use raft_memtable::{Error, LogQueue, MemTableAccessor, Result};
 use raft_recover::SharedAccessor;
 use raft_trials::again;
@@ -222,7 +222,11 @@ fn rows_of_calls() -> &'static [Row] {
     &CALLS
 }
 
-/// Makes a call of shared tables.
+/// Makes a call of shared tables, and returns its answer.
+///
+/// # Errors
+///
+/// Those of the call; `Failed` if shared tables don't have it; `Memory`.
 fn call_shared<R: Wait>(
     rt: &R,
     alloc: Global,
@@ -241,20 +245,27 @@ fn call_shared<R: Wait>(
             id,
             to_table_change(alloc, change)?,
         )),
-        Call::GetOrInsert(id) => answer_of_unit(shared.get_or_insert(rt, id)),
+        Call::GetOrInsert(id) => answer_without_value(shared.get_or_insert(rt, id)),
         Call::Insert(id) => {
             let other = new_other_table(alloc, id)?;
             answer_of_table(shared.insert(rt, other.region_id(), other))
         }
         Call::Remove(id, is_listed) => answer_of_table(shared.remove(rt, id, is_listed)),
-        Call::AppendWrites(given) => answer_of_unit(shared.apply_append_writes(
+        Call::AppendWrites(given) => answer_without_value(shared.apply_append_writes(
             rt,
             to_log_items(alloc, given)?,
         )),
         Call::RewriteWrites(given, gate, seq) => {
-            answer_of_unit(shared.apply_rewrite_writes(rt, to_log_items(alloc, given)?, gate, seq))
+            answer_without_value(shared.apply_rewrite_writes(
+                rt,
+                to_log_items(alloc, given)?,
+                gate,
+                seq,
+            ))
         }
-        Call::AtomicGroup(id) => answer_of_unit(shared.apply_rewrite_atomic_group(rt, id, 49, 50)),
+        Call::AtomicGroup(id) => answer_without_value(shared.apply_rewrite_atomic_group(
+            rt, id, 49, 50,
+        )),
         Call::TakeCleaned => Ok((
             take_cleaned_of_shared(rt, alloc, shared)?.len() as u64,
             None,
@@ -264,6 +275,10 @@ fn call_shared<R: Wait>(
 }
 
 /// Tests whether cleaned regions of one slot stay listed in order, each as often as it was cleaned.
+///
+/// # Errors
+///
+/// Those of the calls; `Memory`.
 fn is_cleaned_list_kept<R: Wait>(rt: &R, alloc: Global) -> Result<bool> {
     let mut core = MemTableAccessor::new(alloc)?;
     for &region in &[3, 73, 3, 3] {
@@ -275,30 +290,43 @@ fn is_cleaned_list_kept<R: Wait>(rt: &R, alloc: Global) -> Result<bool> {
 
 /// Tests whether regions that were cleaned are listed, and one that was written again has its table, also once the
 /// tables were shared and are an accessor's again.
+///
+/// # Errors
+///
+/// Those of the calls; `Memory`.
 fn is_rewritten_region_back(alloc: Global) -> Result<bool> {
     let shared = SharedAccessor::from_core(alloc, tables_after_calls(alloc, CLEANED_AND_WRITTEN)?)?;
     let mut core = shared.into_core()?;
-    let seen = see_core(alloc, &mut core)?;
+    let seen = summarize_accessor(alloc, &mut core)?;
     let mut expected = tables_after_calls(alloc, CLEANED_AND_WRITTEN)?;
-    Ok(seen.has(1, 3, (4, 0)) && seen == see_core(alloc, &mut expected)?)
+    Ok(seen.has(1, 3, (4, 0)) && seen == summarize_accessor(alloc, &mut expected)?)
 }
 
 /// Tests whether the call of a row returns and leaves the same in shared tables and in an accessor, and is refused for
 /// the row's fault, or not at all.
+///
+/// # Errors
+///
+/// That of a call, unless it is a [`Fault`](crate::items::Fault); those of the calls before; `Memory`.
 fn is_row_alike<R: Wait>(rt: &R, alloc: Global, row: &Row) -> Result<bool> {
     let (made, call, fault) = *row;
     let shared = SharedAccessor::from_core(alloc, tables_after_calls(alloc, made)?)?;
     let answer = result_or_fault(call_shared(rt, alloc, &shared, call))?;
     let mut core = tables_after_calls(alloc, made)?;
-    let expected = result_or_fault(call_core(alloc, &mut core, call))?;
+    let expected = result_or_fault(call_accessor(alloc, &mut core, call))?;
     Ok(
         answer == expected
             && answer.err() == fault
-            && see_shared(rt, alloc, &shared)? == see_core(alloc, &mut core)?,
+            && summarize_shared_tables(rt, alloc, &shared)?
+                == summarize_accessor(alloc, &mut core)?,
     )
 }
 
 /// Tests whether the calls of all rows leave the same in shared tables and in an accessor.
+///
+/// # Errors
+///
+/// Those of [`is_row_alike`], [`is_cleaned_list_kept`] and [`is_rewritten_region_back`].
 fn are_all_rows_alike<R: Wait>(rt: &R, alloc: Global) -> Result<bool> {
     for row in rows_of_calls() {
         if !is_row_alike(rt, alloc, row)? {

@@ -1,7 +1,9 @@
 //! Tests tables and cleaned regions in each of the 128 slots: no call and no walk leaves a slot out.
 
 use crate::items::{Item, NEW, new_run, to_log_items};
-use crate::seen::{Seen, live_written_and_deleted, see_core, see_shared, shape_of_table};
+use crate::seen::{
+    Seen, live_written_and_deleted, shape_of_table, summarize_accessor, summarize_shared_tables,
+};
 use raft_memtable::{MemTableAccessor, Result, TableChange, slot_of};
 use raft_recover::{SharedAccessor, Slot};
 use raft_trials::again;
@@ -24,13 +26,21 @@ fn has_each_slot_a_region(third: u64) -> bool {
 }
 
 /// Returns a change that appends an entry to the table of a region. Its index differs for a thousand regions.
+///
+/// # Errors
+///
+/// `Memory` alone.
 fn append_change(alloc: Global, region: u64) -> Result<TableChange> {
     let index = region % 1000;
     Ok(TableChange::Append(new_run(alloc, index, index + 1, NEW)?))
 }
 
 /// Fills the table of a region in an accessor: appends an entry, and rewrites a key of its own.
-fn fill_core(alloc: Global, core: &mut MemTableAccessor, region: u64) -> Result<()> {
+///
+/// # Errors
+///
+/// Those of the calls; `Memory`.
+fn fill_accessor(alloc: Global, core: &mut MemTableAccessor, region: u64) -> Result<()> {
     let key = [Item::PutOwnKey(region, NEW)];
     core.change(region, append_change(alloc, region)?)?;
     core.apply_append_writes(to_log_items(alloc, &key)?)?;
@@ -38,6 +48,10 @@ fn fill_core(alloc: Global, core: &mut MemTableAccessor, region: u64) -> Result<
 }
 
 /// Fills the shared table of a region: appends an entry, and rewrites a key of its own.
+///
+/// # Errors
+///
+/// Those of the calls; `Memory`.
 fn fill_shared<R: Wait>(rt: &R, alloc: Global, shared: &SharedAccessor, region: u64) -> Result<()> {
     let key = [Item::PutOwnKey(region, NEW)];
     shared.change(rt, region, append_change(alloc, region)?)?;
@@ -46,11 +60,15 @@ fn fill_shared<R: Wait>(rt: &R, alloc: Global, shared: &SharedAccessor, region: 
 }
 
 /// Returns an accessor with all regions.
+///
+/// # Errors
+///
+/// Those of the calls; `Memory`.
 fn new_filled_accessor(alloc: Global) -> Result<MemTableAccessor> {
     let mut core = MemTableAccessor::new(alloc)?;
     for region in 0..REGIONS {
         match region % 3 {
-            0 => fill_core(alloc, &mut core, region)?,
+            0 => fill_accessor(alloc, &mut core, region)?,
             1 => {
                 core.change(region, TableChange::Keep)?;
             }
@@ -61,6 +79,10 @@ fn new_filled_accessor(alloc: Global) -> Result<MemTableAccessor> {
 }
 
 /// Fills shared tables by their own calls, and returns what they have.
+///
+/// # Errors
+///
+/// Those of the calls; `Memory`.
 fn see_filled_shared_tables<R: Wait>(rt: &R, alloc: Global) -> Result<Seen> {
     let shared = SharedAccessor::new(alloc);
     for region in 0..REGIONS {
@@ -70,19 +92,27 @@ fn see_filled_shared_tables<R: Wait>(rt: &R, alloc: Global) -> Result<Seen> {
             _ => shared.apply_append_writes(rt, to_log_items(alloc, &[Item::Clean(region)])?)?,
         }
     }
-    see_shared(rt, alloc, &shared)
+    summarize_shared_tables(rt, alloc, &shared)
 }
 
 /// Makes shared tables of an accessor with all regions, and returns what they have.
+///
+/// # Errors
+///
+/// Those of the calls; `Memory`.
 fn see_shared_from_accessor<R: Wait>(rt: &R, alloc: Global) -> Result<Seen> {
     let shared = SharedAccessor::from_core(alloc, new_filled_accessor(alloc)?)?;
-    see_shared(rt, alloc, &shared)
+    summarize_shared_tables(rt, alloc, &shared)
 }
 
 /// Tests whether both have what the accessor has: 734 tables with an entry and a key, 733 without records, and 733
 /// cleaned regions.
+///
+/// # Errors
+///
+/// Those of the calls; `Memory`.
 fn are_all_tables_seen<R: Wait>(rt: &R, alloc: Global) -> Result<bool> {
-    let expected = see_core(alloc, &mut new_filled_accessor(alloc)?)?;
+    let expected = summarize_accessor(alloc, &mut new_filled_accessor(alloc)?)?;
     Ok(
         expected.has(1_467, 733, (734, 734))
             && see_filled_shared_tables(rt, alloc)? == expected
@@ -100,11 +130,15 @@ fn no_slot_is_left_out(rt: HostRuntime) {
 }
 
 /// Tests whether the tables of an accessor are as they were once they were shared and are an accessor's again.
+///
+/// # Errors
+///
+/// Those of the calls; `Memory`.
 fn are_tables_back(alloc: Global) -> Result<bool> {
     let shared = SharedAccessor::from_core(alloc, new_filled_accessor(alloc)?)?;
     let mut core = shared.into_core()?;
     let mut expected = new_filled_accessor(alloc)?;
-    Ok(see_core(alloc, &mut core)? == see_core(alloc, &mut expected)?)
+    Ok(summarize_accessor(alloc, &mut core)? == summarize_accessor(alloc, &mut expected)?)
 }
 
 /// Tests that tables that were shared are an accessor's again, as they were before.
@@ -153,6 +187,10 @@ fn are_slot_counts_right(slot: &Slot, own: usize, core: &MemTableAccessor, taken
 }
 
 /// Tests whether each slot takes its own tables out of an accessor, with their counts, which then has none.
+///
+/// # Errors
+///
+/// Those of the calls; `Memory`.
 fn takes_each_slot_its_own(alloc: Global) -> Result<bool> {
     let before = new_filled_accessor(alloc)?;
     let mut core = new_filled_accessor(alloc)?;
@@ -179,6 +217,10 @@ fn each_slot_takes_its_tables(rt: HostRuntime) {
 
 /// Tests whether shared tables aren't empty exactly as long as a region has a table. It is made, removed, and listed as
 /// cleaned.
+///
+/// # Errors
+///
+/// Those of the calls; `Memory`.
 fn is_single_table_met<R: Wait>(rt: &R, shared: &SharedAccessor, region: u64) -> Result<bool> {
     let before = shared.is_empty(rt);
     shared.get_or_insert(rt, region)?;
@@ -189,6 +231,10 @@ fn is_single_table_met<R: Wait>(rt: &R, shared: &SharedAccessor, region: u64) ->
 
 /// Tests for each region whether shared tables with its table alone aren't empty: the first table is in a slot without
 /// cleaned regions, the others in one with some.
+///
+/// # Errors
+///
+/// Those of the calls; `Memory`.
 fn is_each_table_met<R: Wait>(rt: &R, alloc: Global) -> Result<bool> {
     let shared = SharedAccessor::new(alloc);
     for region in 0..REGIONS {

@@ -31,6 +31,10 @@ fn last_index(slot: &Slot) -> Option<u64> {
 
 /// Tests truncations of the entries 10 to 19, the first five of which are rewritten: the others are removed in two
 /// steps, and rewritten items truncate nothing.
+///
+/// # Errors
+///
+/// Those of calls that are to succeed; `Memory`.
 fn truncates_appended_and_rewritten(alloc: Global) -> Result<bool> {
     let mut slot = Slot::new(alloc, slot_of(1));
     let appended = new_run(alloc, 10, 20, FileId::new(LogQueue::Append, 1))?;

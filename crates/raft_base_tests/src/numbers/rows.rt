@@ -270,7 +270,7 @@ pub(super) fn spelling_rows() -> &'static [SpellingRow] {
     &SPELLINGS
 }
 
-/// Returns the rows of bytes that begin with such a number.
+/// Returns the rows of bytes that begin with a number of as many bytes as it needs.
 pub(super) fn prefix_rows() -> &'static [PrefixRow] {
     &FRONTS
 }

@@ -79,8 +79,8 @@ impl<F: EngineFiles> Engine<F> {
     ///
     /// # Errors
     ///
-    /// - `Full` if a batch would begin past 2^63 in the file, or has 2^56 bytes or more, and those of [`moving_group_batches`]. The
-    ///   engine is unchanged then, but for reads.
+    /// - `Full` if a batch would begin past 2^63 in the file, or has 2^56 bytes or more, and those of [`moving_group_batches`].
+    ///   The engine is unchanged then, but for reads.
     /// - Those of `EngineFiles::append`. The engine isn't intact any more, the first ones of the batches were put, and the
     ///   tables are unchanged.
     /// - Those of [`rewrite_items`], once all batches were put. The engine isn't intact either, and the tables have the first

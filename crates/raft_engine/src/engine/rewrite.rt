@@ -118,12 +118,13 @@ impl<F: EngineFiles> Engine<F> {
 
     /// Moves what the table of `region` has in append files numbered at or below `gate`, or without a gate in rewrite files,
     /// to the last rewrite file. With a gate it goes in batches of a part of the entries each (see
-    /// [`count_in_next_part`](crate::parts::count_in_next_part)), the last one with the keys; without a gate in one batch. A region without a
-    /// table is left as it is.
+    /// [`count_in_next_part`](crate::parts::count_in_next_part)), the last one with the keys; without a gate in one batch. A
+    /// region without a table is left as it is.
     ///
     /// # Errors
     ///
-    /// `Memory`: the engine is unchanged then. Those of [`Engine::move_next_batch`]: the batches before the refused one moved then.
+    /// `Memory`: the engine is unchanged then. Those of [`Engine::move_next_batch`]: the batches before the refused one moved
+    /// then.
     pub(crate) fn rewrite_region(&mut self, region: u64, gate: Option<FileSeq>) -> Result<()>
         requires { IsReady self.old }
         ensures ok { OnOk result (IsRegionRewritten gate region self.old self.new) }
@@ -150,10 +151,10 @@ impl<F: EngineFiles> Engine<F> {
     ///
     /// # Errors
     ///
-    /// `Full` if the last rewrite file has more than 2^63 bytes, or the batch 2^56 or more, and those of [`next_moving_batch`]: the
-    /// engine is unchanged then, but for reads. Those of `EngineFiles::append`: the same holds where it takes back what it wrote;
-    /// else, and with those of [`rewrite_items`] once the batch was put, the engine isn't intact any more, and the tables are
-    /// unchanged or, once it was put, have the first ones of its items.
+    /// `Full` if the last rewrite file has more than 2^63 bytes, or the batch 2^56 or more, and those of [`next_moving_batch`]:
+    /// the engine is unchanged then, but for reads. Those of `EngineFiles::append`: the same holds where it takes back what it
+    /// wrote; else, and with those of [`rewrite_items`] once the batch was put, the engine isn't intact any more, and the
+    /// tables are unchanged or, once it was put, have the first ones of its items.
     fn move_next_batch(
         &mut self,
         region: u64,

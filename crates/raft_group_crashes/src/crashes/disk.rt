@@ -143,7 +143,8 @@ impl DiskNotes {
     }
 
     /// Writes the first `append` bytes of the last append file and the first `rewrite` bytes of the last
-    /// rewrite file to the folder of crashes, and opens it by `workers` workers ([`Crashes::reopen`]).
+    /// rewrite file to the folder of crashes, and opens it by `workers` workers
+    /// ([`Crashes::reopen_and_compare`]).
     ///
     /// # Errors
     ///

@@ -5,7 +5,7 @@ use super::{
     NONE, Shape, Word, context_of_words, overlay_of_words, part_with_word, replay_words,
     shape_of_region_1,
 };
-use crate::files::{read_and_replay, replay_file};
+use crate::files::{replay_file, replay_without_copy};
 use raft_memtable::{Error, FileId, Kept, LogQueue, MemTableRecoverContext, Result};
 use raft_trials::again;
 use std::alloc::Global;
@@ -18,7 +18,11 @@ enum Refusal {
     Failed,
 }
 
-/// Tests whether a call is refused with this error. `Memory` is passed on.
+/// Tests whether a call is refused with this error.
+///
+/// # Errors
+///
+/// `Memory`, if the call returned it, whatever `refusal` is.
 fn is_refused_as(answer: Result<()>, refusal: Refusal) -> Result<bool> {
     match (answer, refusal) {
         (Err(Error::Memory), _) => Err(Error::Memory),
@@ -67,6 +71,10 @@ const BATCHES: [(LogQueue, LogQueue, u64, u64, &str); 4] = [
 
 /// Tests whether a batch of the file `own`, replayed as one of the file `given`, is refused as `Corruption` for this
 /// reason, and the context has failed then.
+///
+/// # Errors
+///
+/// Those of the calls before; `Memory`.
 fn is_batch_refused(
     alloc: Global,
     first: LogQueue,
@@ -76,7 +84,7 @@ fn is_batch_refused(
 ) -> Result<bool> {
     let mut context = context_of_words(alloc, first, &[Put, Put])?;
     let file = part_with_word(alloc, 1, Put, own)?;
-    let answer = read_and_replay(&mut context, &file, given);
+    let answer = replay_without_copy(&mut context, &file, given);
     let refused = is_refused_as(answer, Refusal::Corruption(reason))?;
     let again = is_refused_as(replay_file(&mut context, &file), Refusal::Failed)?;
     let failed = matches!(context.finish(), Err(Error::Failed));
@@ -155,6 +163,10 @@ const OTHERS: [(Side, Side, bool, Refusal); 9] = [
 
 /// Tests whether a merge of two contexts, or the second put over the first, is refused with this error, and the first
 /// has failed then.
+///
+/// # Errors
+///
+/// Those of the calls before; `Memory`.
 fn is_other_context_refused(
     alloc: Global,
     older: Side,
@@ -173,7 +185,11 @@ fn is_other_context_refused(
 }
 
 /// Tests whether a context refuses a batch, a newer neighbor and a context of the append queue as `Failed`.
-fn refuses_all(alloc: Global, context: &mut MemTableRecoverContext) -> Result<bool> {
+///
+/// # Errors
+///
+/// `Memory` alone.
+fn refuses_all_calls(alloc: Global, context: &mut MemTableRecoverContext) -> Result<bool> {
     let answer = replay_words(alloc, context, LogQueue::Append, 1, &[Put]);
     let replayed = is_refused_as(answer, Refusal::Failed)?;
     let answer = context.merge(MemTableRecoverContext::new(alloc)?, LogQueue::Append);
@@ -183,8 +199,12 @@ fn refuses_all(alloc: Global, context: &mut MemTableRecoverContext) -> Result<bo
 }
 
 /// Tests whether a context has failed: all calls on it are refused, those for what it holds and for its tables too.
+///
+/// # Errors
+///
+/// `Memory` alone.
 fn has_failed(alloc: Global, mut context: MemTableRecoverContext) -> Result<bool> {
-    let refuses = refuses_all(alloc, &mut context)?;
+    let refuses = refuses_all_calls(alloc, &mut context)?;
     let kept = matches!(context.kept(), Err(Error::Failed));
     Ok(refuses && kept && matches!(context.finish(), Err(Error::Failed)))
 }
@@ -210,7 +230,12 @@ const HOLES: [(&[Word], &[Word], &str); 3] = [
     ),
 ];
 
-/// Tests whether the merge of such a neighbor is refused for this reason, and the context has failed then.
+/// Tests whether the merge of a newer neighbor whose run leaves a hole is refused for `reason`, and the context has
+/// failed then.
+///
+/// # Errors
+///
+/// Those of the calls before; `Memory`.
 fn is_hole_refused(
     alloc: Global,
     older: &[Word],
@@ -223,8 +248,12 @@ fn is_hole_refused(
     Ok(is_refused_as(answer, Refusal::Corruption(reason))? && has_failed(alloc, context)?)
 }
 
-/// Tests that a context over which one of the append queue was put takes no further context, and can't be put over
+/// Tests whether a context over which one of the append queue was put takes no further context, and can't be put over
 /// another.
+///
+/// # Errors
+///
+/// Those of the contexts' calls; `Memory`.
 fn takes_no_second_overlay(alloc: Global) -> Result<bool> {
     let mut context = overlay_of_words(alloc, &[Run(10, 20)], &[Put])?;
     let answer = context.merge_append_context(MemTableRecoverContext::new(alloc)?);
@@ -248,8 +277,12 @@ const TAKEN: Shape = Shape {
     ..NONE
 };
 
-/// Tests that a context over which one of the append queue was put still returns its tables, after a replay and a merge
-/// that it refused.
+/// Tests whether a context over which one of the append queue was put still returns its tables, after a replay and a
+/// merge that it refused.
+///
+/// # Errors
+///
+/// Those of the contexts' calls; `Memory`.
 fn finishes_after_overlay(alloc: Global) -> Result<bool> {
     let mut context = overlay_of_words(alloc, &[Run(10, 20)], &[Put])?;
     let answer = replay_words(alloc, &mut context, LogQueue::Rewrite, 1, &[Clean]);
@@ -260,8 +293,12 @@ fn finishes_after_overlay(alloc: Global) -> Result<bool> {
     Ok(replayed && merged && shape_of_region_1(&tables) == TAKEN)
 }
 
-/// Tests that a newer context over which one of the append queue was put can't be merged into another, which has failed
-/// then.
+/// Tests whether a newer context over which one of the append queue was put can't be merged into another, which has
+/// failed then.
+///
+/// # Errors
+///
+/// Those of the contexts' calls; `Memory`.
 fn refuses_overlaid_neighbor(alloc: Global) -> Result<bool> {
     let mut older = context_of_words(alloc, LogQueue::Rewrite, &[Put])?;
     let answer = older.merge(
@@ -274,6 +311,10 @@ fn refuses_overlaid_neighbor(alloc: Global) -> Result<bool> {
 }
 
 /// Tests whether a context holds ten entries, those of region 2, and a key, and no item of the group that waited.
+///
+/// # Errors
+///
+/// Those of [`MemTableRecoverContext::kept`].
 fn holds_expected_records(context: &MemTableRecoverContext) -> Result<bool> {
     let stays = Kept {
         entries: 13,
@@ -287,6 +328,10 @@ fn holds_expected_records(context: &MemTableRecoverContext) -> Result<bool> {
 }
 
 /// Tests whether batches and contexts that don't fit are refused.
+///
+/// # Errors
+///
+/// Those of the calls that are to succeed; `Memory`.
 fn are_all_misfits_refused(alloc: Global) -> Result<bool> {
     let mut all = takes_no_second_overlay(alloc)?
         && finishes_after_overlay(alloc)?

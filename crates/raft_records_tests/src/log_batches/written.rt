@@ -10,6 +10,10 @@ use std::alloc::Global;
 
 /// Tests whether the items of a log batch with these entry bytes are read from its bytes, as a batch of append file
 /// `seq`.
+///
+/// # Errors
+///
+/// Those of reading the header and the block; that of reading the items, unless it is `Corruption`.
 fn are_items_read(alloc: Global, bytes: &[u8], seq: u64, entry_bytes: &[u8]) -> Result<bool> {
     let Some((_offset, entries, items)) = read_back(
         alloc,
@@ -28,6 +32,10 @@ fn are_items_read(alloc: Global, bytes: &[u8], seq: u64, entry_bytes: &[u8]) -> 
 
 /// Tests whether a batch that is signed for three files, one after the other, is read each time as one of that file
 /// alone.
+///
+/// # Errors
+///
+/// Those of making the batch, and of [`are_items_read`].
 fn is_read_where_signed(alloc: Global) -> Result<bool> {
     let mut batch = batch_with_each_kind_of_item(alloc)?;
     batch.finish_populate()?;
@@ -85,6 +93,10 @@ struct Drained {
 }
 
 /// Writes a batch to file 12, and takes its items out.
+///
+/// # Errors
+///
+/// Those of the batch's calls; `Memory`.
 fn write_and_drain(alloc: Global) -> Result<Drained> {
     let mut batch = batch_with_each_kind_of_item(alloc)?;
     let len = batch.finish_populate()?;

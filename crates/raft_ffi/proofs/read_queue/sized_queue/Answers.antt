@@ -22,11 +22,11 @@ pub returns-clause-ok : goal.returns-clause-ok
 returns-clause-ok c = λ files read q.
     let are = c.as_slice-files.ensures.value ∙ c.in_ok-found.ensures.ok ∙ q.sizes_are in
     let m = c.in_ok-missing.ensures.ok files read are q.up_to (consecutive_read _ files are c.in_ok-check_sizes.ensures.ok) in
-    let left = left_sized c.args.mode c.args.queue c.args.version files c.in_ok-missing.missing m.find_missing _ c.in_ok-left.left.items are c.in_ok-left.ensures.ok in
+    let left = left_sized c.args.mode c.args.queue c.args.version files c.in_ok-missing.missing m.missing_of _ c.in_ok-left.left.items are c.in_ok-left.ensures.ok in
     record {
       sized_of = record {
-        missing = m.find_missing;
-        known = known_left c.args.mode c.args.queue c.args.version files c.in_ok-missing.missing m.find_missing c.in_ok-left.left.items c.in_ok-known.known left
+        missing = m.missing_of;
+        known = known_left c.args.mode c.args.queue c.args.version files c.in_ok-missing.missing m.missing_of c.in_ok-left.left.items c.in_ok-known.known left
             (subst (λ (ss : List FileSize). AreKnownOf ss c.in_ok-known.known) c.as_slice.ensures.value c.in_ok-known.ensures.ok);
         left = left;
       };

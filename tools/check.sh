@@ -7,7 +7,8 @@
 # - arguments that aren't UTF-8, and `recover --plain` over rows and damaged inputs;
 # - the frames of `raftlog` on the stack, and runs with little stack;
 # - crashes in more histories;
-# - writes of `raft_example` that fail half way, also where the engine goes on (if there is `strace`), what `raftlog` says of damaged folders, and what an engine does with them;
+# - writes of `raft_example` that fail half way, also where the engine goes on (if there is `strace`), what `raftlog` says of damaged folders,
+#   and what an engine does with them;
 # - if there is a C compiler, the rows of `raft_refusals` with memory and starts of threads refused;
 # - if there is cargo, the tests of rust/, and whether programs in Rust and in Rattle open each other's folders.
 #

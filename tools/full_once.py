@@ -34,7 +34,7 @@ WRITES = 100
 LIMITS = 4096
 
 FOLDER = "logs"
-FREE = resource.RLIM_INFINITY
+FREE = resource.getrlimit(resource.RLIMIT_FSIZE)[1]
 CALL = re.compile(r"^\d+ +(\w+)\(.*?(?:, (\d+))?\) += (-?\d+)(?: (\w+))?", re.M)
 
 

@@ -272,7 +272,7 @@ pub trait NumberEncoder: Write {
         ensures io { IfErr result IsIo }
     {
         // Most numbers are this short, and one byte is quickly written.
-        if v < 0x80 && varint::takes_byte(self, v as u8)? {
+        if v < 0x80 && varint::write_byte(self, v as u8)? {
             return Ok(());
         }
         let mut bytes = [0; varint::MAX_VAR_U64_LEN];
@@ -294,7 +294,7 @@ pub trait NumberEncoder: Write {
             (varint (zigzag v))) }
         ensures io { IfErr result IsIo }
     {
-        self.encode_var_u64(zigzag::code_of(v))
+        self.encode_var_u64(zigzag::to_zigzag(v))
     }
 }
 

@@ -79,7 +79,7 @@ impl ReadableSize {
 
     /// Returns the number and the unit with which the size is printed. The unit is the largest one that
     /// divides the size, and `KiB` for the size 0.
-    fn printed(self) -> (u64, &'static str)
+    fn count_and_unit(self) -> (u64, &'static str)
         ensures text { size_text self.0 ≡ decimal result.0 ++ result.1.now }
         ensures unit { length result.1.now ≤ 3 }
     {
@@ -174,7 +174,7 @@ impl fmt::Display for ReadableSize {
     ///
     /// The writer's error.
     fn fmt<W: fmt::Write>(&self, f: &mut fmt::Formatter<W>) -> fmt::Result {
-        let (count, unit) = self.printed();
+        let (count, unit) = self.count_and_unit();
         write!(f, "{count}{unit}")
     }
 }
@@ -191,7 +191,7 @@ impl Serialize for ReadableSize {
     ///
     /// Those of `out`.
     fn serialize<S: Serializer>(&self, out: &mut S) -> Result<(), S::Error> {
-        let (count, unit) = self.printed();
+        let (count, unit) = self.count_and_unit();
         let mut digits = Buffer::new();
         let text = InlineText::<TEXT_ROOM>::new()
             .and_str(digits.format(count), DIGITS)

@@ -91,9 +91,9 @@ impl<'a> SizeNumber<'a> {
         let places = self.fraction.len() as u128;
         let value = significand * u128::from(factor);
         if self.is_exponent_negative {
-            scaled(value, 0, exponent + places)
+            scale_by_powers(value, 0, exponent + places)
         } else {
-            scaled(value, exponent, places)
+            scale_by_powers(value, exponent, places)
         }
     }
 }
@@ -186,36 +186,36 @@ fn value_up_to(limit: u128, start: u128, digits: &[u8]) -> u128
 }
 
 /// Returns `value` times 10^`up` divided by 10^`down`, rounded down, or 2^64 - 1 if that is larger.
-fn scaled(value: u128, up: u128, down: u128) -> u64
+fn scale_by_powers(value: u128, up: u128, down: u128) -> u64
     requires { value < 2 ^ 120 }
     ensures { result ≡ scaled_size value up down }
 {
     if up < down {
-        lowered(value, down - up)
+        divide_by_power(value, down - up)
     } else {
-        raised(value, up - down)
+        multiply_by_power(value, up - down)
     }
 }
 
 /// Returns `value` divided by 10^`power`, rounded down, or 2^64 - 1 if that is larger.
-fn lowered(value: u128, power: u128) -> u64
+fn divide_by_power(value: u128, power: u128) -> u64
     requires { value < 2 ^ 120 }
     ensures { result ≡ scaled_size value 0 power }
 {
     if power < 37 {
-        held(value / 10u128.pow(power as u32))
+        saturate(value / 10u128.pow(power as u32))
     } else {
         0
     }
 }
 
 /// Returns `value` times 10^`power`, or 2^64 - 1 if that is larger.
-fn raised(value: u128, power: u128) -> u64
+fn multiply_by_power(value: u128, power: u128) -> u64
     ensures { result ≡ scaled_size value power 0 }
 {
-    let value = held(value);
+    let value = saturate(value);
     if power < 20 {
-        held(u128::from(value) * 10u128.pow(power as u32))
+        saturate(u128::from(value) * 10u128.pow(power as u32))
     } else if value == 0 {
         0
     } else {
@@ -224,7 +224,7 @@ fn raised(value: u128, power: u128) -> u64
 }
 
 /// Returns `number`, or 2^64 - 1 if it is larger.
-fn held(number: u128) -> u64
+fn saturate(number: u128) -> u64
     ensures { result ≡ min (2 ^ 64 - 1) number }
 {
     u64::try_from(number).unwrap_or(u64::MAX)

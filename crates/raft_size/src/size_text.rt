@@ -61,7 +61,7 @@ fn parse_ascii(text: &str) -> Result<u64, SizeError>
     ensures size { IfOk result (SpellsSize text.now) }
     ensures fault { IfErr result (IsSpellingFault text.now) }
 {
-    let (front, rest) = text.split_at(front_len(text.as_bytes()));
+    let (front, rest) = text.split_at(number_prefix_len(text.as_bytes()));
     let Some(factor) = unit_factor(rest.trim()) else {
         return Err(SizeError::Unit);
     };
@@ -76,7 +76,7 @@ fn parse_ascii(text: &str) -> Result<u64, SizeError>
 
 /// Returns the length of the longest prefix of `text` in which each byte may be of a number
 /// ([`is_number_byte`]).
-fn front_len(text: &[u8]) -> usize
+fn number_prefix_len(text: &[u8]) -> usize
     ensures { result ≡ number_len text.now }
 {
     for (len, c) in text.iter().enumerate() {

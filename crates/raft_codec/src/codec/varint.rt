@@ -110,7 +110,7 @@ fn parse_septets(bytes: &[u8]) -> Result<(u64, &[u8])>
         if i == MAX_VAR_U64_LEN - 1 && byte > 1 {
             return Err(Error::Io(io::Error::new(ErrorKind::InvalidData, "overflow")));
         }
-        number += at_place(byte % 0x80, i);
+        number += septet_value(byte % 0x80, i);
         if byte < 0x80 {
             return Ok((number, &bytes[i + 1..]));
         }
@@ -121,7 +121,7 @@ fn parse_septets(bytes: &[u8]) -> Result<(u64, &[u8])>
 /// Returns the value of the septet `bits` as the byte number `place` of a number in base 128, counted from 0:
 /// `bits` times 128^`place`.
 #[inline]
-fn at_place(bits: u8, place: usize) -> u64
+fn septet_value(bits: u8, place: usize) -> u64
     requires septet { bits < 128 }
     requires place { place < 10 }
     requires tenth { place ≡ 9 → bits ≤ 1 }
@@ -156,7 +156,7 @@ pub(crate) fn put_var_u64(bytes: &mut [u8; 10], number: u64) -> usize
 /// # Errors
 ///
 /// `Io` if the writer fails.
-pub(crate) fn takes_byte<W: Write>(writer: &mut W, byte: u8) -> Result<bool>
+pub(crate) fn write_byte<W: Write>(writer: &mut W, byte: u8) -> Result<bool>
     ensures written { IfOk result (λ written. MatchBool written
         (Appends (W.contents writer.old) (W.contents writer.new) (byte ∷ []))
         (Keeps (W.contents writer.old) (W.contents writer.new))) }
@@ -186,13 +186,13 @@ pub fn append_var_u64(buf: &mut Vec<u8>, number: u64) -> std::result::Result<(),
         return Ok(());
     }
     if number < 0x4000 {
-        return buf.extend_from_slice(&in_two_bytes(number));
+        return buf.extend_from_slice(&encode_in_two_bytes(number));
     }
     if number < 0x20_0000 {
-        return buf.extend_from_slice(&in_three_bytes(number));
+        return buf.extend_from_slice(&encode_in_three_bytes(number));
     }
     if number < 0x1000_0000 {
-        return buf.extend_from_slice(&in_four_bytes(number));
+        return buf.extend_from_slice(&encode_in_four_bytes(number));
     }
     let mut bytes = [0; MAX_VAR_U64_LEN];
     let len = put_var_u64(&mut bytes, number);
@@ -200,40 +200,44 @@ pub fn append_var_u64(buf: &mut Vec<u8>, number: u64) -> std::result::Result<(),
 }
 
 /// Returns `number`, which is from 2^7 to 2^14 - 1, in base 128.
-fn in_two_bytes(number: u64) -> [u8; 2]
+fn encode_in_two_bytes(number: u64) -> [u8; 2]
     requires least { 128 ≤ number }
     requires below { number < 16384 }
     ensures { result ≡ varint number }
 {
-    [septet(number), (number >> 7) as u8]
+    [continued_septet(number), (number >> 7) as u8]
 }
 
 /// Returns `number`, which is from 2^14 to 2^21 - 1, in base 128.
-fn in_three_bytes(number: u64) -> [u8; 3]
+fn encode_in_three_bytes(number: u64) -> [u8; 3]
     requires least { 16384 ≤ number }
     requires below { number < 2097152 }
     ensures { result ≡ varint number }
 {
-    [septet(number), septet(number >> 7), (number >> 14) as u8]
+    [
+        continued_septet(number),
+        continued_septet(number >> 7),
+        (number >> 14) as u8,
+    ]
 }
 
 /// Returns `number`, which is from 2^21 to 2^28 - 1, in base 128.
-fn in_four_bytes(number: u64) -> [u8; 4]
+fn encode_in_four_bytes(number: u64) -> [u8; 4]
     requires least { 2097152 ≤ number }
     requires below { number < 268435456 }
     ensures { result ≡ varint number }
 {
     [
-        septet(number),
-        septet(number >> 7),
-        septet(number >> 14),
+        continued_septet(number),
+        continued_septet(number >> 7),
+        continued_septet(number >> 14),
         (number >> 21) as u8,
     ]
 }
 
 /// Returns the byte with the lowest seven bits of `number` and the top bit set, which says that another byte
 /// follows.
-fn septet(number: u64) -> u8
+fn continued_septet(number: u64) -> u8
     ensures { result ≡ number % 128 + 128 }
 {
     (number % 0x80) as u8 + 0x80

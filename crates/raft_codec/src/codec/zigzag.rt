@@ -25,22 +25,22 @@ pub fn decode_var_i64(buf: &mut BytesSlice<'_>) -> Result<i64>
     ensures fault { IfErr result (IsVarintFault buf.old.now) }
 {
     let code = decode_var_u64(buf)?;
-    Ok(number_of(code))
+    Ok(from_zigzag(code))
 }
 
 /// Returns the zigzag code of `number`: `2n` if the number n is at least 0, and `-2n - 1` if it is negative.
 /// So 0, -1, 1, -2 have the codes 0, 1, 2, 3.
 #[inline]
-pub(crate) fn code_of(number: i64) -> u64
+pub(crate) fn to_zigzag(number: i64) -> u64
     ensures { result ≡ zigzag number }
 {
     let doubled = number.cast_unsigned() << 1;
     if number < 0 { !doubled } else { doubled }
 }
 
-/// Returns the number whose zigzag code ([`code_of`]) is `code`.
+/// Returns the number whose zigzag code ([`to_zigzag`]) is `code`.
 #[inline]
-fn number_of(code: u64) -> i64
+fn from_zigzag(code: u64) -> i64
     ensures { zigzag result ≡ code }
 {
     let half = (code >> 1) as i64;

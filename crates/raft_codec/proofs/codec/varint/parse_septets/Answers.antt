@@ -12,16 +12,16 @@ returns-then-byte-gt1-clause-fault c =
 
 pub overflow_add-number : goal.overflow_add-number
 overflow_add-number c =
-    omega (arith, c.at_place-number.ensures, sum_fits c.args.bytes.now c.loop-i.i c.loop-i.number (omega arith) c.loop-i.invariant.2 (λ nine. omega arith) c.loop-i.invariant.1)
+    omega (arith, c.septet_value-number.ensures, sum_fits c.args.bytes.now c.loop-i.i c.loop-i.number (omega arith) c.loop-i.invariant.2 (λ nine. omega arith) c.loop-i.invariant.1)
 
 pub returns-then-byte-lt128-clause-ok : goal.returns-then-byte-lt128-clause-ok
 returns-then-byte-lt128-clause-ok c =
-    rw (take_rest, c.at_place-number.ensures) (last_septet c.args.bytes.now c.loop-i.i c.loop-i.number (omega arith) c.loop-i.invariant.2 (λ nine. omega arith) c.loop-i.invariant.0 c.loop-i.invariant.1 c.if-byte-lt128.true)
+    rw (take_rest, c.septet_value-number.ensures) (last_septet c.args.bytes.now c.loop-i.i c.loop-i.number (omega arith) c.loop-i.invariant.2 (λ nine. omega arith) c.loop-i.invariant.0 c.loop-i.invariant.1 c.if-byte-lt128.true)
 
 pub loop-i-preserved : goal.loop-i-preserved
 loop-i-preserved c =
     let next = next_septet c.args.bytes.now c.loop-i.i c.loop-i.number (omega arith) c.loop-i.invariant.0 c.loop-i.invariant.1 c.if-byte-lt128.false (omega (arith, c.type_inv.bytes c.loop-i.i)) in
-    (next.0, rw c.at_place-number.ensures next.1, omega arith)
+    (next.0, rw c.septet_value-number.ensures next.1, omega arith)
 
 pub returns-clause-refused : goal.returns-clause-refused
 returns-clause-refused c =

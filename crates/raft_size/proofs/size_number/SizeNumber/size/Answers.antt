@@ -6,11 +6,11 @@ pub returns-then-self-2 : goal.returns-then-self-2
 returns-then-self-2 c =
     let n = number_shown c.args.self.now in
     let value : c.args.significand * c.from.result ≡ digits_value 10 (digits_of n) * c.args.factor = rw (c.from.ensures, c.requires.significand) refl in
-    c.scaled.ensures ∙ size_lowered n c.args.factor (c.args.significand * c.from.result) c.value_up_to-exponent.result c.if-self.false c.if-self-2.true value
+    c.scale_by_powers.ensures ∙ size_lowered n c.args.factor (c.args.significand * c.from.result) c.value_up_to-exponent.result c.if-self.false c.if-self-2.true value
     (rw c.from.ensures (product_small c.args.significand c.args.factor c.requires.few c.requires.factor)) c.value_up_to-exponent.ensures
 
 pub returns-else-self-2 : goal.returns-else-self-2
 returns-else-self-2 c =
     let n = number_shown c.args.self.now in
     let value : c.args.significand * c.from.result ≡ digits_value 10 (digits_of n) * c.args.factor = rw (c.from.ensures, c.requires.significand) refl in
-    c.scaled-else-self-2.ensures ∙ size_raised n c.args.factor (c.args.significand * c.from.result) c.value_up_to-exponent.result c.if-self.false c.if-self-2.false value c.value_up_to-exponent.ensures (omega arith)
+    c.scale_by_powers-else-self-2.ensures ∙ size_raised n c.args.factor (c.args.significand * c.from.result) c.value_up_to-exponent.result c.if-self.false c.if-self-2.false value c.value_up_to-exponent.ensures (omega arith)

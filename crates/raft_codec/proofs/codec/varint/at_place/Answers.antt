@@ -1,5 +1,0 @@
-use Rattle.raft_codec.proofs.VarintLemmas.{shift-septet}
-use Rattle.raft_codec.proofs.codec.varint.at_place.Goals as goal
-
-pub returns : goal.returns
-returns c = rw c.from.ensures (shift-septet c.args.bits c.args.place c.requires.septet c.requires.place c.requires.tenth)

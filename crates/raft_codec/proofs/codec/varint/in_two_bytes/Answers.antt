@@ -1,7 +1,0 @@
-use Rattle.std.proofs.Common.{sym, arith}
-use Rattle.raft_codec.proofs.VarintLemmas.{two_septets}
-use Rattle.raft_codec.proofs.codec.varint.in_two_bytes.Goals as goal
-
-pub returns : goal.returns
-returns c =
-    rw (c.septet.ensures) (sym (two_septets c.args.number (c.requires.least) (omega (arith, c.requires.below))))

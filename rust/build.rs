@@ -5,8 +5,8 @@
 //! - `RAFT_FFI_ARCHIVE`: an archive of the library.
 //! - `RATTLE_HEAP_ARCHIVE`: the toolchain's `liblibc_c.a`. It isn't read with the feature `global-allocator`.
 //!
-//! Where an archive isn't there, a warning says how to get it. What links nothing (`cargo check`, `clippy`, `doc`) goes on,
-//! on other machines than those of the library too.
+//! Where one isn't there that a variable names, that is an error. Where another one isn't there, a warning says how to get it.
+//! What links nothing (`cargo check`, `clippy`, `doc`) goes on then, on other machines than those of the library too.
 
 use std::env;
 use std::path::{Path, PathBuf};

@@ -200,8 +200,8 @@ impl Engine {
     }
 
     /// Opens the engine in a folder for reading only: each change is refused ([`Engine::with_files_read_only`] says which).
-    /// Nothing in the folder is made, changed or synced, so one without the right to write there is enough. Several may read a
-    /// folder at a time, as long as no engine has it open that writes.
+    /// Nothing in the folder is made, changed or synced, so the right to read is enough. Several may read a folder at a time, as
+    /// long as no engine has it open that writes.
     ///
     /// ```
     /// use raft_recover::{Engine, ErrorKind, LogBatch, Options};

@@ -1,4 +1,5 @@
-//! Tests what the build script prints where something is missing: one line, and `cargo check` goes on.
+//! Tests what the build script prints where something is missing: one warning, or two where two archives are missing, with which
+//! `cargo check` goes on; and an error where the archive is missing that the variable names.
 
 mod common;
 

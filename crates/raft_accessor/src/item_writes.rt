@@ -78,10 +78,11 @@ impl RegionTables {
     ///
     /// # Errors
     ///
-    /// `Corruption` if the entries aren't a run of the append queue or [`MemTable::append`] refuses where
-    /// they start, and if a put has no value, no file or a file of the rewrite queue; `Full` if more than
-    /// 2^64 - 1 records would be live in the queue; `Memory`. Tables, counts and `cleaned` are unchanged
-    /// then.
+    /// `Corruption` if the indexes of the entries don't rise by one, or an entry has no place in the append
+    /// queue ([`is_run`]), or [`MemTable::append`] refuses where they start; and if a put has no value, no
+    /// file or a file of the rewrite queue, but under the reserved key of group markers it needs neither.
+    /// `Full` if more than 2^64 - 1 records would be live in the queue; `Memory`. Tables, counts and
+    /// `cleaned` are unchanged then.
     pub fn append_item(
         &mut self,
         item: LogItem,
@@ -110,17 +111,20 @@ impl RegionTables {
         }
     }
 
-    /// Writes an item that was read from `queue` to the table of its region, by its step; a group marker
-    /// changes nothing. In the append queue a `Clean` also appends the region to `cleaned`. `stats` are the
-    /// live counts, which follow the change. Recovery takes the same steps beside the region marks, by
+    /// Writes an item that was read from `queue` to the table of its region: makes the one change that it
+    /// stands for, its [`RegionStep`]. Anything under the reserved key of group markers changes nothing. In
+    /// the append queue a `Clean` also appends the region to `cleaned`. `stats` are the live counts, which
+    /// follow the change. Recovery makes the same changes beside the region marks, by
     /// `MarkedTables::take_step` of `raft_contexts`.
     ///
     /// # Errors
     ///
-    /// `Corruption` if the entries aren't a run of `queue` or would leave a hole in the append queue, and if
-    /// a put has no value, no file or a file of the other queue; `InvalidArgument` for entries if the table
-    /// has records of the other queue; `Full` if more than 2^64 - 1 records would be live in the queue;
-    /// `Memory`. Tables, counts and `cleaned` are unchanged then.
+    /// `Corruption` if the indexes of the entries don't rise by one, or an entry has no place in `queue`
+    /// ([`is_run`]), or they would leave a hole in the append queue; and if a put has no value, no file or a
+    /// file of the other queue, but under the reserved key of group markers it needs neither.
+    /// `InvalidArgument` for entries if the table has records of the other queue; `Full` if more than
+    /// 2^64 - 1 records would be live in the queue; `Memory`. Tables, counts and `cleaned` are unchanged
+    /// then.
     pub fn replay_item(
         &mut self,
         queue: LogQueue,
@@ -147,10 +151,11 @@ impl RegionTables {
     ///
     /// # Errors
     ///
-    /// `Corruption` for a `Compact`, a `Truncate`, a deletion and a put without a value, if the entries
-    /// aren't a run of the rewrite queue, and where [`MemTable::rewrite`] or [`MemTable::rewrite_key`]
-    /// returns it; `Full` if more than 2^64 - 1 records would be live in the rewrite queue; `Memory`. Tables
-    /// and counts are unchanged then.
+    /// `Corruption` for a `Compact` and a `Truncate`; for a deletion and a put without a value, unless they
+    /// are under the reserved key of group markers; if the indexes of the entries don't rise by one, or an
+    /// entry has no place in the rewrite queue ([`is_run`]); and where [`MemTable::rewrite`] or
+    /// [`MemTable::rewrite_key`] returns it. `Full` if more than 2^64 - 1 records would be live in the
+    /// rewrite queue; `Memory`. Tables and counts are unchanged then.
     pub fn rewrite_item(
         &mut self,
         item: LogItem,
@@ -187,8 +192,8 @@ impl RegionTables {
     ///
     /// # Errors
     ///
-    /// `Corruption` if they aren't a run of the append queue; those of [`MemTable::append`]. Tables and
-    /// counts are unchanged then.
+    /// `Corruption` if their indexes don't rise by one, or an entry has no place in the append queue
+    /// ([`is_run`]); those of [`MemTable::append`]. Tables and counts are unchanged then.
     fn append_entries(
         &mut self,
         id: u64,
@@ -214,8 +219,8 @@ impl RegionTables {
     ///
     /// # Errors
     ///
-    /// `Corruption` if `run` isn't a run of the rewrite queue; those of [`MemTable::rewrite`]. Tables and
-    /// counts are unchanged then.
+    /// `Corruption` if the indexes of `run` don't rise by one, or one of its entries has no place in the
+    /// rewrite queue ([`is_run`]); those of [`MemTable::rewrite`]. Tables and counts are unchanged then.
     fn rewrite_entries(
         &mut self,
         id: u64,
@@ -259,9 +264,9 @@ impl RegionTables {
     ///
     /// # Errors
     ///
-    /// `Corruption` if its entries aren't a run of the queue, or a put, other than one under the reserved key
-    /// of group markers, has no value, no file or a file of the other queue; `Memory` if there is none for
-    /// the text.
+    /// `Corruption` if the indexes of its entries don't rise by one, or an entry has no place in the queue
+    /// ([`is_run`]), or a put, other than one under the reserved key of group markers, has no value, no file
+    /// or a file of the other queue; `Memory` if there is none for the text.
     fn check_replayed_item(&self, queue: LogQueue, item: &LogItem) -> Result<()>
         ensures ok { OnOk result (IsReplayed queue (content_of item.now.content)) }
         ensures fault { (id : ℕ) (o : Option Table) (live : ℕ) → IfErr result
@@ -308,13 +313,13 @@ impl RegionTables {
     }
 
     /// Moves the value of a key of the region `id` to the file numbered `seq` of the rewrite queue. One in an
-    /// append file moves only with a `gate` at or above that file, a rewritten one always. A group marker
-    /// changes nothing.
+    /// append file moves only with a `gate` at or above that file, a rewritten one always. Anything under the
+    /// reserved key of group markers changes nothing.
     ///
     /// # Errors
     ///
-    /// `Corruption` for a deletion and a put without a value; those of [`MemTable::rewrite_key`]. Tables and
-    /// counts are unchanged then.
+    /// `Corruption` for a deletion and a put without a value under another key; those of
+    /// [`MemTable::rewrite_key`]. Tables and counts are unchanged then.
     fn rewrite_pair(
         &mut self,
         id: u64,

@@ -16,9 +16,9 @@ use std::alloc::Global;
 ///
 /// # Errors
 ///
-/// `Corruption` if entries aren't consecutive, a place or the file of a put is missing or another file's, a
-/// put lacks its value, or in the rewrite queue the status of a group marker is unknown; `Memory` if there is
-/// none for the text.
+/// `Corruption` if entries aren't consecutive or don't have their places in `file`; if a put has no value, no
+/// file or another file, but under the reserved key of group markers it needs neither; or if in the rewrite
+/// queue the status of a group marker is unknown. `Memory` if there is none for the text.
 pub(crate) fn check_batch(
     alloc: Global,
     batch: &LogItemBatch,

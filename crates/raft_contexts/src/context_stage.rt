@@ -12,7 +12,7 @@ pub enum ContextStage {
     /// The context of the append queue was put over it: its tables are those of both queues. It accepts only
     /// `kept` and `finish`.
     Overlaid,
-    /// A call was refused. It accepts no calls any more.
+    /// A call has failed while it was reading. It accepts no calls any more.
     Failed,
 }
 

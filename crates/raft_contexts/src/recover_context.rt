@@ -57,8 +57,9 @@ impl MemTableRecoverContext {
         })
     }
 
-    /// Tests whether the context may read on: no call was refused, and
-    /// [`MemTableRecoverContext::merge_append_context`] wasn't called.
+    /// Tests whether the context reads on: no `replay`, `replay_read`, `merge` or
+    /// [`MemTableRecoverContext::merge_append_context`] of it has failed, and no `merge_append_context` has
+    /// succeeded.
     pub fn reads_on(&self) -> bool
         ensures { IsTrue result ↔ (self.now.stage ≡ Reading) }
     {
@@ -73,10 +74,10 @@ impl MemTableRecoverContext {
     ///
     /// `Failed` if the context doesn't read on, and nothing changes then. After any other error the context
     /// has failed, and reads on no more:
-    /// - `Corruption` if a place isn't in the file, a put that isn't a group marker lacks its value or has
-    ///   another file, entries aren't consecutive, the file is of another queue than those before or numbered
-    ///   below the last of them, the status of a group marker is unknown, or entries leave a hole in the
-    ///   append queue;
+    /// - `Corruption` if a place isn't in the file, a put has no value, no file or another file (but under
+    ///   the reserved key of group markers it needs neither), entries aren't consecutive, the file is of
+    ///   another queue than those before or numbered below the last of them, in the rewrite queue the status
+    ///   of a group marker is unknown, or entries leave a hole in the append queue;
     /// - `Full` if the live records, and those that the batch, or the group that it makes whole, names are
     ///   more than 2^64 - 1;
     /// - `Memory`.
@@ -219,7 +220,7 @@ impl MemTableRecoverContext {
     ///
     /// # Errors
     ///
-    /// `Failed` if a call was refused before.
+    /// `Failed` if the context has failed.
     pub fn kept(&self) -> Result<Kept>
         ensures ok { IfOk result (λ kept. kept_shown kept ≡ kept_of self.now.context) }
         ensures little { (queue : LogQueue) (h : List Event) (tables : Tables) (cleaned : List ℕ)
@@ -245,7 +246,7 @@ impl MemTableRecoverContext {
     ///
     /// # Errors
     ///
-    /// `Failed` if a call was refused before. The tables are dropped then.
+    /// `Failed` if the context has failed. The tables are dropped then.
     pub fn finish(self) -> Result<MemTableAccessor>
         ensures tables { IfOk result (λ accessor. accessor.tables ≡ self.context.regions.tables) }
         ensures cleaned { IfOk result (λ accessor. accessor.cleaned ≡ self.context.cleaned) }

@@ -43,8 +43,9 @@ pub fn synced_batches_are_left_first()
 {}
 
 /// States that what a disk that writes in any order leaves of a queue's files holds batches that a crash may
-/// leave of what was done to the queue, if it can be read and has nothing that was never written. This is a
-/// law: it computes nothing.
+/// leave of what was done to the queue, if what is read of these files, behind the batches of the deleted
+/// ones, is a prefix of what all files of the queue would hold with nothing lost (a batch that was cut off
+/// and is read again breaks that). This is a law: it computes nothing.
 pub fn unforged_files_hold_what_may_be_left()
     ensures { (queue : LogQueue) (version : Version) (asked : List Ask) (deeds : List Deed) (files : List NumberedBytes)
         (read : List Event) → AreDone queue version (acts_on queue asked) deeds
@@ -52,8 +53,10 @@ pub fn unforged_files_hold_what_may_be_left()
         → HoldLeft queue version deeds files }
 {}
 
-/// States that what a disk that writes in order leaves has nothing that was never written. This is a law: it
-/// computes nothing.
+/// States that what a disk that writes in order may leave of a queue's files, one that writes in any order
+/// may leave too, and that what is read of them, behind the batches of the deleted ones, is a prefix of what
+/// all files of the queue would hold with nothing lost. The queue's last file must never be deleted. This is
+/// a law: it computes nothing.
 pub fn prefixes_are_unforged()
     ensures { PrefixesAreUnforged }
 {}

@@ -262,8 +262,8 @@ pub fn write_each<F: EngineFiles>(
     Ok(())
 }
 
-/// Moves all records out of the append files, and then to a new rewrite file; purges both queues. Returns how many rewrite
-/// files were deleted.
+/// Moves all records of the append files to the rewrite queue, and then all of the rewrite files to a new one; purges each
+/// queue after its move. Returns how many rewrite files were deleted.
 ///
 /// # Errors
 ///

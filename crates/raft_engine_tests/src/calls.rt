@@ -274,7 +274,9 @@ pub fn get_entry<F: EngineFiles>(
     engine.get_entry(region, index)
 }
 
-/// Appends the entries of `region` in `range` to `entries`, up to `max_size` bytes. Returns how many these are.
+/// Fetches the entries of `region` from index `range.0` on and below `range.1`: appends the bytes of each to `entries`, and returns
+/// the count of these entries. It stops before the first one with which they have more than `max_size` bytes together; but a first
+/// entry larger than that is still fetched.
 ///
 /// # Errors
 ///

@@ -148,7 +148,7 @@ fn open_rewrite_files<R: Threads + Sync>(
     )
 }
 
-/// Moves all to a new rewrite file, and purges the older ones. Returns whether one rewrite file is left.
+/// Moves all records of the rewrite files to a new one, and purges the older ones. Returns whether one rewrite file is left.
 ///
 /// # Errors
 ///
@@ -246,8 +246,8 @@ static PREFIX_ROWS: [(&[Part], &str); 6] = [
     (&[Begin(8), Clean], "[2,5)k=w"),
 ];
 
-/// Tests whether an engine that is opened over a rewrite file of these bytes holds `left`, and goes on. The bytes may end in
-/// the midst of a batch.
+/// Tests whether an engine that is opened over a rewrite file of these bytes holds `left`, can move its records to a new file
+/// and delete the old one, and a restart finds `left` then. The bytes may end in the midst of a batch.
 ///
 /// # Errors
 ///

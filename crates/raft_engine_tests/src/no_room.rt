@@ -166,7 +166,7 @@ fn is_written_at_second_try(
     Ok(batch.is_empty() && batch.is_open())
 }
 
-/// Moves all records to the rewrite queue, once more if there was no room.
+/// Begins an append file, and moves all records of the append files to the rewrite queue, once more if there was no room.
 ///
 /// # Errors
 ///
@@ -180,7 +180,8 @@ fn move_all_at_second_try(engine: &mut Engine<FullOnce>) -> Result<()> {
     Ok(())
 }
 
-/// Purges the append queue, once more if there was no room for what has to be told. Returns whether one file is left.
+/// Begins an append file, and purges the append queue, once more if there was no room for what has to be told. Returns
+/// whether one append file is left.
 ///
 /// # Errors
 ///
@@ -194,8 +195,8 @@ fn purge_append_files_at_second_try(engine: &mut Engine<FullOnce>) -> Result<boo
     Ok(engine.files().files.files(LogQueue::Append).len() == 1)
 }
 
-/// Moves all records to a new rewrite file, once more if there was no room, and purges the others. Returns whether one
-/// file is left.
+/// Moves all records of the rewrite files to a new rewrite file, once more if there was no room, and purges the rewrite
+/// queue. Returns whether one rewrite file is left.
 ///
 /// # Errors
 ///
@@ -209,12 +210,13 @@ fn rewrite_again_at_second_try(engine: &mut Engine<FullOnce>) -> Result<bool> {
     Ok(engine.files().files.files(LogQueue::Rewrite).len() == 1)
 }
 
-/// Writes entries and a key, moves them, deletes the key, purges, and moves the entries again. Returns whether each
-/// call succeeded, at the second time at most, and left the files that it should.
+/// Writes entries and a key, moves them, writes further entries and deletes the key, moves these entries too, purges the
+/// append queue, moves the records of the rewrite files again, and purges the rewrite queue. Returns whether a write
+/// without room left the items in its batch, each took them in the end, and one file of each queue is left.
 ///
 /// # Errors
 ///
-/// Those of [`has_found_no_room`], and of calls that are made once more; `Memory`.
+/// Those of [`has_found_no_room`], of calls that are made once more, of beginning a file, and of the last purge; `Memory`.
 fn does_life_succeed(alloc: Global, engine: &mut Engine<FullOnce>) -> Result<bool> {
     if !is_written_at_second_try(alloc, engine, &[Entries(1, 3), Put("v")])? {
         return Ok(false);

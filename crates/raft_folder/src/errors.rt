@@ -55,11 +55,19 @@ impl<T: Drop> From<AllocFailed<T>> for FolderError {
     }
 }
 
-/// Makes an error of an engine's call of one of a folder.
+/// Turns an error of a folder's call into one of an engine's call.
 impl From<FolderError> for Error {
-    /// Returns `Io` with the path and the words of the system's error, and its kind, for `System` (the system's error itself if there
-    /// is no memory for them); `TryAgain` with path and reason for `Locked`; `InvalidArgument` with path and reason for `Misnamed`,
-    /// `Foreign` and `Refused`; and `Memory` for `Memory`, or if there is none for one of the other texts.
+    /// Returns
+    ///
+    /// - for `System`: `Io` with the kind of the system's error, and the path and that error's words as the text; or with the error of
+    ///   the system itself, if there is no memory for this text;
+    /// - for `Locked`: `TryAgain` with the path and the reason;
+    /// - for `Misnamed`: `InvalidArgument` with the path and the reason;
+    /// - for `Foreign`: `InvalidArgument` with the path and the reason;
+    /// - for `Refused`: `InvalidArgument` with the path and the reason;
+    /// - for `Memory`: `Memory`.
+    ///
+    /// It is `Memory` also for the four in between, if there is none for the text.
     fn from(error: FolderError) -> Error {
         match error {
             FolderError::System(path, error) => Error::Io(error_with_path(path, error)),

@@ -135,11 +135,12 @@ pub fn remove_front(bytes: &mut Vec<u8>, count: usize)
 }
 
 /// Returns how many more bytes of a file to read before the first batch of `bytes`, which isn't whole yet, is
-/// tried again. The file has `left` bytes after `bytes`. It is what the batch lacks by its header, but at
-/// least a piece ([`PIECE`]), and never more than `left`.
+/// tried again. The file has `left` bytes after `bytes`. It is a piece ([`PIECE`]), or what the batch lacks
+/// by its header, if that is more; a piece too if `bytes` are fewer than a header has. It is never more than
+/// `left`.
 ///
-/// 0 means that more bytes don't help: no header stands at the start of `bytes`, or the file ends before the
-/// batch does.
+/// 0 means that more bytes don't help: there are none, or the file ends before the batch does, or no header
+/// stands at the start of `bytes`, though they are enough for one.
 fn bytes_wanted(alloc: Global, bytes: &[u8], left: u64) -> usize
     requires { NoneIsWhole bytes.now }
     ensures some { result ≤ left }

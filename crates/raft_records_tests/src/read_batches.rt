@@ -89,13 +89,15 @@ fn is_second_batch(batch: &ReadBatch<'_>) -> bool {
         && is_put
 }
 
-/// Tests that batches are read in any order into the memory of the one before.
+/// Tests that a batch that is read in place of another one has its own items, and no others.
 #[test]
 fn batches_are_read_in_place_of_one_another(rt: HostRuntime) {
     assert!(rt; again!(check_batches_read_in_turn(&rt, rt.alloc())).is_ok());
 }
 
-/// Tests that each batch is read into the memory of the one before it, in any order.
+/// Reads the second batch of [`BATCHES`], the first, the second once more, and then the end of the part, each in place
+/// of the one before. Asserts after each where the next batch begins, how many items there are, that they are those
+/// that [`next_batch`] returns, and whether it is the second batch.
 ///
 /// # Errors
 ///

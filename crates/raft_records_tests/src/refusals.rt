@@ -265,7 +265,7 @@ static ROWS: [Row; 50] = [
     ),
 ];
 
-/// Returns the rows of bytes.
+/// Returns rows of a form, bytes, and the entry bytes or the error's text that reading the bytes in this form gives.
 fn refusal_rows() -> &'static [Row] {
     &ROWS
 }

@@ -47,12 +47,14 @@ static ENTRIES: [Change; 5] = [
     Change::Entries(1, 18_446_744_073_709_551_613, (128, 16_384)),
 ];
 
-/// Adds a line with the bytes of an item batch without items, and one with those after all of `CHANGES` were
-/// made, in hexadecimal digits.
+/// Adds to `found` a line with the bytes of an item batch without items, and one with those after all of
+/// `CHANGES` were made, in hexadecimal digits. If a call of the batch returns `Memory`, notes in `found`
+/// whether it left what it must leave, and makes it once more.
 ///
 /// # Errors
 ///
-/// That of the first call that fails.
+/// That of the first call that fails; `Memory` only if a call returns it twice, or there is none for
+/// something else.
 pub(crate) fn encode_both_batches(found: &mut Found) -> Result<()> {
     let mut batch = LogItemBatch::default(found.alloc);
     encode_and_retry(found, &mut batch)?;
@@ -62,12 +64,14 @@ pub(crate) fn encode_both_batches(found: &mut Found) -> Result<()> {
     encode_and_retry(found, &mut batch)
 }
 
-/// Adds a line with the bytes of an item batch with five items of entries, in hexadecimal digits. For the
-/// first and the fifth of them the batch needs more memory for its list of items.
+/// Adds to `found` a line with the bytes of an item batch with five items of entries, in hexadecimal digits.
+/// For the first and the fifth of them the batch needs more memory for its list of items. If a call of the
+/// batch returns `Memory`, notes in `found` whether it left what it must leave, and makes it once more.
 ///
 /// # Errors
 ///
-/// That of the first call that fails.
+/// That of the first call that fails; `Memory` only if a call returns it twice, or there is none for
+/// something else.
 pub(crate) fn encode_five_entry_items(found: &mut Found) -> Result<()> {
     let mut batch = LogItemBatch::default(found.alloc);
     for change in &ENTRIES {

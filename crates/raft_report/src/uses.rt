@@ -105,7 +105,12 @@ pub fn append_uses(
     Ok(())
 }
 
-/// Appends the line of one file. `file_use` is `None` if no table needs the file.
+/// Appends the line of one file of `queue`, with a line break: its name, its length, a bar that shows how much of it is live entries, and
+/// the regions whose oldest file it is. `file_use` is what the tables need of the file, `None` if they need nothing of it.
+///
+/// # Errors
+///
+/// Fails only if there is no memory. A part of the line may then be appended.
 fn append_use_line(
     queue: LogQueue,
     size: &FileSize,

@@ -30,7 +30,8 @@ pub enum SizeError {
     Kind,
 }
 
-/// Returns the size in bytes that `text` stands for. White space around it is ignored.
+/// Returns the size in bytes that `text` stands for, rounded down; 0 if it is negative, and 2^64 - 1 if it is
+/// larger. White space around it is ignored.
 ///
 /// # Errors
 ///
@@ -49,8 +50,8 @@ pub(super) fn parse_size(text: &str) -> Result<u64, SizeError>
     }
 }
 
-/// Returns the size in bytes that `text` stands for. It is ASCII, isn't empty, and has no white space around
-/// it.
+/// Returns the size in bytes that `text` stands for: its number times its unit, rounded down; 0 if that is
+/// negative, and 2^64 - 1 if it is larger. `text` is ASCII, isn't empty, and has no white space around it.
 ///
 /// # Errors
 ///

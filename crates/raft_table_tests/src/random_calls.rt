@@ -128,11 +128,12 @@ fn make_change(alloc: Global, store: &mut LogStore, change: Change) -> Result<()
     }
 }
 
-/// Merges the table of a run into the store's, under a region mark that has these bounds and the start of the run.
+/// Merges the table of a run of `queue` into the store's, as a newer one. Its region mark is that of these steps: a
+/// compaction to the floor of `bounds`, a truncation at their cut, and the run.
 ///
 /// # Errors
 ///
-/// Those of the table's calls; `Memory`.
+/// Those of [`table_of_run`] and [`LogStore::join_under`]; `Memory`.
 fn merge_under_mark(
     alloc: Global,
     store: &mut LogStore,

@@ -106,9 +106,9 @@ impl FolderFiles {
         })
     }
 
-    /// Opens a folder with all log files in it for reading only. Every change is refused. Nothing is made or synced, so one
-    /// without the right to write there is enough. The folder, and the file `LOCK`, if it is there, get a shared lock: others may
-    /// read at the same time, but no engine can change, move or delete what is read.
+    /// Opens a folder with all log files in it for reading only. Every change is refused. Nothing is made or synced, so the
+    /// right to read is enough. The folder, and the file `LOCK`, if it is there, get a shared lock: others may read at the same
+    /// time, but no engine can change, move or delete what is read.
     ///
     /// ```
     /// # use raft_recover::{FileId, Files, FolderFiles, Queue};
@@ -185,12 +185,13 @@ impl FolderFiles {
         file.ok_or_else(|| io::Error::new(io::ErrorKind::NotFound, "the file isn't there"))
     }
 
-    /// Syncs the files of a queue that are in `unsynced`, and takes each out of there. Their names were synced when they were
-    /// made.
+    /// Syncs the files of a queue that are in `unsynced`, and removes each from the set once it is synced. Their names were
+    /// synced when they were made.
     ///
     /// # Errors
     ///
-    /// Those of the system. The files that are still in `unsynced` may not be synced.
+    /// `NotFound` where one of them isn't in the folder or was deleted; those of the system. The files that are still in
+    /// `unsynced` may not be synced.
     fn sync_unsynced(&self, queue: Queue, unsynced: &mut BTreeSet<FileId>) -> io::Result<()> {
         while let Some(file) = unsynced.range(ids_of_queue(queue)).next().copied() {
             self.get_open_file(file)?.sync_data()?;

@@ -11,7 +11,8 @@ use raft_recover::{
 /// The first append file.
 const FIRST: FileId = FileId::new(Queue::Append, 1);
 
-/// Returns a copy of files, as files that are found, after `change` has changed its two queues, the append queue first.
+/// Returns a copy of `files`, as files that are found, which `change` has changed: it gets the numbers and the bytes of the append
+/// files, and then those of the rewrite files. `files` itself isn't changed.
 fn found_with_change(
     files: &MemoryFiles,
     change: impl FnOnce(&mut [Vec<(u64, Vec<u8>)>; 2]),

@@ -30,8 +30,11 @@ fn moved_engine(regions: u64, entries: usize, len: usize) -> Engine<MemoryFiles>
 }
 
 /// Has a purge move records once more, and returns the files that a crash leaves once all of these records are written and before
-/// they are synced. In the last rewrite file the pages of one block are zeros: those of the first block of a batch, if
-/// `is_first`, else those of its last one. All other bytes are there.
+/// they are synced. In the last rewrite file the entry bytes of one block are zeros: of the first block in the file, if
+/// `is_first`, else of its last one. All other bytes of the rewrite queue are there; of the append queue what was synced.
+///
+/// Panics unless the records that moved last are all that stands in the last rewrite file, and were synced before a file was
+/// deleted.
 fn files_after_crash_in_purge(engine: &Engine<MemoryFiles>, is_first: bool) -> MemoryFiles {
     let files = engine.files();
     engine.purge().unwrap();

@@ -1,4 +1,5 @@
-//! Tests that the block which was read last is kept, so that its other entries cost no read.
+//! Tests that the last block of each reading is kept, up to sixteen blocks and 8 MiB in all, so that their other entries cost
+//! no read.
 
 use crate::common::engines::{new_engine, write_batch};
 use crate::common::hooked::{Call, HookedFiles};

@@ -72,9 +72,11 @@ impl DiskNotes {
         }
     }
 
-    /// Appends `bytes`, those of a batch, to the last file of a queue, which is `id`, and tries crashes in
-    /// them and after them. If it is an append file, `new` is the text of what the store has with the batch.
-    /// A batch of another file counts as a difference.
+    /// Appends `bytes`, those of a batch, to the last file of a queue, which is `id`. If `crashes.each_byte`,
+    /// tries a crash before each of these bytes. After that, in any case, it tries one drawn crash, which
+    /// leaves a part of what isn't synced in each queue. If `id` is an append file, `new` is the text of what
+    /// the store has with the batch. If `id` isn't the last file of its queue, this counts as a difference,
+    /// and nothing is appended or tried.
     ///
     /// # Errors
     ///

@@ -200,11 +200,13 @@ impl<'a, R: Host + Print> History<'a, R> {
         )
     }
 
-    /// Writes a batch of one to three drawn changes. In one of four cases it is synced.
+    /// Writes a batch of one to three drawn changes, in one of four cases with a sync. The same changes are
+    /// made of the records that the store must have, before the batch is written.
     ///
     /// # Errors
     ///
-    /// Those of [`Store::write`]; `Memory`.
+    /// Those of the batch's calls; those of [`Store::write`]; `Memory`. The records may have been changed
+    /// then.
     fn write(&mut self) -> Result<()> {
         let mut batch = LogBatch::default(self.rt.alloc());
         for _ in 0..self.dice.draw_below(3) + 1 {
@@ -214,11 +216,13 @@ impl<'a, R: Host + Print> History<'a, R> {
         self.store.write(batch, sync)
     }
 
-    /// Writes a batch that replaces entries of both regions, and compacts each region to its end.
+    /// Writes a batch that replaces entries of each region that is in `kept`, and compacts it to its end. The
+    /// same changes are made of the records in `kept`.
     ///
     /// # Errors
     ///
-    /// Those of [`Store::write`]; `Memory`.
+    /// Those of the batch's calls; `Failed` if the batch isn't open any more; those of [`Store::write`];
+    /// `Memory`. The records may have been changed then.
     fn write_replacements(&mut self) -> Result<()> {
         let alloc = self.rt.alloc();
         let mut batch = LogBatch::default(alloc);
@@ -239,7 +243,7 @@ impl<'a, R: Host + Print> History<'a, R> {
     ///
     /// # Errors
     ///
-    /// `Memory`; those of the batch's call. The change may have been made in one of the two then.
+    /// `Memory`; those of the batch's call. The change may then be made in only one of the two, or in part.
     fn add_change(&mut self, batch: &mut LogBatch) -> Result<()>
         requires { batch.old.stage ≡ is_open }
         ensures { OnOk result (batch.new.stage ≡ is_open) }
@@ -253,8 +257,8 @@ impl<'a, R: Host + Print> History<'a, R> {
     }
 }
 
-/// Opens the store of a history, which from then on notes what it does to its files. A file gets at least
-/// `file_size` bytes before the next one is begun.
+/// Opens the store in [`FOLDER`], whose tables four workers recover. From then on it notes what it does to
+/// its files. A file gets at least `file_size` bytes before the next one is begun.
 ///
 /// # Errors
 ///

@@ -141,7 +141,7 @@ fn batches_cut_short(alloc: Global, number: usize) -> Result<Vec<(FileSeq, &'sta
     Ok(batches)
 }
 
-/// Returns the text for each appended batch that is cut short.
+/// Returns for each batch of [`APPENDED`], in order, the text of the error that reading gives if its last byte is gone.
 fn texts_for_cut_batches() -> &'static [&'static str] {
     &CUT_SHORT
 }
